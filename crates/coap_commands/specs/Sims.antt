@@ -6,7 +6,7 @@ use Rattle.coap_block.specs.Sizes.{usual_sizes}
 use Rattle.coap_resource.specs.Limits.{usual_limits}
 use Rattle.coap_resource.specs.declared.tally.TheConstants.{MAX_CHANGES_PER_WINDOW as max_changes}
 use Rattle.coap_server.specs.Plain.{plains_with}
-use Rattle.coap_world.specs.Events.{Config, Event}
+use Rattle.coap_world.specs.Events.{usual_addresses, Config, Event}
 use Rattle.coap_world.specs.Run.Log.{Log}
 use Rattle.coap_world.specs.Run.Runs.{IsFirstWrong, IsRunOf}
 use Rattle.coap_commands.specs.declared.status.Status.{Status}
@@ -23,6 +23,7 @@ each_once paths = fold (λ ps path. plains_with path true ps) [] paths
 -- both ends have the largest blocks and the usual limits, no path has a delay, and these are plain
 abbrev pub sim_config : ℕ → List (List (List ℕ)) → Config
 sim_config remembered paths = record {
+  addresses = usual_addresses;
   client_setup = sim_setup remembered;
   client_sizes = usual_sizes max_szx;
   server_setup = sim_setup remembered;

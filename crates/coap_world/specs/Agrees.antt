@@ -8,7 +8,7 @@ use Rattle.coap_server.specs.Follows.Serves.{ServedOnce}
 use Rattle.coap_server.specs.Follows.Waits.{ReadyAreServed}
 use Rattle.coap_world.specs.Applied.{EachBelongs, AppliedWhole, AtMostOnce}
 use Rattle.coap_world.specs.Answers.{AllAnswered}
-use Rattle.coap_world.specs.Events.{server_end, Config}
+use Rattle.coap_world.specs.Events.{Config}
 use Rattle.coap_world.specs.Given.{AllGiven}
 use Rattle.coap_world.specs.Held.{EachHeld, EachValid, EachValue}
 use Rattle.coap_world.specs.Holds.{HoldsChanges, ChangesOwned}
@@ -65,6 +65,6 @@ module _ (config : Config) where
     -- a number is given once, and has at most one last report, behind which nothing is sent for it; all reports are
     -- taken
     pub one_number : NumbersOnce (client_of all)
-    pub one_report : ReportedOnce server_end config.client_sizes config.client_setup (client_of all)
-    pub none_after : NoneAfter server_end config.client_sizes config.client_setup (client_of all)
+    pub one_report : ReportedOnce config.addresses.server config.client_sizes config.client_setup (client_of all)
+    pub none_after : NoneAfter config.addresses.server config.client_sizes config.client_setup (client_of all)
     pub all_given : AllGiven config all

@@ -21,16 +21,18 @@ use Rattle.coap_server.specs.Follows.Serves.{Serving, serving, hands}
 use Rattle.coap_server.specs.Follows.Shows.{notice_in}
 use Rattle.coap_server.specs.Follows.Takes.{Took, takes_block}
 use Rattle.coap_server.specs.Trace as S
-use Rattle.coap_world.specs.Events.{client_end, Config}
+use Rattle.coap_world.specs.Events.{Config}
 use Rattle.coap_world.specs.Record.{Entry, OfClient, OfServer, server_trace}
+use Rattle.coap_world.specs.declared.addresses.Addresses.{Addresses}
 
 -- the message is this response, for the client, under this token
-pub record IsResponse (m : Message) (to : Endpoint) (token : List ℕ) (r : E.Response) : Type 0 where
-  pub to_client : to ≡ client_end
-  pub token_is : token ≡ m.token
-  pub code : m.code ≡ r.code
-  pub options : m.options ≡ r.options
-  pub payload : m.payload ≡ r.payload
+pub record IsResponse (addresses : Addresses) (m : Message) (to : Endpoint) (token : List ℕ) (r : E.Response) : Type 0
+  where
+    pub to_client : to ≡ addresses.client
+    pub token_is : token ≡ m.token
+    pub code : m.code ≡ r.code
+    pub options : m.options ≡ r.options
+    pub payload : m.payload ≡ r.payload
 
 module _ (config : Config) (m : Message) (past : List S.Call) (c : S.Call) where
   abbrev own : S.Own
@@ -40,19 +42,20 @@ module _ (config : Config) (m : Message) (past : List S.Call) (c : S.Call) where
   -- request that is handed up here; the notification to an observer that is sent here, of what its path holds here
   pub data IsAnswer : Type 0 where
     replies : (x : Serving) → serving own c ≡ Some x
-        → IsResponse m x.asked.from x.asked.token (response_with x.reply x.sequence (last_block x.question)) → IsAnswer
+        → IsResponse config.addresses m x.asked.from x.asked.token
+        (response_with x.reply x.sequence (last_block x.question)) → IsAnswer
     continues :
         (x : Took) (size : ℕ) → takes_block own c ≡ Some x → x.part.more ≡ true → size_in own c ≡ Some size
-        → IsResponse m x.asked.from x.asked.token (continuing size
+        → IsResponse config.addresses m x.asked.from x.asked.token (continuing size
         (record { num = x.part.num; more = true; szx = x.part.szx })) → IsAnswer
     refuses :
         (a : Asked) (v : Verdict) (code : ℕ) → Comes config.limits config.server_szx config.server_setup past c a v
         → hands c ≡ Some a → serving own c ≡ None → refusal_in own c ≡ Some code
-        → IsResponse m a.from a.token (bare code) → IsAnswer
+        → IsResponse config.addresses m a.from a.token (bare code) → IsAnswer
     notifies :
         (o : Observer) (reply : Reply) → notice_in c ≡ Some (o, reply) → WasMade config.limits config.server_szx past o
         → NoticeOf o.szx (own.store.holds o.path) (notification own.store o reply)
-        → IsResponse m o.to o.token (notification own.store o reply) → IsAnswer
+        → IsResponse config.addresses m o.to o.token (notification own.store o reply) → IsAnswer
 
 module _ (config : Config) where
   abbrev pub AnswersAt : Message → List Entry → Entry → Type 0

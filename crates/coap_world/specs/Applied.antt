@@ -11,7 +11,7 @@ use Rattle.coap_client.specs.Requests.{flag_option}
 use Rattle.coap_client.specs.Trace.{Request}
 use Rattle.coap_server.specs.Serving.{is_applied}
 use Rattle.coap_server.specs.Follows.Serves.{Serving}
-use Rattle.coap_world.specs.Events.{client_end, Config}
+use Rattle.coap_world.specs.Events.{Config}
 use Rattle.coap_world.specs.Record.{Entry}
 use Rattle.coap_world.specs.Words.{WasCalled, SentFor, ServesAt, AppliesFor, holds_at, changes_in}
 
@@ -56,7 +56,7 @@ module _ (config : Config) where
   -- Each that is applied for the client's address belongs to a call.
   abbrev pub EachBelongs : List Entry → Type 0
   EachBelongs all = Always (λ past e. (x : Serving) → ServesAt config x past e → is_applied x.reply.code ≡ true
-      → x.asked.from ≡ client_end → (number : ℕ) × SentFor config number x.asked.token all) all
+      → x.asked.from ≡ config.addresses.client → (number : ℕ) × SentFor config number x.asked.token all) all
 
   -- At most one applied request belongs to a call.
   abbrev pub AtMostOnce : List Entry → Type 0

@@ -12,7 +12,7 @@ use Rattle.coap_server.specs.Follows.Waits.{WaitsStill}
 use Rattle.coap_server.specs.Law.{own_of}
 use Rattle.coap_server.specs.Trace as S
 use Rattle.coap_server.specs.Trace.{Delay, Waiting}
-use Rattle.coap_world.specs.Events.{client_end, Config}
+use Rattle.coap_world.specs.Events.{Config}
 use Rattle.coap_world.specs.Record.{Entry, OfClient, OfServer, Turn, entries_of, client_of, server_trace}
 use Rattle.coap_world.specs.Smooth.{max_age}
 
@@ -20,7 +20,7 @@ module _ (config : Config) where
   -- the server hands up the client's request with this token, by then, and that has to wait
   pub record WaitsAt (by : ℕ) (x : Sending) (past : List Entry) (c : S.Call) : Type 0 where
     pub request : Asked × Message
-    pub from : request.0.from ≡ client_end
+    pub from : request.0.from ≡ config.addresses.client
     pub token : request.0.token ≡ x.token
     pub waits : WaitsToAsk config.limits config.server_szx (server_trace config past) c request
     pub soon : (own_of config.limits config.server_szx (c ∷ server_trace config past)).clock ≤ by
@@ -47,7 +47,7 @@ module _ (config : Config) where
     pub sending : Sending
     pub last : last_sent config.client_sizes (client_of (entries_of past)) ≡ Some sending
     pub waiting : Waiting
-    pub from : waiting.asked.from ≡ client_end
+    pub from : waiting.asked.from ≡ config.addresses.client
     pub token : waiting.asked.token ≡ sending.token
     pub since : waiting.at ≤ at + max_age
     pub delay : Ever (λ (d : Delay). d.ms ≡ waiting.delay) config.delays

@@ -15,7 +15,7 @@ use Rattle.coap_client.specs.Follows.Begins.{WasSent, IsRequestOf}
 use Rattle.coap_client.specs.Follows.Words.{Sending}
 use Rattle.coap_server.specs.Checks.{Verdict, verdict_on}
 use Rattle.coap_server.specs.Follows.Brings.{Comes}
-use Rattle.coap_world.specs.Events.{client_end, server_end, Config}
+use Rattle.coap_world.specs.Events.{Config}
 use Rattle.coap_world.specs.Hops.{hops_at, hops_in}
 use Rattle.coap_world.specs.Record.{Entry, OfClient, OfServer, client_of, server_trace}
 
@@ -26,7 +26,8 @@ request_of id x = with_head Con id (content_of x.token x.request)
 -- no datagram is older than 100,000 ms by the clock of the end that gave it out, the clocks keep pace, and each layer
 -- replies at once
 abbrev pub IsChannel : Clocks → Config → List Entry → Type 0
-IsChannel c config all = ChannelLaw c config.client_setup config.server_setup client_end server_end (hops_in config all)
+IsChannel c config all = ChannelLaw c config.client_setup config.server_setup config.addresses.client
+    config.addresses.server (hops_in config all)
 
 module _ (config : Config) where
   -- here the server's message layer hands up this request, and it comes to this
@@ -41,17 +42,18 @@ module _ (config : Config) where
     pub sent : WasSent config.client_sizes sending (client_of past)
     pub con : Open
     pub begun_before : Ever (λ b. begun b ≡ Some con) (near_of (hops_in config past))
-    pub is : IsRequestOf server_end con sending
+    pub is : IsRequestOf config.addresses.server con sending
     pub spells : Spells con.bytes (request_of con.id sending)
-    pub asked : a ≡ asked_of client_end (request_of con.id sending)
+    pub asked : a ≡ asked_of config.addresses.client (request_of con.id sending)
     pub verdict : verdict_on config.server_szx (request_of con.id sending) ≡ v
 
   -- Each request from the client's address that is handed up is one that the client sent.
   abbrev pub CamesFrom : List Entry → Type 0
-  CamesFrom all = Always (λ past e. (a : Asked) (v : Verdict) → ComesAt a v past e → a.from ≡ client_end
+  CamesFrom all = Always (λ past e. (a : Asked) (v : Verdict) → ComesAt a v past e → a.from ≡ config.addresses.client
       → CameFrom past e a v) all
 
   -- .. and it arrives here, at most 147,000 ms after it was sent first, by the client's clock.
   abbrev pub ComesIn : Clocks → List Entry → Type 0
-  ComesIn c all = Always (λ past e. (a : Asked) (v : Verdict) → ComesAt a v past e → a.from ≡ client_end
-      → (k : CameFrom past e a v) × Ever (OnFar (HandsUpAs c client_end k.con)) (hops_at config past e)) all
+  ComesIn c all = Always (λ past e. (a : Asked) (v : Verdict) → ComesAt a v past e → a.from ≡ config.addresses.client
+      → (k : CameFrom past e a v) × Ever (OnFar (HandsUpAs c config.addresses.client k.con)) (hops_at config past e))
+      all

@@ -5,9 +5,9 @@ use Rattle.coap_types.specs.declared.endpoint.Endpoint.{Endpoint}
 use Rattle.coap_world.specs.Legal.{max_delivery}
 use Rattle.coap_world.specs.Record.{Given, Entry, OfClient, OfServer, Turn, given_in}
 use Rattle.coap_types.specs.Past.{Ever, Always, all_of}
-use Rattle.coap_world.specs.Events.{client_end, server_end}
 use Rattle.coap_client.specs.Trace as C
 use Rattle.coap_server.specs.Trace as S
+use Rattle.coap_world.specs.declared.addresses.Addresses.{Addresses}
 
 pub record GaveOut (from to : Endpoint) (bytes : List ℕ) (when : ℕ) (g : Given) : Type 0 where
   pub packet : g.packet ≡ record { to = to; bytes = bytes }
@@ -27,11 +27,11 @@ FedToClient from bytes (OfClient c) =
     × (c ≡ C.Feeds now from bytes word up settled event sent token kept)
 FedToClient from bytes (OfServer c) = ⊥
 
-pub record IsFair (past : List Turn) (turn : Turn) : Type 0 where
-  pub server : (bytes : List ℕ) → Ever (FedToServer client_end bytes) turn.entries
-      → Ever (GaveOut client_end server_end bytes turn.event.at) (all_of given_in past)
-  pub client : (bytes : List ℕ) → Ever (FedToClient server_end bytes) turn.entries
-      → Ever (GaveOut server_end client_end bytes turn.event.at) (all_of given_in past)
+pub record IsFair (addresses : Addresses) (past : List Turn) (turn : Turn) : Type 0 where
+  pub server : (bytes : List ℕ) → Ever (FedToServer addresses.client bytes) turn.entries
+      → Ever (GaveOut addresses.client addresses.server bytes turn.event.at) (all_of (given_in addresses) past)
+  pub client : (bytes : List ℕ) → Ever (FedToClient addresses.server bytes) turn.entries
+      → Ever (GaveOut addresses.server addresses.client bytes turn.event.at) (all_of (given_in addresses) past)
 
-abbrev pub AllFair : List Turn → Type 0
-AllFair turns = Always IsFair turns
+abbrev pub AllFair : Addresses → List Turn → Type 0
+AllFair addresses turns = Always (IsFair addresses) turns

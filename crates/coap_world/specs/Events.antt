@@ -7,8 +7,9 @@ use Rattle.coap_block.specs.Sizes.{Sizes}
 use Rattle.coap_resource.specs.Limits.{Limits}
 use Rattle.coap_client.specs.Trace.{Request}
 use Rattle.coap_server.specs.Trace.{Delay}
+use Rattle.coap_world.specs.declared.addresses.Addresses.{Addresses}
 
--- the addresses of the ends
+-- the addresses that the ends have where none are chosen
 abbrev pub localhost : List ℕ
 localhost = 127 ∷ 0 ∷ 0 ∷ 1 ∷ []
 
@@ -18,9 +19,13 @@ client_end = record { ip = localhost; port = 40001 }
 abbrev pub server_end : Endpoint
 server_end = record { ip = localhost; port = 5683 }
 
--- with which words, numbers of remembered messages, sizes of blocks and limits of bodies the ends begin; how many
--- changes a window takes; the delays of paths, and the paths that are plain
+abbrev pub usual_addresses : Addresses
+usual_addresses = record { client = client_end; server = server_end }
+
+-- at which addresses the ends stand; with which words, numbers of remembered messages, sizes of blocks and limits of
+-- bodies they begin; how many changes a window takes; the delays of paths, and the paths that are plain
 pub record Config : Type 0 where
+  pub addresses : Addresses
   pub client_setup : Setup
   pub client_sizes : Sizes
   pub server_setup : Setup

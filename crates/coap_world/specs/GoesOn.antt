@@ -19,7 +19,7 @@ pub record Follows (config : Config) (events : List Event) (turns : List Turn) (
 
 abbrev pub GoesOn : Config → Type 0
 GoesOn config = (events : List Event) (turns : List Turn) (event : Event) → RecordOf config events turns
-    → Legal config turns → MayHappen turns event
+    → Legal config turns → MayHappen config.addresses turns event
     → Follows config events turns event
 
 -- a record in which nothing is refused
@@ -31,7 +31,8 @@ pub record Ran (config : Config) (events : List Event) (turns : List Turn) : Typ
 -- events that may happen one after the other
 abbrev pub MayRun : Config → List Event → Type 0
 MayRun config [] = Unit {0}
-MayRun config (event ∷ events) = ((turns : List Turn) → Ran config events turns → MayHappen turns event)
+MayRun config (event ∷ events) = ((turns : List Turn) → Ran config events turns
+    → MayHappen config.addresses turns event)
     × MayRun config events
 
 abbrev pub HasRecord : Config → List Event → Type 0

@@ -3,7 +3,7 @@ use Rattle.std.specs.Prelude.{◌≡◌, ◌⊎◌, ℕ, List, [], ◌∷◌, �
 use Rattle.coap_types.specs.Past.{Ever, all_of}
 use Rattle.coap_layer.specs.Channel.{Hop, Near, Far, OnNear, OnFar}
 use Rattle.coap_layer.specs.Sends.{IsIn}
-use Rattle.coap_world.specs.Events.{client_end, server_end, Config}
+use Rattle.coap_world.specs.Events.{Config}
 use Rattle.coap_world.specs.Record.{Given, Entry, OfClient, OfServer, client_of, server_trace, Turn, given_in}
 use Rattle.coap_world.specs.Record.{entries_of}
 use Rattle.coap_layer.specs.Machine.State.{start}
@@ -16,6 +16,7 @@ use Rattle.coap_client.specs.Trace as C
 use Rattle.coap_server.specs.Asks as asks
 use Rattle.coap_server.specs.Law as server
 use Rattle.coap_server.specs.Trace as S
+use Rattle.coap_world.specs.declared.addresses.Addresses.{Addresses}
 
 -- the same hops, with the server's layer as the near one
 abbrev pub across : List Hop → List Hop
@@ -29,20 +30,20 @@ pub record SendsAt (t : ℕ) (p : L.Packet) (e : L.Entry) : Type 0 where
   pub at : e.at ≡ t
 
 -- What an end gives out was sent by its layer at that very moment.
-abbrev pub SentIn : List Hop → Given → Type 0
-SentIn hops g = ((g.from ≡ client_end) × Ever (OnNear (SendsAt g.at g.packet)) hops)
-    ⊎ ((g.from ≡ server_end) × Ever (OnFar (SendsAt g.at g.packet)) hops)
+abbrev pub SentIn : Addresses → List Hop → Given → Type 0
+SentIn addresses hops g = ((g.from ≡ addresses.client) × Ever (OnNear (SendsAt g.at g.packet)) hops)
+    ⊎ ((g.from ≡ addresses.server) × Ever (OnFar (SendsAt g.at g.packet)) hops)
 
 module _ (config : Config) where
   -- what a call of the client asks of its layer, and the entries that it adds to it
   abbrev pub client_asks : List C.Call → C.Call → List Asked
-  client_asks past c = adds.call_asks server_end config.client_sizes config.client_setup past c
+  client_asks past c = adds.call_asks config.addresses.server config.client_sizes config.client_setup past c
 
   abbrev pub client_asked : List C.Call → List Asked
-  client_asked past = adds.all_asked server_end config.client_sizes config.client_setup past
+  client_asked past = adds.all_asked config.addresses.server config.client_sizes config.client_setup past
 
   abbrev pub client_adds : List C.Call → C.Call → List L.Entry
-  client_adds past c = adds.call_adds server_end config.client_sizes config.client_setup past c
+  client_adds past c = adds.call_adds config.addresses.server config.client_sizes config.client_setup past c
 
   -- .. and of the server
   abbrev pub server_asks : List S.Call → S.Call → List Asked
@@ -68,5 +69,6 @@ module _ (config : Config) where
   hops_of turns = hops_in (entries_of turns)
 
 -- What an end gives out was sent by its layer at that very moment.
-abbrev pub TakenAtOnce : List Hop → List Turn → Type 0
-TakenAtOnce hops turns = (g : Given) → Ever (λ h. h ≡ g) (all_of given_in turns) → SentIn hops g
+abbrev pub TakenAtOnce : Addresses → List Hop → List Turn → Type 0
+TakenAtOnce addresses hops turns = (g : Given) → Ever (λ h. h ≡ g) (all_of (given_in addresses) turns)
+    → SentIn addresses hops g

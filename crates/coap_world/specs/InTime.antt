@@ -4,7 +4,7 @@ use Rattle.std.specs.Prelude.{List}
 use Rattle.coap_types.specs.Past.{Always}
 use Rattle.coap_layer.specs.Channel.{near_of, far_of}
 use Rattle.coap_layer.specs.Taking.{ArriveWithin, ComeBackWithin, FewCome}
-use Rattle.coap_world.specs.Events.{client_end, server_end, Config}
+use Rattle.coap_world.specs.Events.{Config}
 use Rattle.coap_world.specs.Hops.{hops_of, across}
 use Rattle.coap_world.specs.Record.{Turn}
 use Rattle.coap_world.specs.Smooth.{max_age, most_that_come}
@@ -12,11 +12,15 @@ use Rattle.coap_world.specs.Smooth.{max_age, most_that_come}
 module _ (config : Config) where
   -- what was sent more than 1,000 ms ago arrived, at most 1,000 ms later ..
   pub record ArriveInTime (past : List Turn) (turn : Turn) : Type 0 where
-    pub to_server : ArriveWithin max_age client_end server_end turn.event.at (hops_of config past)
-    pub to_client : ArriveWithin max_age server_end client_end turn.event.at (across (hops_of config past))
+    pub to_server : ArriveWithin max_age config.addresses.client config.addresses.server turn.event.at
+        (hops_of config past)
+    pub to_client : ArriveWithin max_age config.addresses.server config.addresses.client turn.event.at
+        (across (hops_of config past))
     -- .. and behind its sending
-    pub back_to_client : ComeBackWithin max_age client_end server_end turn.event.at (hops_of config past)
-    pub back_to_server : ComeBackWithin max_age server_end client_end turn.event.at (across (hops_of config past))
+    pub back_to_client : ComeBackWithin max_age config.addresses.client config.addresses.server turn.event.at
+        (hops_of config past)
+    pub back_to_server : ComeBackWithin max_age config.addresses.server config.addresses.client turn.event.at
+        (across (hops_of config past))
 
   abbrev pub AllInTime : List Turn → Type 0
   AllInTime turns = Always ArriveInTime turns

@@ -15,8 +15,9 @@ use Rattle.coap_server.specs.declared.limits.TheConstants.{MAX_DELAYS as max_del
 use Rattle.coap_server.specs.Trace.{Delay}
 use Rattle.coap_resource.specs.declared.tally.TheConstants.{MAX_CHANGES_PER_WINDOW as max_changes}
 use Rattle.coap_world.specs.Record.{Given, Turn, IsNumber, Entry, RecordOf, entries_of}
-use Rattle.coap_world.specs.Events.{client_end, server_end, Config, Event, What, Calls, Observes, Cancels, Forgets, Sets}
+use Rattle.coap_world.specs.Events.{Config, Event, What, Calls, Observes, Cancels, Forgets, Sets}
 use Rattle.coap_world.specs.Events.{Removes, Deliver, StrangerToClient, StrangerToServer}
+use Rattle.coap_world.specs.declared.addresses.Addresses.{Addresses}
 
 -- a datagram is delivered at most MAX_LATENCY after it was given out
 abbrev pub max_delivery : ℕ
@@ -34,15 +35,16 @@ NotBefore [] at = Unit {0}
 NotBefore (turn ∷ past) at = turn.event.at ≤ at
 
 -- a datagram that was given out before, addressed to an end, and not too old; a stranger that has no end's address
-abbrev pub MayCome : List Turn → ℕ → What → Type 0
-MayCome past at (Deliver number) =
-    (g : Given) × IsNumber number g past × ((g.packet.to ≡ client_end) ⊎ (g.packet.to ≡ server_end))
+abbrev pub MayCome : Addresses → List Turn → ℕ → What → Type 0
+MayCome addresses past at (Deliver number) =
+    (g : Given) × IsNumber addresses number g past × ((g.packet.to ≡ addresses.client)
+    ⊎ (g.packet.to ≡ addresses.server))
     × (at ≤ g.at + max_delivery)
-MayCome past at (StrangerToClient from bytes) = (from ≢ client_end) × (from ≢ server_end)
-MayCome past at (StrangerToServer from bytes) = (from ≢ client_end) × (from ≢ server_end)
-MayCome past at what = Unit {0}
+MayCome addresses past at (StrangerToClient from bytes) = (from ≢ addresses.client) × (from ≢ addresses.server)
+MayCome addresses past at (StrangerToServer from bytes) = (from ≢ addresses.client) × (from ≢ addresses.server)
+MayCome addresses past at what = Unit {0}
 
--- each number is in the range of its type
+-- each number is in the range of its type, but for a stranger's datagram: that may be any list, from anywhere
 
 pub record IsRequest (r : Request) : Type 0 where
   pub path : IsPath r.path
@@ -59,21 +61,19 @@ InRange (Cancels number) = number < 2 ^ 64
 InRange (Forgets number) = number < 2 ^ 64
 InRange (Sets path format body) = IsPath path × IfSome format (λ f. f < 2 ^ 16) × AreBytes body
 InRange (Removes path) = IsPath path
-InRange (StrangerToClient from bytes) = IsEndpoint from × AreBytes bytes
-InRange (StrangerToServer from bytes) = IsEndpoint from × AreBytes bytes
 InRange what = Unit {0}
 
-pub record IsLegal (past : List Turn) (turn : Turn) : Type 0 where
+pub record IsLegal (addresses : Addresses) (past : List Turn) (turn : Turn) : Type 0 where
   pub at : turn.event.at < 2 ^ 64
   pub word : turn.event.word < 2 ^ 64
   pub range : InRange turn.event.what
   pub later : NotBefore past turn.event.at
-  pub comes : MayCome past turn.event.at turn.event.what
+  pub comes : MayCome addresses past turn.event.at turn.event.what
 
-abbrev pub AllLegal : List Turn → Type 0
-AllLegal turns = Always IsLegal turns
+abbrev pub AllLegal : Addresses → List Turn → Type 0
+AllLegal addresses turns = Always (IsLegal addresses) turns
 
--- the setups, sizes and limits with which the ends begin, how many changes a window takes, at most 16 delays and at most
+-- where the ends stand, the setups, sizes and limits with which the ends begin, how many changes a window takes, at most 16 delays and at most
 -- 16 plain paths (profile)
 
 -- a limit that can be chosen
@@ -90,7 +90,14 @@ pub record IsSetup (setup : Setup) : Type 0 where
   pub some : 1 ≤ setup.remembered
   pub few : setup.remembered ≤ max_remembered
 
+-- two addresses, each in range
+pub record AreAddresses (addresses : Addresses) : Type 0 where
+  pub client : IsEndpoint addresses.client
+  pub server : IsEndpoint addresses.server
+  pub two : addresses.client ≢ addresses.server
+
 pub record IsConfig (config : Config) : Type 0 where
+  pub addresses : AreAddresses config.addresses
   pub client_setup : IsSetup config.client_setup
   pub client_szx : config.client_sizes.szx ≤ 6
   pub client_limit : IsLimit config.client_sizes.limit
@@ -107,7 +114,7 @@ pub record IsConfig (config : Config) : Type 0 where
 -- a configuration in range, and legal events
 pub record Legal (config : Config) (turns : List Turn) : Type 0 where
   pub range : IsConfig config
-  pub events : AllLegal turns
+  pub events : AllLegal config.addresses turns
 
 -- it holds of each legal run
 abbrev pub OfLegalRuns : (Config → List Turn → Type 0) → Type 0

@@ -6,23 +6,28 @@ use Rattle.coap_types.specs.declared.endpoint.Endpoint.{Endpoint}
 use Rattle.coap_types.specs.declared.path.TheConstants.{MAX_SEGMENTS as max_segments}
 use Rattle.coap_types.specs.declared.path.TheConstants.{MAX_SEGMENT_LEN as max_segment_len}
 use Rattle.coap_types.specs.EntityTag.{AreTags}
-use Rattle.coap_world.specs.Events.{client_end, server_end, Config, What, Calls, Observes, Cancels, Forgets, Sets}
+use Rattle.coap_world.specs.Events.{Config, What, Calls, Observes, Cancels, Forgets, Sets}
 use Rattle.coap_world.specs.Events.{Removes, TickClient, TickServer, Deliver, StrangerToServer, StrangerToClient, Event}
 use Rattle.coap_types.specs.Bytes.{AreBytes}
 use Rattle.coap_client.specs.Trace.{Request}
 use Rattle.coap_world.specs.Legal.{IsLegal, AllLegal}
 use Rattle.coap_world.specs.Record.{Given, Turn, RecordOf, IsNumber}
+use Rattle.coap_world.specs.declared.addresses.Addresses.{Addresses}
 
 -- an event is legal, whatever it makes
-abbrev pub MayHappen : List Turn → Event → Type 0
-MayHappen past e = IsLegal past (record { event = e; refused = false; entries = [] })
+abbrev pub MayHappen : Addresses → List Turn → Event → Type 0
+MayHappen addresses past e = IsLegal addresses past (record { event = e; refused = false; entries = [] })
 
 abbrev pub event : ℕ → What → Event
 event at what = record { at = at; word = 0; what = what }
 
--- no run of these events is legal
+-- no run of these events is legal, which may speak of where its ends stand
+abbrev pub NoneRunsOf : (Config → List Event) → Type 0
+NoneRunsOf events = (config : Config) (turns : List Turn) → RecordOf config (events config) turns
+    → AllLegal config.addresses turns → ⊥
+
 abbrev pub NoneRuns : List Event → Type 0
-NoneRuns events = (config : Config) (turns : List Turn) → RecordOf config events turns → AllLegal turns → ⊥
+NoneRuns events = NoneRunsOf (λ config. events)
 
 -- Each kind of event may happen, first and then at a moment that is not before the last, where its numbers are in
 -- range.
@@ -30,10 +35,10 @@ NoneRuns events = (config : Config) (turns : List Turn) → RecordOf config even
 abbrev pub at_with : ℕ → ℕ → What → Event
 at_with at word what = record { at = at; word = word; what = what }
 
-pub record May (what : What) : Type 0 where
-  pub first : (at word : ℕ) → at < 2 ^ 64 → word < 2 ^ 64 → MayHappen [] (at_with at word what)
+pub record May (addresses : Addresses) (what : What) : Type 0 where
+  pub first : (at word : ℕ) → at < 2 ^ 64 → word < 2 ^ 64 → MayHappen addresses [] (at_with at word what)
   pub then : (last : Turn) (past : List Turn) (at word : ℕ) → at < 2 ^ 64 → word < 2 ^ 64 → last.event.at ≤ at
-      → MayHappen (last ∷ past) (at_with at word what)
+      → MayHappen addresses (last ∷ past) (at_with at word what)
 
 -- a path of at most MAX_SEGMENTS segments, each of at most MAX_SEGMENT_LEN bytes; a number of 16 bits, if any
 
@@ -43,40 +48,43 @@ Segments path = (length path ≤ max_segments) × All (λ s. length s ≤ max_se
 abbrev pub Is16 : Option ℕ → Type 0
 Is16 o = IfSome o (λ n. n < 2 ^ 16)
 
-abbrev pub CallsMay : Type 0
-CallsMay = (r : Request) → Segments r.path → Is16 r.accept → Is16 r.format → AreBytes r.body → AreTags r.etags
-    → AreTags r.if_match → May (Calls r)
+abbrev pub CallsMay : Addresses → Type 0
+CallsMay addresses = (r : Request) → Segments r.path → Is16 r.accept → Is16 r.format → AreBytes r.body → AreTags r.etags
+    → AreTags r.if_match → May addresses (Calls r)
 
-abbrev pub ObservesMay : Type 0
-ObservesMay = (path : List (List ℕ)) → Segments path → May (Observes path)
+abbrev pub ObservesMay : Addresses → Type 0
+ObservesMay addresses = (path : List (List ℕ)) → Segments path → May addresses (Observes path)
 
 -- of whatever number, also one that is not given yet
-abbrev pub EndsMay : Type 0
-EndsMay = (number : ℕ) → number < 2 ^ 64 → May (Cancels number) × May (Forgets number)
+abbrev pub EndsMay : Addresses → Type 0
+EndsMay addresses = (number : ℕ) → number < 2 ^ 64 → May addresses (Cancels number) × May addresses (Forgets number)
 
-abbrev pub SetsMay : Type 0
-SetsMay = (path : List (List ℕ)) (format : Option ℕ) (body : List ℕ) → Segments path → Is16 format → AreBytes body
-    → May (Sets path format body)
+abbrev pub SetsMay : Addresses → Type 0
+SetsMay addresses = (path : List (List ℕ)) (format : Option ℕ) (body : List ℕ) → Segments path → Is16 format
+    → AreBytes body
+    → May addresses (Sets path format body)
 
-abbrev pub RemovesMay : Type 0
-RemovesMay = (path : List (List ℕ)) → Segments path → May (Removes path)
+abbrev pub RemovesMay : Addresses → Type 0
+RemovesMay addresses = (path : List (List ℕ)) → Segments path → May addresses (Removes path)
 
-abbrev pub TicksMay : Type 0
-TicksMay = May TickClient × May TickServer
+abbrev pub TicksMay : Addresses → Type 0
+TicksMay addresses = May addresses TickClient × May addresses TickServer
 
 -- a stranger, at any address that is no end's
-abbrev pub StrangersMay : Type 0
-StrangersMay = (ip : List ℕ) (port : ℕ) (bytes : List ℕ) → length ip ≡ 4 → AreBytes ip → port < 2 ^ 16 → AreBytes bytes
-    → record { ip = ip; port = port } ≢ client_end → record { ip = ip; port = port } ≢ server_end
-    → May (StrangerToServer (record { ip = ip; port = port }) bytes)
-    × May (StrangerToClient (record { ip = ip; port = port }) bytes)
+abbrev pub StrangersMay : Addresses → Type 0
+StrangersMay addresses = (ip : List ℕ) (port : ℕ) (bytes : List ℕ) → length ip ≡ 4 → AreBytes ip → port < 2 ^ 16
+    → AreBytes bytes
+    → record { ip = ip; port = port } ≢ addresses.client → record { ip = ip; port = port } ≢ addresses.server
+    → May addresses (StrangerToServer (record { ip = ip; port = port }) bytes)
+    × May addresses (StrangerToClient (record { ip = ip; port = port }) bytes)
 
 -- any datagram that was given out to an end, once or more often
-abbrev pub DeliveriesMay : ℕ → Type 0
-DeliveriesMay last = (turn : Turn) (past : List Turn) (at word number : ℕ) (g : Given) → at < 2 ^ 64 → word < 2 ^ 64
-    → turn.event.at ≤ at → IsNumber number g (turn ∷ past)
-    → ((g.packet.to ≡ client_end) ⊎ (g.packet.to ≡ server_end)) → at ≤ g.at + last
-    → MayHappen (turn ∷ past) (at_with at word (Deliver number))
+abbrev pub DeliveriesMay : Addresses → ℕ → Type 0
+DeliveriesMay addresses last = (turn : Turn) (past : List Turn) (at word number : ℕ) (g : Given) → at < 2 ^ 64
+    → word < 2 ^ 64
+    → turn.event.at ≤ at → IsNumber addresses number g (turn ∷ past)
+    → ((g.packet.to ≡ addresses.client) ⊎ (g.packet.to ≡ addresses.server)) → at ≤ g.at + last
+    → MayHappen addresses (turn ∷ past) (at_with at word (Deliver number))
 
 -- moments don't fall, and have 64 bits; so have words; a path has no more segments, and a format no more bits
 
@@ -106,9 +114,9 @@ NotAfter last = (at : ℕ) (r : Request) → last < at → NoneRuns (comes_at at
 abbrev pub never_given : List Event
 never_given = event 0 (Deliver 0) ∷ []
 
--- a stranger has the address of an end
+-- a stranger has the address of an end of the run
 
-abbrev pub NoneFrom : Endpoint → Type 0
+abbrev pub NoneFrom : (Config → Endpoint) → Type 0
 NoneFrom end =
-    (at : ℕ) (bytes : List ℕ) → NoneRuns (event at (StrangerToServer end bytes) ∷ [])
-    × NoneRuns (event at (StrangerToClient end bytes) ∷ [])
+    (at : ℕ) (bytes : List ℕ) → NoneRunsOf (λ config. event at (StrangerToServer (end config) bytes) ∷ [])
+    × NoneRunsOf (λ config. event at (StrangerToClient (end config) bytes) ∷ [])

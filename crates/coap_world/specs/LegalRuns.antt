@@ -11,7 +11,7 @@ use Rattle.coap_resource.specs.declared.tally.TheConstants.{MAX_CHANGES_PER_WIND
 use Rattle.coap_client.specs.Trace.{Request, Report, Body, Timeout, Reported}
 use Rattle.coap_client.specs.Follows.Gives as C
 use Rattle.coap_server.specs.Trace.{Delay}
-use Rattle.coap_world.specs.Events.{client_end, server_end, Config, What, Calls, Sets, TickClient}
+use Rattle.coap_world.specs.Events.{client_end, server_end, usual_addresses, Config, What, Calls, Sets, TickClient}
 use Rattle.coap_world.specs.Events.{TickServer, Deliver, Event}
 use Rattle.coap_world.specs.Legal.{Legal}
 use Rattle.coap_world.specs.LegalEvents.{event, comes_at}
@@ -29,6 +29,7 @@ limits = usual_limits max_changes
 -- with words 0
 abbrev pub with_delays : List Delay → Config
 with_delays delays = record {
+  addresses = usual_addresses;
   client_setup = usual 0;
   client_sizes = sizes;
   server_setup = usual 0;
@@ -52,7 +53,7 @@ pub record Runs (config : Config) (events : List Event) (given : List Given) : T
   pub turns : List Turn
   pub made : RecordOf config events turns
   pub legal : Legal config turns
-  pub gives : all_of given_in turns ≡ given
+  pub gives : all_of (given_in config.addresses) turns ≡ given
 
 -- a report of the first call, or observation
 abbrev pub reported : Report → Reported

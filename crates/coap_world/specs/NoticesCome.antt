@@ -17,12 +17,13 @@ use Rattle.coap_server.specs.Follows.Observes.{Notice, notice}
 use Rattle.coap_server.specs.Law.{own_of}
 use Rattle.coap_server.specs.Notifying.{notification}
 use Rattle.coap_server.specs.Trace as S
-use Rattle.coap_world.specs.Events.{client_end, server_end, Config}
+use Rattle.coap_world.specs.Events.{Config}
 use Rattle.coap_world.specs.Record.{Entry, OfClient, OfServer, Turn, entries_of, client_of, server_trace}
 use Rattle.coap_world.specs.Smooth.{max_age}
+use Rattle.coap_world.specs.declared.addresses.Addresses.{Addresses}
 
 -- the client is fed this response of the server, which its message layer hands up, at most 1,000 ms behind that moment
-pub record IsFed (m : Message) (since : ℕ) (c : C.Call) : Type 0 where
+pub record IsFed (addresses : Addresses) (m : Message) (since : ℕ) (c : C.Call) : Type 0 where
   pub now : ℕ
   pub bytes : List ℕ
   pub word : ℕ
@@ -31,7 +32,7 @@ pub record IsFed (m : Message) (since : ℕ) (c : C.Call) : Type 0 where
   pub sent : L.Answer
   pub token : Result (List ℕ) AskRefusal
   pub kept : Bool
-  pub is : c ≡ C.Feeds now server_end bytes word (L.Becomes (L.Response m)) settled event sent token kept
+  pub is : c ≡ C.Feeds now addresses.server bytes word (L.Becomes (L.Response m)) settled event sent token kept
   pub from : since ≤ now
   pub till : now ≤ since + max_age
 
@@ -55,13 +56,13 @@ module _ (config : Config) where
     pub call : C.Call
     pub between : List Entry
     pub split : newer ≡ newest ++ OfClient call ∷ between
-    pub fed : IsFed (notice_message kind id older n) (server_moment older c) call
+    pub fed : IsFed config.addresses (notice_message kind id older n) (server_moment older c) call
 
   -- so each that was sent more than 1,000 ms before an event
   abbrev pub NoticesCome : List Turn → Turn → Type 0
   NoticesCome past turn =
       (newer older : List Entry) (c : S.Call) (n : Notice) → entries_of past ≡ newer ++ OfServer c ∷ older
-      → notice c ≡ Some n → n.observer.to ≡ client_end → server_moment older c + max_age < turn.event.at
+      → notice c ≡ Some n → n.observer.to ≡ config.addresses.client → server_moment older c + max_age < turn.event.at
       → NoticeComes n newer older c
 
   abbrev pub AllNoticesCome : List Turn → Type 0
@@ -69,7 +70,7 @@ module _ (config : Config) where
 
   -- a notification is of this observation, under the token of its registration
   pub record IsOfIt (x : Observed) (older : List Entry) (n : Notice) : Type 0 where
-    pub to_is : n.observer.to ≡ client_end
+    pub to_is : n.observer.to ≡ config.addresses.client
     pub path_is : n.observer.path ≡ x.path
     pub registered : WasRegistered config.client_sizes x.number n.observer.token (client_of older)
 

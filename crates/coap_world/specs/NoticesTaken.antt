@@ -18,7 +18,7 @@ use Rattle.coap_server.specs.Follows.Serves.{Serving, serving}
 use Rattle.coap_server.specs.Law.{own_of}
 use Rattle.coap_server.specs.Trace as S
 use Rattle.coap_world.specs.Current.{Watches}
-use Rattle.coap_world.specs.Events.{client_end, Config}
+use Rattle.coap_world.specs.Events.{Config}
 use Rattle.coap_world.specs.Record.{Entry, OfClient, OfServer, Turn, entries_of, client_of, server_trace}
 use Rattle.coap_world.specs.Smooth.{max_age}
 use Rattle.coap_world.specs.NoticesCome.{IsFed, NoticeComes, notice_message, server_moment}
@@ -41,7 +41,7 @@ module _ (config : Config) where
   abbrev pub RequestsAreOfIt : Observed → List Entry → Type 0
   RequestsAreOfIt x all = (newer older : List Entry) (c : S.Call) (s : Serving) → all ≡ newer ++ OfServer c ∷ older
       → serving (own_of config.limits config.server_szx (server_trace config older)) c ≡ Some s
-      → s.asked.from ≡ client_end → IsRequestOfIt x older s
+      → s.asked.from ≡ config.addresses.client → IsRequestOfIt x older s
 
   -- it is heard as the answer to the registration that runs, or noted under the token of the observation that is live
   abbrev pub IsTakenIn : Observed → Message → List C.Call → C.Call → Type 0
@@ -54,7 +54,7 @@ module _ (config : Config) where
   abbrev pub ResponsesAreTakenIn : Observed → List Entry → Type 0
   ResponsesAreTakenIn x all =
       (newer older : List Entry) (d : C.Call) (m : Message) (since : ℕ) → all ≡ newer ++ OfClient d ∷ older
-      → Watches config x.number older → IsFed m since d → (m.kind ≡ Con) ⊎ (m.kind ≡ Non)
+      → Watches config x.number older → IsFed config.addresses m since d → (m.kind ≡ Con) ⊎ (m.kind ≡ Non)
       → WasRegistered config.client_sizes x.number m.token (client_of older)
       → lacks_critical Response m.options ≡ false → IsTakenIn x m (client_of older) d
 

@@ -5,10 +5,11 @@ use Rattle.coap_types.specs.declared.endpoint.Endpoint.{Endpoint}
 use Rattle.coap_layer.specs.Trace.{Packet}
 use Rattle.coap_client.specs.Law.{ClientLaw}
 use Rattle.coap_server.specs.Law.{ServerLaw}
-use Rattle.coap_world.specs.Events.{client_end, server_end, Config, What, Calls, Observes, Cancels, Forgets, Sets}
+use Rattle.coap_world.specs.Events.{Config, What, Calls, Observes, Cancels, Forgets, Sets}
 use Rattle.coap_world.specs.Events.{Removes, TickClient, TickServer, Deliver, StrangerToClient, StrangerToServer, Event}
 use Rattle.coap_client.specs.Trace as C
 use Rattle.coap_server.specs.Trace as S
+use Rattle.coap_world.specs.declared.addresses.Addresses.{Addresses}
 
 -- a datagram that an end gave out
 pub record Given : Type 0 where
@@ -77,17 +78,18 @@ server_trace config all = server_of all ++ begun_with config
 
 -- the datagrams that an end gave out
 
-abbrev pub given_by : ℕ → Entry → List Given
-given_by at (OfClient (C.NextOut answer)) = given_as at client_end answer
-given_by at (OfServer (S.NextOut answer)) = given_as at server_end answer
-given_by at _ = []
+abbrev pub given_by : Addresses → ℕ → Entry → List Given
+given_by addresses at (OfClient (C.NextOut answer)) = given_as at addresses.client answer
+given_by addresses at (OfServer (S.NextOut answer)) = given_as at addresses.server answer
+given_by addresses at _ = []
 
-abbrev pub given_in : Turn → List Given
-given_in turn = all_of (given_by turn.event.at) turn.entries
+abbrev pub given_in : Addresses → Turn → List Given
+given_in addresses turn = all_of (given_by addresses turn.event.at) turn.entries
 
 -- a datagram has the number of those that were given out before it
-abbrev pub IsNumber : ℕ → Given → List Turn → Type 0
-IsNumber number g past = Sometime (λ before h. (h ≡ g) × (length before ≡ number)) (all_of given_in past)
+abbrev pub IsNumber : Addresses → ℕ → Given → List Turn → Type 0
+IsNumber addresses number g past = Sometime (λ before h. (h ≡ g) × (length before ≡ number))
+    (all_of (given_in addresses) past)
 
 -- After the calls of an event, all that its end has out is taken, and all its reports, until there is none.
 pub record OnClient (calls : List C.Call) (entries : List Entry) : Type 0 where
@@ -118,45 +120,48 @@ FeedsServer at word from bytes c = (up : _) × (came : _) × (h : _) × (below :
     × (c ≡ S.Feeds at from bytes word up came h below)
 
 -- datagram n comes from the address of the end that gave it out to the end that it is addressed to
-abbrev pub Delivers : Given → ℕ → ℕ → Bool → List Entry → Type 0
-Delivers g at word refused entries =
-    ((g.packet.to ≡ server_end) × (calls : List S.Call)
+abbrev pub Delivers : Addresses → Given → ℕ → ℕ → Bool → List Entry → Type 0
+Delivers addresses g at word refused entries =
+    ((g.packet.to ≡ addresses.server) × (calls : List S.Call)
     × IsOne (FeedsServer at word g.from g.packet.bytes) refused calls × OnServer calls entries)
-    ⊎ ((g.packet.to ≡ client_end) × (calls : List C.Call)
+    ⊎ ((g.packet.to ≡ addresses.client) × (calls : List C.Call)
     × IsOne (FeedsClient at word g.from g.packet.bytes) refused calls × OnClient calls entries)
 
 -- What an event makes of the ends. A cancel, a forgetting and a removal take no memory: they are one call, always.
-abbrev pub Makes : List Turn → ℕ → ℕ → What → Bool → List Entry → Type 0
-Makes past at word (Calls r) refused entries = (calls : List C.Call)
+abbrev pub Makes : Addresses → List Turn → ℕ → ℕ → What → Bool → List Entry → Type 0
+Makes addresses past at word (Calls r) refused entries = (calls : List C.Call)
     × IsOne (λ c. (answer : _) × (c ≡ C.Calls at r answer)) refused calls × OnClient calls entries
-Makes past at word (Observes path) refused entries = (calls : List C.Call)
+Makes addresses past at word (Observes path) refused entries = (calls : List C.Call)
     × IsOne (λ c. (answer : _) × (c ≡ C.Observes at path answer)) refused calls × OnClient calls entries
-Makes past at word (Cancels number) refused entries =
+Makes addresses past at word (Cancels number) refused entries =
     (calls : List C.Call) × (IsOne (λ c. (answer : _) × (c ≡ C.Cancels at number answer)) false calls
     × (refused ≡ false)) × OnClient calls entries
-Makes past at word (Forgets number) refused entries =
+Makes addresses past at word (Forgets number) refused entries =
     (calls : List C.Call) × (IsOne (λ c. (kept : _) × (answer : _) × (c ≡ C.Forgets number kept answer)) false calls
     × (refused ≡ false)) × OnClient calls entries
-Makes past at word (Sets path format body) refused entries =
+Makes addresses past at word (Sets path format body) refused entries =
     (calls : List S.Call) × IsOne (λ c. (answer : _) × (left : _)
     × (c ≡ S.Sets at path format body answer left)) refused calls × OnServer calls entries
-Makes past at word (Removes path) refused entries =
+Makes addresses past at word (Removes path) refused entries =
     (calls : List S.Call) × (IsOne (λ c. (answer : _) × (left : _) × (c ≡ S.Removes at path answer left)) false calls
     × (refused ≡ false)) × OnServer calls entries
-Makes past at word TickClient refused entries = (calls : List C.Call) × AreTicks (ClientTick at word) refused calls
+Makes addresses past at word TickClient refused entries = (calls : List C.Call)
+    × AreTicks (ClientTick at word) refused calls
     × OnClient calls entries
-Makes past at word TickServer refused entries = (calls : List S.Call) × AreTicks (ServerTick at word) refused calls
+Makes addresses past at word TickServer refused entries = (calls : List S.Call)
+    × AreTicks (ServerTick at word) refused calls
     × OnServer calls entries
-Makes past at word (Deliver number) refused entries = (g : Given) × IsNumber number g past
-    × Delivers g at word refused entries
-Makes past at word (StrangerToClient from bytes) refused entries = (calls : List C.Call)
+Makes addresses past at word (Deliver number) refused entries = (g : Given) × IsNumber addresses number g past
+    × Delivers addresses g at word refused entries
+Makes addresses past at word (StrangerToClient from bytes) refused entries = (calls : List C.Call)
     × IsOne (FeedsClient at word from bytes) refused calls × OnClient calls entries
-Makes past at word (StrangerToServer from bytes) refused entries = (calls : List S.Call)
+Makes addresses past at word (StrangerToServer from bytes) refused entries = (calls : List S.Call)
     × IsOne (FeedsServer at word from bytes) refused calls × OnServer calls entries
 
 -- The record of these events, the newest first: each turn is what its event makes, and each end stands in its law.
 pub record RecordOf (config : Config) (events : List Event) (turns : List Turn) : Type 0 where
   pub events_are : map (λ (t : Turn). t.event) turns ≡ events
-  pub made : Always (λ past t. Makes past t.event.at t.event.word t.event.what t.refused t.entries) turns
-  pub client : ClientLaw server_end config.client_sizes config.client_setup (client_of (entries_of turns))
+  pub made : Always (λ past t. Makes config.addresses past t.event.at t.event.word t.event.what t.refused t.entries)
+      turns
+  pub client : ClientLaw config.addresses.server config.client_sizes config.client_setup (client_of (entries_of turns))
   pub server : ServerLaw config.limits config.server_szx config.server_setup (server_trace config (entries_of turns))

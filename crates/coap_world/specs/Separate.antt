@@ -16,14 +16,15 @@ use Rattle.coap_client.specs.Follows.Words.{Sending, last_sent}
 use Rattle.coap_server.specs.Follows.Attended.{AnswersIt}
 use Rattle.coap_server.specs.Follows.Rests.{IsTick}
 use Rattle.coap_server.specs.Trace as S
-use Rattle.coap_world.specs.Events.{client_end, Config}
+use Rattle.coap_world.specs.Events.{Config}
 use Rattle.coap_world.specs.Hops.{server_adds, hops_of}
 use Rattle.coap_world.specs.Record.{Entry, OfServer, Turn, entries_of, client_of, server_trace}
 use Rattle.coap_world.specs.Smooth.{max_age}
+use Rattle.coap_world.specs.declared.addresses.Addresses.{Addresses}
 
 -- it carries a response to this request, each critical option of which a client recognises
-pub record CarriesAnswer (x : Sending) (con : Open) : Type 0 where
-  pub to : con.to ≡ client_end
+pub record CarriesAnswer (addresses : Addresses) (x : Sending) (con : Open) : Type 0 where
+  pub to : con.to ≡ addresses.client
   pub message : Message
   pub spells : Spells con.bytes message
   pub kind : message.kind ≡ Con
@@ -36,14 +37,14 @@ abbrev pub SeparateEnds : Config → List Turn → Type 0
 SeparateEnds config turns =
     Always (λ past turn. (at : ℕ) → IsOpenSince config.client_sizes at (client_of (entries_of past)) → (x : Sending)
     → last_sent config.client_sizes (client_of (entries_of past)) ≡ Some x → (con : Open)
-    → Ever (λ b. begun b ≡ Some con) (far_of (hops_of config past)) → CarriesAnswer x con
+    → Ever (λ b. begun b ≡ Some con) (far_of (hops_of config past)) → CarriesAnswer config.addresses x con
     → con.first + max_age < turn.event.at → ⊥) turns
 
 -- What a tick of the server answers to the client goes out in such a CON, which begins in that call.
 abbrev pub TicksAnswer : Config → List Entry → Type 0
 TicksAnswer config es =
     Always (λ past e. (c : S.Call) (now : ℕ) (answer : Bool) (a : Asked) (x : Sending) → e ≡ OfServer c → IsTick now answer c
-    → AnswersIt config.limits config.server_szx (server_trace config past) c a → a.from ≡ client_end
+    → AnswersIt config.limits config.server_szx (server_trace config past) c a → a.from ≡ config.addresses.client
     → a.token ≡ x.token
     → (con : Open) × Ever (λ b. begun b ≡ Some con) (server_adds config (server_trace config past) c)
-    × CarriesAnswer x con) es
+    × CarriesAnswer config.addresses x con) es

@@ -13,7 +13,7 @@ use Rattle.coap_server.specs.Follows.Tells.{Telling, telling}
 use Rattle.coap_server.specs.Law.{own_of}
 use Rattle.coap_server.specs.Trace as S
 use Rattle.coap_world.specs.Current.{shown_as}
-use Rattle.coap_world.specs.Events.{client_end, Config}
+use Rattle.coap_world.specs.Events.{Config}
 use Rattle.coap_world.specs.Record.{Entry, OfClient, OfServer, client_of, server_trace}
 use Rattle.coap_world.specs.Words.{holds_at}
 
@@ -23,7 +23,7 @@ module _ (config : Config) where
   pub record TellsHeld (path : List (List ℕ)) (m : Message) (held : Held) (past : List Entry) (c : S.Call) : Type 0 where
     pub told : Telling
     pub here : telling (own_of config.limits config.server_szx (server_trace config past)) c ≡ Some told
-    pub to_is : told.to ≡ client_end
+    pub to_is : told.to ≡ config.addresses.client
     pub token_is : told.token ≡ m.token
     pub path_is : told.path ≡ path
     pub version_is : told.version ≡ held.version

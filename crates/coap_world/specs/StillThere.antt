@@ -11,7 +11,7 @@ use Rattle.coap_server.specs.Follows.Observes.{Notice, notice}
 use Rattle.coap_server.specs.Law.{own_of}
 use Rattle.coap_server.specs.Trace as S
 use Rattle.coap_world.specs.Current.{Watches}
-use Rattle.coap_world.specs.Events.{client_end, Config}
+use Rattle.coap_world.specs.Events.{Config}
 use Rattle.coap_world.specs.Record.{Entry, OfServer, Turn, entries_of, client_of, server_trace}
 use Rattle.coap_world.specs.Smooth.{max_age}
 use Rattle.coap_world.specs.NoticesCome.{server_moment}
@@ -33,7 +33,8 @@ module _ (config : Config) where
     abbrev pub StillThere : List ℕ → ℕ → List Entry → Type 0
     StillThere token at all =
         ((o : Observer)
-        × (registration client_end token (own_of config.limits config.server_szx (server_trace config all)).observers ≡ Some o)
+        × (registration config.addresses.client token (own_of config.limits config.server_szx
+        (server_trace config all)).observers ≡ Some o)
         × (o.path ≡ x.path))
         ⊎ WasGone at all
 

@@ -12,7 +12,7 @@ use Rattle.coap_server.specs.Law.{own_of}
 use Rattle.coap_server.specs.Serving.{is_applied}
 use Rattle.coap_server.specs.Follows.Holds.{held_at, changes}
 use Rattle.coap_server.specs.Follows.Serves.{Serving, serving}
-use Rattle.coap_world.specs.Events.{client_end, Config}
+use Rattle.coap_world.specs.Events.{Config}
 use Rattle.coap_world.specs.Record.{Entry, OfClient, OfServer, client_of, server_trace}
 
 -- a call of this number and this request was taken
@@ -41,7 +41,7 @@ module _ (config : Config) where
     pub request : Serving
     pub here : ServesAt request past e
     pub applied : is_applied request.reply.code ≡ true
-    pub from : request.asked.from ≡ client_end
+    pub from : request.asked.from ≡ config.addresses.client
     pub belongs : SentFor number request.asked.token all
 
   -- what the server holds at a path after these entries

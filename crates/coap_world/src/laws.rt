@@ -20,8 +20,9 @@ ghost use Rattle.coap_world.specs.Clocks as by_clocks;
 ghost use Rattle.coap_world.specs.Clocks.{Clocks, of_layers};
 ghost use Rattle.coap_world.specs.Current.{CurrentAlone};
 ghost use Rattle.coap_world.specs.Delivery.{AllFair};
+ghost use Rattle.coap_world.specs.declared.addresses.Addresses.{Addresses};
 ghost use Rattle.coap_world.specs.Done.{NeverFailed, OnceDone};
-ghost use Rattle.coap_world.specs.Events.{client_end, server_end, Config};
+ghost use Rattle.coap_world.specs.Events.{Config};
 ghost use Rattle.coap_world.specs.Fresh.{AreBehind, AreFresh, AreFreshIf, ComesIn, GainsAtMost, TickedWithin, age_in};
 ghost use Rattle.coap_world.specs.Given.{AllGiven};
 ghost use Rattle.coap_world.specs.Held.{EachHeld, EachValid, EachValue};
@@ -49,7 +50,7 @@ use crate::watches::watch_law;
 /// What comes from an end's address was given out by that end, for the one that it comes to, at most 100,000 ms before.
 pub fn delivery_law()
     // What comes from an end's address was given out by that end for this one, at most 100 s before.
-    ensures fair { OfLegalRuns (λ config turns. AllFair turns) }
+    ensures fair { OfLegalRuns (λ config turns. AllFair config.addresses turns) }
 {}
 
 /// Runs in which each end has a clock of its own.
@@ -59,7 +60,7 @@ pub fn clocks_law()
     // The message layers stand in the law of two layers, each with its clock, and the datagrams between them.
     ensures channel { (c : Clocks) (config : Config) (events : List Event) (turns : List Turn) → RecordOf config events turns
         → by_clocks.Legal c config turns → paced.ChannelLaw (of_layers c) config.client_setup config.server_setup
-        client_end server_end (hops_of config turns) }
+        config.addresses.client config.addresses.server (hops_of config turns) }
 {}
 
 /// What holds however late datagrams are, and however the ends' clocks run.
@@ -95,18 +96,18 @@ pub fn any_time_law()
 pub fn hops_law()
     // The near hops are the entries of the client's layer, the far ones of the server's.
     ensures near { (config : Config) (turns : List Turn) → near_of (hops_of config turns)
-        ≡ clients.layer_of server_end config.client_sizes config.client_setup (client_of (entries_of turns)) }
+        ≡ clients.layer_of config.addresses.server config.client_sizes config.client_setup (client_of (entries_of turns)) }
     // The far hops are the entries of the server's message layer.
     ensures far { (config : Config) (turns : List Turn) → far_of (hops_of config turns)
         ≡ servers.layer_of config.limits config.server_szx config.server_setup (server_trace config (entries_of turns)) }
     // In a legal run they stand in the law of two layers and the datagrams between them.
     ensures channel { OfLegalRuns (λ config turns. ChannelLaw config.client_setup config.server_setup
-        client_end server_end (hops_of config turns)) }
+        config.addresses.client config.addresses.server (hops_of config turns)) }
     // They stand in the law of two layers the other way round, too.
     ensures back { OfLegalRuns (λ config turns. ChannelLaw config.server_setup config.client_setup
-        server_end client_end (across (hops_of config turns))) }
+        config.addresses.server config.addresses.client (across (hops_of config turns))) }
     // What an end gives out in a turn was sent by its layer in that turn, at its moment.
-    ensures at_once { OfLegalRuns (λ config turns. TakenAtOnce (hops_of config turns) turns) }
+    ensures at_once { OfLegalRuns (λ config turns. TakenAtOnce config.addresses (hops_of config turns) turns) }
 {}
 
 /// What the server's changes are, whatever the events are.
@@ -161,21 +162,21 @@ pub fn legal_law()
     // Each kind of event may happen with numbers in range, at a moment that is not before the last: a call, an
     // observation, its cancel and its end, a local change and a removal, ticks, a datagram of any stranger, and each
     // datagram that was given out to an end.
-    ensures calls { CallsMay }
+    ensures calls { (addresses : Addresses) → CallsMay addresses }
     // An observation whose numbers are in range may happen at each moment that is not before the last.
-    ensures observes { ObservesMay }
+    ensures observes { (addresses : Addresses) → ObservesMay addresses }
     // So may a cancel, and the end of an observation without a message.
-    ensures ends { EndsMay }
+    ensures ends { (addresses : Addresses) → EndsMay addresses }
     // So may a local change.
-    ensures sets { SetsMay }
+    ensures sets { (addresses : Addresses) → SetsMay addresses }
     // So may a local removal.
-    ensures removes { RemovesMay }
+    ensures removes { (addresses : Addresses) → RemovesMay addresses }
     // So may the ticks of either end.
-    ensures ticks { TicksMay }
+    ensures ticks { (addresses : Addresses) → TicksMay addresses }
     // So may a datagram of any bytes from any address that is no end's.
-    ensures strangers { StrangersMay }
+    ensures strangers { (addresses : Addresses) → StrangersMay addresses }
     // So may each datagram that was given out to an end at most 100,000 ms before.
-    ensures deliveries { DeliveriesMay max_latency }
+    ensures deliveries { (addresses : Addresses) → DeliveriesMay addresses max_latency }
     // Moments don't fall; moments and words have 64 bits, a path has 16 segments at most, and a format has 16 bits.
     ensures falls { NoneFalls }
     // A run is not legal in which a tick has a moment or a word of over 64 bits.
@@ -186,10 +187,10 @@ pub fn legal_law()
     ensures beyond { NoneBeyond }
     // One that was never given out can't come, and a stranger has no end's address.
     ensures given { NoneRuns never_given }
-    // A run is not legal in which a stranger has the client's address.
-    ensures of_client { NoneFrom client_end }
-    // A run is not legal in which a stranger has the server's address.
-    ensures of_server { NoneFrom server_end }
+    // A run is not legal in which a stranger has the address of its client.
+    ensures of_client { NoneFrom (λ config. config.addresses.client) }
+    // A run is not legal in which a stranger has the address of its server.
+    ensures of_server { NoneFrom (λ config. config.addresses.server) }
 {}
 
 /// What the client reports in a legal run.

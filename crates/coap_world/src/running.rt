@@ -24,6 +24,7 @@ ghost use Rattle.coap_world.specs.Run.Happening.{event_of};
 ghost use Rattle.coap_world.specs.Run.Runs.{IsRunOf, IsFirstWrong};
 ghost use Rattle.coap_world.specs.Run.Turning.{Stands};
 
+use crate::addresses::Addresses;
 use crate::running::begin::{client_of, server_of};
 use crate::running::ends::{ClientEnd, ServerEnd};
 use crate::running::put_away::put_away;
@@ -32,7 +33,6 @@ use crate::running::stop::Stop;
 use coap_resource::{MapStore, Store};
 use coap_types::Moment;
 pub use config::WorldConfig;
-pub use drain::{CLIENT_END, SERVER_END};
 pub use event::{Event, Side, What};
 pub use record::{AppliedRequest, Change, Given, Kind, Line, Record};
 use std::alloc::Allocator;
@@ -48,24 +48,25 @@ pub enum RunRefusal {
 
 // Runs the events over two ends, and notes what they do.
 fn run_over<S: Store<A>, A: Allocator + Copy>(
+    addresses: Addresses,
     events: &[Event<A>],
     client: &mut ClientEnd<A>,
     server: &mut ServerEnd<S, A>,
     log: &mut Record<A>,
 ) -> Result<(), RunRefusal>
     ensures record { OnOk result ((config : Config)
-        → Stands ClientLed (ServerLed S.content) config [] [] client.old server.old log.old 0
+        → config.addresses ≡ addresses → Stands ClientLed (ServerLed S.content) config [] [] client.old server.old log.old 0
         → (turns : List Turn) × (last : ℕ)
         × Stands ClientLed (ServerLed S.content) config
         (reverse (map event_of events.now)) turns client.new server.new log.new last) }
     ensures wrong { (number : ℕ) → result ≡ Err (RunRefusal.NotLegal number) → (config : Config)
-        → Stands ClientLed (ServerLed S.content) config [] [] client.old server.old log.old 0
+        → config.addresses ≡ addresses → Stands ClientLed (ServerLed S.content) config [] [] client.old server.old log.old 0
         → IsFirstWrong config (map event_of events.now) number }
 {
     let mut last = Moment(0);
     let mut number = 0;
     'events: while number < events.len() {
-        match step(client, server, log, &mut last, &events[number]) {
+        match step(addresses, client, server, log, &mut last, &events[number]) {
             Ok(()) => {}
             Err(Stop::NotLegal) => return Err(RunRefusal::NotLegal(number)),
             Err(Stop::Memory) => return Err(RunRefusal::Memory),
@@ -92,7 +93,7 @@ pub fn run_with<S: Store<A>, A: Allocator + Copy>(
     };
     let mut client = client_of(config);
     let mut log = Record::new(config.alloc);
-    let done = run_over(events, &mut client, &mut server, &mut log);
+    let done = run_over(config.addresses, events, &mut client, &mut server, &mut log);
     put_away(client);
     put_away(server);
     match done {

@@ -48,7 +48,7 @@ pub fn received_law()
     // In a smooth run no event is more than 1,000 ms behind the one before.
     ensures close { OfLegalRuns (λ config turns. Smooth config turns → AreClose (map (λ (t : Turn). t.event) turns)) }
     // In a smooth run each that is given out to an end is fed to it, at most 1,000 ms later.
-    ensures prompt { OfLegalRuns (λ config turns. Smooth config turns → AllPrompt turns) }
+    ensures prompt { OfLegalRuns (λ config turns. Smooth config turns → AllPrompt config.addresses turns) }
     // What an end is fed, its message layer receives at that moment (RFC 7252, section 4.2).
     ensures received { OfLegalRuns AreReceived }
 {}

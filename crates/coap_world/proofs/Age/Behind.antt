@@ -8,7 +8,7 @@ use Rattle.coap_client.specs.Follows.Words.{Sending}
 use Rattle.coap_client.specs.Trace as C
 use Rattle.coap_client.specs.Trace.{Body, Valid}
 use Rattle.coap_client.proofs.Facts.Laws as client_facts
-use Rattle.coap_world.specs.Events.{server_end, Config}
+use Rattle.coap_world.specs.Events.{Config}
 use Rattle.coap_world.specs.Fresh.{AnswersTo, Behind, AreBehind}
 use Rattle.coap_world.specs.Held.{HeldSince, ValidSince}
 use Rattle.coap_world.specs.Record.{Entry, OfClient, OfServer, client_of}
@@ -29,7 +29,8 @@ module _ (config : Config) where
       → WasSent config.client_sizes x (client_of all) → WasSent config.client_sizes y (client_of all)
       → call_of y.operation ≡ Some number → x.token ≡ y.token → x ≡ y
   one_request all law x y number sent there of token =
-      by (client_facts.tokens server_end config.client_sizes config.client_setup (client_of all) law.client x y sent there
+      by (client_facts.tokens config.addresses.server config.client_sizes config.client_setup (client_of all) law.client
+      x y sent there
       token)
     where
       by : (x ≡ y) ⊎ (Deregisters x y ⊎ Deregisters y x) → x ≡ y
@@ -47,7 +48,8 @@ module _ (config : Config) where
         → (x : Sending) × AnswersTo config number x past (OfClient c)
         × Sometime (Behind config x (HeldSince config number tag format body)) past
     body_behind number tag format body made =
-        let f = (client_facts.bodies server_end config.client_sizes config.client_setup (c ∷ client_of past) law.client).0
+        let f = (client_facts.bodies config.addresses.server config.client_sizes config.client_setup
+        (c ∷ client_of past) law.client).0
         number tag format body made in
         let x : Sending = f.heard.sending in (
           x,
@@ -68,7 +70,8 @@ module _ (config : Config) where
         → (x : Sending) × AnswersTo config number x past (OfClient c)
         × Sometime (Behind config x (ValidSince config number tag)) past
     valid_behind number tag made =
-        let f = (client_facts.valid server_end config.client_sizes config.client_setup (c ∷ client_of past) law.client).0
+        let f = (client_facts.valid config.addresses.server config.client_sizes config.client_setup (c ∷ client_of past)
+        law.client).0
         number tag made in
         let x : Sending = f.heard.sending in (
           x,
@@ -80,7 +83,8 @@ module _ (config : Config) where
                     (one_request past before k.sending x number ((within_back config past p e i).sent k.sending k.sent)
                     f.heard.sent f.heard.of_call (k.token ∙ sym f.heard.token)) k.sent,
               )) past before (within_self config past)
-              (named_in config f.message f.code (heard_understood server_end config.client_sizes config.client_setup
+              (named_in config f.message f.code (heard_understood config.addresses.server config.client_sizes
+              config.client_setup
               (client_of past) c law.client f.message f.heard.heard) past before
               ((all_answered config (OfClient c ∷ past) law).0 f.message f.heard.heard)),
         )

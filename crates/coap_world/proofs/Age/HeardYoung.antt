@@ -28,7 +28,7 @@ use Rattle.coap_client.proofs.Facts.Laws as client_facts
 use Rattle.coap_server.specs.Trace as S
 use Rattle.coap_server.proofs.Facts.EachCall.{Made, con_made, plain_made, reply_made}
 use Rattle.coap_world.specs.Answers.{AnswersAt}
-use Rattle.coap_world.specs.Events.{client_end, server_end, Config}
+use Rattle.coap_world.specs.Events.{Config}
 use Rattle.coap_world.specs.Fresh.{age_in}
 use Rattle.coap_world.specs.Hops.{hops_in, across, client_adds, server_adds}
 use Rattle.coap_world.specs.Record.{Entry, OfClient, OfServer, client_of, server_trace}
@@ -41,72 +41,77 @@ use Rattle.coap_world.proofs.Observations.ToldThen.{begun_then, sent_then}
 use Rattle.coap_world.proofs.Reports.Answered.{answers_at, not_empty}
 use Rattle.coap_world.proofs.Reports.HeardWasSent.{Reads, reads}
 use Rattle.coap_world.proofs.Age.Young.{Young, by_ack, by_open, by_own, And, Covers}
+use Rattle.coap_world.specs.declared.addresses.Addresses.{Addresses}
 
 -- in a CON of the near layer, which can arrive at this moment
-record ConCame (clocks : Clocks) (m : Message) (at : ℕ) (hs : List Hop) : Type 0 where
+record ConCame (addresses : Addresses) (clocks : Clocks) (m : Message) (at : ℕ) (hs : List Hop) : Type 0 where
   pub con : Open
   pub begun_before : Ever (λ b. begun b ≡ Some con) (near_of hs)
-  pub to_is : con.to ≡ client_end
+  pub to_is : con.to ≡ addresses.client
   pub spells : Spells con.bytes m
   pub then : CanArrive clocks con.first at
 
 -- .. a NON that it sent at most MAX_LATENCY before
-record NonCame (clocks : Clocks) (m : Message) (at : ℕ) (hs : List Hop) : Type 0 where
+record NonCame (addresses : Addresses) (clocks : Clocks) (m : Message) (at : ℕ) (hs : List Hop) : Type 0 where
   pub bytes : List ℕ
   pub spells : Spells bytes m
-  pub sent : Meanwhile clocks at (near_of hs) (λ when. Ever (PlainSent client_end bytes when) (near_of hs))
+  pub sent : Meanwhile clocks at (near_of hs) (λ when. Ever (PlainSent addresses.client bytes when) (near_of hs))
 
 -- .. or an acknowledgement that is taken lately, which the far layer was given behind the CON's beginning
-abbrev GivenBehind : ℕ → ℕ → List ℕ → List Hop → Hop → Type 0
-GivenBehind first id bytes past h = OnFar (λ b. b.call ≡ T.Reply client_end id bytes) h × (first ≤ clock (near_of past))
+abbrev GivenBehind : Addresses → ℕ → ℕ → List ℕ → List Hop → Hop → Type 0
+GivenBehind addresses first id bytes past h = OnFar (λ b. b.call ≡ T.Reply addresses.client id bytes) h
+    × (first ≤ clock (near_of past))
 
-record AckCame (clocks : Clocks) (m : Message) (at : ℕ) (hs : List Hop) : Type 0 where
+record AckCame (addresses : Addresses) (clocks : Clocks) (m : Message) (at : ℕ) (hs : List Hop) : Type 0 where
   pub bytes : List ℕ
   pub spells : Spells bytes m
   pub first : ℕ
   pub lately : Lately clocks first at
   pub rested : (rest : ℕ) → Ever (RestsFrom rest) (near_of hs) → rest < first + max_transmit_wait
-  pub given : Sometime (GivenBehind first m.id bytes) hs
+  pub given : Sometime (GivenBehind addresses first m.id bytes) hs
 
-given_by : (clocks : Clocks) (con : Open) (id : ℕ) (bytes other : List ℕ) → con.id ≡ id → bytes ≡ other → (past : List Hop) (h : Hop)
-    → RepliedBehind clocks client_end con bytes past h → GivenBehind con.first id other past h
-given_by clocks con id bytes other is same past (Near e) k = absurd k.0
-given_by clocks con id bytes other is same past (Far e) k = (
-  k.0.call ∙ (ap (λ n. T.Reply client_end n bytes) is ∙ ap (λ z. T.Reply client_end id z) same),
+given_by : (addresses : Addresses) (clocks : Clocks) (con : Open) (id : ℕ) (bytes other : List ℕ) → con.id ≡ id → bytes
+    ≡ other → (past : List Hop) (h : Hop)
+    → RepliedBehind clocks addresses.client con bytes past h → GivenBehind addresses con.first id other past h
+given_by addresses clocks con id bytes other is same past (Near e) k = absurd k.0
+given_by addresses clocks con id bytes other is same past (Far e) k = (
+  k.0.call ∙ (ap (λ n. T.Reply addresses.client n bytes) is ∙ ap (λ z. T.Reply addresses.client id z) same),
   k.1,
 )
 
 -- not in the near layer's own entries
-far_only : (first id : ℕ) (bytes : List ℕ) (xs : List T.Entry) (hs : List Hop)
-    → Sometime (GivenBehind first id bytes) (map Near xs ++ hs) → Sometime (GivenBehind first id bytes) hs
-far_only first id bytes [] hs h = h
-far_only first id bytes (x ∷ xs) hs (inl h) = absurd h.0
-far_only first id bytes (x ∷ xs) hs (inr h) = far_only first id bytes xs hs h
+far_only : (addresses : Addresses) (first id : ℕ) (bytes : List ℕ) (xs : List T.Entry) (hs : List Hop)
+    → Sometime (GivenBehind addresses first id bytes) (map Near xs ++ hs)
+    → Sometime (GivenBehind addresses first id bytes) hs
+far_only addresses first id bytes [] hs h = h
+far_only addresses first id bytes (x ∷ xs) hs (inl h) = absurd h.0
+far_only addresses first id bytes (x ∷ xs) hs (inr h) = far_only addresses first id bytes xs hs h
 
-module _ (clocks : Clocks) (one other : Setup) (m : Message) (at : ℕ) (hs : List Hop) where
+module _ (addresses : Addresses) (clocks : Clocks) (one other : Setup) (m : Message) (at : ℕ) (hs : List Hop) where
   -- the message in the bytes that arrive
   record Spelled (from : T.Entry) : Type 0 where
     pub bytes : List ℕ
-    pub call : from.call ≡ T.Receive server_end bytes
+    pub call : from.call ≡ T.Receive addresses.server bytes
     pub spells : Spells bytes m
 
-  spelled : (setup : Setup) (x : T.Entry) (past : List T.Entry) → LayerLaw setup (x ∷ past) → HeardAt server_end m at x
+  spelled : (setup : Setup) (x : T.Entry) (past : List T.Entry) → LayerLaw setup (x ∷ past)
+      → HeardAt addresses.server m at x
       → Spelled x
   spelled setup x past law h =
       let s = (responses_spelled setup (x ∷ past) law).0 m h.hears.answer in
-      let calls : T.Receive s.from s.bytes ≡ T.Receive server_end h.hears.bytes = sym s.call ∙ h.hears.call in
-      let place : s.from ≡ server_end = cc calls in
+      let calls : T.Receive s.from s.bytes ≡ T.Receive addresses.server h.hears.bytes = sym s.call ∙ h.hears.call in
+      let place : s.from ≡ addresses.server = cc calls in
       record { bytes = s.bytes; call = s.call ∙ ap (λ z. T.Receive z s.bytes) place; spells = s.spells }
 
-  con_came : (adds : List T.Entry) → ChannelLaw clocks one other server_end client_end (map Far adds ++ hs)
-      → Ever (HeardAt server_end m at) adds → m.kind ≡ Con → ConCame clocks m at hs
+  con_came : (adds : List T.Entry) → ChannelLaw clocks one other addresses.server addresses.client (map Far adds ++ hs)
+      → Ever (HeardAt addresses.server m at) adds → m.kind ≡ Con → ConCame addresses clocks m at hs
   con_came [] law h kind = absurd h
   con_came (x ∷ adds) law (inr h) kind = con_came adds
-      (earlier clocks one other server_end client_end (map Far adds ++ hs) (Far x) law) h kind
+      (earlier clocks one other addresses.server addresses.client (map Far adds ++ hs) (Far x) law) h kind
   con_came (x ∷ adds) law (inl h) kind =
       let past = map Far adds ++ hs in
       let s = spelled other x (far_of past) law.far_law h in
-      let w = begun_as clocks one other server_end client_end past x s.bytes law s.call m s.spells kind in
+      let w = begun_as clocks one other addresses.server addresses.client past x s.bytes law s.call m s.spells kind in
       let b = w.so in
       record {
         con = b.con;
@@ -116,39 +121,43 @@ module _ (clocks : Clocks) (one other : Setup) (m : Message) (at : ℕ) (hs : Li
         then = record { instant = w.instant; shown = w.shown ∙ h.at_is; from = b.from; till = b.till };
       }
 
-  non_came : (adds : List T.Entry) → ChannelLaw clocks one other server_end client_end (map Far adds ++ hs)
-      → Ever (HeardAt server_end m at) adds → m.kind ≡ Non → NonCame clocks m at hs
+  non_came : (adds : List T.Entry) → ChannelLaw clocks one other addresses.server addresses.client (map Far adds ++ hs)
+      → Ever (HeardAt addresses.server m at) adds → m.kind ≡ Non → NonCame addresses clocks m at hs
   non_came [] law h kind = absurd h
   non_came (x ∷ adds) law (inr h) kind = non_came adds
-      (earlier clocks one other server_end client_end (map Far adds ++ hs) (Far x) law) h kind
+      (earlier clocks one other addresses.server addresses.client (map Far adds ++ hs) (Far x) law) h kind
   non_came (x ∷ adds) law (inl h) kind =
       let past = map Far adds ++ hs in
       let s = spelled other x (far_of past) law.far_law h in
-      let sent = (nons_sent clocks one other server_end client_end (Far x ∷ past) law).0 x s.bytes m refl s.call s.spells kind
+      let sent = (nons_sent clocks one other addresses.server addresses.client (Far x ∷ past) law).0 x s.bytes m refl
+      s.call s.spells kind
       in
       record {
         bytes = s.bytes;
         spells = s.spells;
-        sent = subst (λ n. Meanwhile clocks n (near_of hs) (λ when. Ever (PlainSent client_end s.bytes when) (near_of hs)))
+        sent = subst (λ n. Meanwhile clocks n (near_of hs) (λ when. Ever (PlainSent addresses.client s.bytes when)
+            (near_of hs)))
             h.at_is
-            (subst (λ l. Meanwhile clocks x.at l (λ when. Ever (PlainSent client_end s.bytes when) l))
+            (subst (λ l. Meanwhile clocks x.at l (λ when. Ever (PlainSent addresses.client s.bytes when) l))
             (near_far adds hs) sent);
       }
 
-  ack_came : (adds : List T.Entry) → ChannelLaw clocks one other client_end server_end (map Near adds ++ hs)
-      → Ever (HeardAt server_end m at) adds → m.kind ≡ Ack → AckCame clocks m at hs
+  ack_came : (adds : List T.Entry) → ChannelLaw clocks one other addresses.client addresses.server (map Near adds ++ hs)
+      → Ever (HeardAt addresses.server m at) adds → m.kind ≡ Ack → AckCame addresses clocks m at hs
   ack_came [] law h kind = absurd h
   ack_came (x ∷ adds) law (inr h) kind = ack_came adds
-      (earlier clocks one other client_end server_end (map Near adds ++ hs) (Near x) law) h kind
+      (earlier clocks one other addresses.client addresses.server (map Near adds ++ hs) (Near x) law) h kind
   ack_came (x ∷ adds) law (inl h) kind =
       let past = map Near adds ++ hs in
       let near = x ∷ near_of past in
       let s = spelled one x (near_of past) law.near_law h in
-      let a = (acks_heard one near law.near_law).0 server_end h.hears.bytes m.id h.hears.call
+      let a = (acks_heard one near law.near_law).0 addresses.server h.hears.bytes m.id h.hears.call
       (inr (m, h.hears.answer, kind, refl)) in
-      let late = (acks_lately clocks one other client_end server_end (Near x ∷ past) law).0 x a.0 refl a.1 a.3 in
-      let behind = (acks_behind clocks one other client_end server_end (Near x ∷ past) law).0 x a.0 refl a.1 a.3 in
-      let calls : T.Receive server_end s.bytes ≡ T.Receive a.0.to a.3.bytes = sym s.call ∙ a.3.call in
+      let late = (acks_lately clocks one other addresses.client addresses.server (Near x ∷ past) law).0 x a.0 refl a.1
+      a.3 in
+      let behind = (acks_behind clocks one other addresses.client addresses.server (Near x ∷ past) law).0 x a.0 refl a.1
+      a.3 in
+      let calls : T.Receive addresses.server s.bytes ≡ T.Receive a.0.to a.3.bytes = sym s.call ∙ a.3.call in
       let there : s.bytes ≡ a.3.bytes = cc calls in
       let bytes : a.3.bytes ≡ s.bytes = sym there in
       record {
@@ -158,18 +167,20 @@ module _ (clocks : Clocks) (one other : Setup) (m : Message) (at : ℕ) (hs : Li
         lately = subst (Lately clocks a.0.first) h.at_is late;
         rested = λ rest r. rested_since one (near_of past) law.near_law.1 a.0 rest a.3.is_outstanding
             (subst (Ever (RestsFrom rest)) (sym (near_near adds hs)) (Ever_back (RestsFrom rest) adds (near_of hs) r));
-        given = far_only a.0.first m.id s.bytes adds hs
-            (Sometime_map (RepliedBehind clocks client_end a.0 a.3.bytes) (GivenBehind a.0.first m.id s.bytes)
-            (given_by clocks a.0 m.id a.3.bytes s.bytes a.2 bytes) past behind);
+        given = far_only addresses a.0.first m.id s.bytes adds hs
+            (Sometime_map (RepliedBehind clocks addresses.client a.0 a.3.bytes)
+            (GivenBehind addresses a.0.first m.id s.bytes)
+            (given_by addresses clocks a.0 m.id a.3.bytes s.bytes a.2 bytes) past behind);
       }
 
 -- what is handed up is a response
-role_heard : (setup : Setup) (m : Message) (at : ℕ) (xs past : List T.Entry) → LayerLaw setup (xs ++ past)
-    → Ever (HeardAt server_end m at) xs → role_of m.code ≡ role.Response
-role_heard setup m at [] past law h = absurd h
-role_heard setup m at (x ∷ xs) past law (inr h) = role_heard setup m at xs past law.1 h
-role_heard setup m at (x ∷ xs) past law (inl h) =
-    (reads setup (xs ++ past) x server_end h.hears.bytes m law.0 h.hears.call h.hears.answer).role
+role_heard : (addresses : Addresses) (setup : Setup) (m : Message) (at : ℕ) (xs past : List T.Entry)
+    → LayerLaw setup (xs ++ past)
+    → Ever (HeardAt addresses.server m at) xs → role_of m.code ≡ role.Response
+role_heard addresses setup m at [] past law h = absurd h
+role_heard addresses setup m at (x ∷ xs) past law (inr h) = role_heard addresses setup m at xs past law.1 h
+role_heard addresses setup m at (x ∷ xs) past law (inl h) =
+    (reads setup (xs ++ past) x addresses.server h.hears.bytes m law.0 h.hears.call h.hears.answer).role
 
 module _ (config : Config) where
   -- the server's layer has such an entry from this call
@@ -191,25 +202,27 @@ module _ (config : Config) where
 
   -- .. and how far the client's layer had come
   abbrev IsGiven : ℕ → List ℕ → T.Entry → Type 0
-  IsGiven id bytes b = b.call ≡ T.Reply client_end id bytes
+  IsGiven id bytes b = b.call ≡ T.Reply config.addresses.client id bytes
 
   abbrev GivenAt : ℕ → ℕ → List ℕ → List Entry → Entry → Type 0
   GivenAt first id bytes past e = AddsAt (IsGiven id bytes) past e × (first ≤ clock (near_of (hops_in config past)))
 
   in_far : (first id : ℕ) (bytes : List ℕ) (xs : List T.Entry) (hs : List Hop)
-      → Sometime (GivenBehind first id bytes) (map Far xs ++ hs)
-      → (Ever (IsGiven id bytes) xs × (first ≤ clock (near_of hs))) ⊎ Sometime (GivenBehind first id bytes) hs
+      → Sometime (GivenBehind config.addresses first id bytes) (map Far xs ++ hs)
+      → (Ever (IsGiven id bytes) xs × (first ≤ clock (near_of hs)))
+      ⊎ Sometime (GivenBehind config.addresses first id bytes) hs
   in_far first id bytes [] hs h = inr h
   in_far first id bytes (x ∷ xs) hs (inl k) = inl
       (inl k.0, subst (λ l. first ≤ clock l) (near_far xs hs) k.1)
   in_far first id bytes (x ∷ xs) hs (inr h) = elim (in_far first id bytes xs hs h)
       [ inl k ↦ inl (inr k.0, k.1) | inr k ↦ inr k ]
 
-  given_at : (first id : ℕ) (bytes : List ℕ) (all : List Entry) → Sometime (GivenBehind first id bytes) (hops_in config all)
+  given_at : (first id : ℕ) (bytes : List ℕ) (all : List Entry)
+      → Sometime (GivenBehind config.addresses first id bytes) (hops_in config all)
       → Sometime (GivenAt first id bytes) all
   given_at first id bytes [] h = h
   given_at first id bytes (OfClient c ∷ past) h = inr (given_at first id bytes past
-      (far_only first id bytes (client_adds config (client_of past) c) (hops_in config past) h))
+      (far_only config.addresses first id bytes (client_adds config (client_of past) c) (hops_in config past) h))
   given_at first id bytes (OfServer c ∷ past) h =
       elim (in_far first id bytes (server_adds config (server_trace config past) c) (hops_in config past) h) [
         | inl k ↦ inl k
@@ -219,7 +232,8 @@ module _ (config : Config) where
   module _ (m : Message) (is_response : role_of m.code ≡ role.Response) where
     -- the call that gave it to the layer made it
     answers : (past : List Entry) (c : S.Call)
-        → Made config.limits config.server_szx config.server_setup client_end m (server_trace config past) c
+        → Made config.limits config.server_szx config.server_setup config.addresses.client m (server_trace config past)
+        c
         → AnswersAt config m past (OfServer c)
     answers past c k =
         let r : Reads k.packet.bytes m = record { spells = k.spells; role = is_response } in
@@ -232,7 +246,8 @@ module _ (config : Config) where
       abbrev IsYoung : List Entry → Entry → Type 0
       IsYoung = And (AnswersAt config m) (Young config clocks gain max_age at)
 
-      con_young : last_arrival + gain ≤ max_age → (con : Open) → con.to ≡ client_end → Spells con.bytes m → CanArrive (turned clocks) con.first at
+      con_young : last_arrival + gain ≤ max_age → (con : Open) → con.to ≡ config.addresses.client → Spells con.bytes m
+          → CanArrive (turned clocks) con.first at
           → (past : List Entry) (e : Entry) → Lawful config (e ∷ past) → AddsAt (λ b. begun b ≡ Some con) past e
           → IsYoung past e
       con_young enough con place spells then past (OfClient c) law h = absurd h
@@ -240,21 +255,24 @@ module _ (config : Config) where
           let t = server_trace config past in
           let first = begun_then config t c con h in
           let till = then.till in (
-            answers past c (con_made config.limits config.server_szx config.server_setup client_end m t c law.server con h
+            answers past c (con_made config.limits config.server_szx config.server_setup config.addresses.client m t c
+                law.server con h
                 place spells),
             by_own tt last_arrival enough (omega arith) then.instant then.shown (omega (arith, first, till)),
           )
 
       non_young : max_latency + gain ≤ max_age → (bytes : List ℕ) → Spells bytes m → (i : ℕ) → clocks.near i ≡ at
           → (past : List Entry) (e : Entry) → Lawful config (e ∷ past)
-          → AddsAt (PlainSent client_end bytes (clocks.far i)) past e → IsYoung past e
+          → AddsAt (PlainSent config.addresses.client bytes (clocks.far i)) past e → IsYoung past e
       non_young enough bytes spells i shown past (OfClient c) law h = absurd h
       non_young enough bytes spells i shown past (OfServer c) law h =
           let t = server_trace config past in
-          let till = sent_then config t c client_end bytes (clocks.far i) h in (
-            answers past c (plain_made config.limits config.server_szx config.server_setup client_end m t c law.server bytes
-                (Ever_map (PlainSent client_end bytes (clocks.far i))
-                (λ b. PlainOut b (record { to = client_end; bytes = bytes })) (λ b k. k.goes) (server_adds config t c) h)
+          let till = sent_then config t c config.addresses.client bytes (clocks.far i) h in (
+            answers past c (plain_made config.limits config.server_szx config.server_setup config.addresses.client m t c
+                law.server bytes
+                (Ever_map (PlainSent config.addresses.client bytes (clocks.far i))
+                (λ b. PlainOut b (record { to = config.addresses.client; bytes = bytes })) (λ b k. k.goes)
+                (server_adds config t c) h)
                 spells),
             by_own tt max_latency enough (omega arith) i shown till,
           )
@@ -268,7 +286,8 @@ module _ (config : Config) where
       ack_young bytes spells first soon past (OfClient c) law h = absurd h.0
       ack_young bytes spells first soon past (OfServer c) law h =
           let t = server_trace config past in (
-            answers past c (reply_made config.limits config.server_szx config.server_setup client_end m t c law.server bytes
+            answers past c (reply_made config.limits config.server_szx config.server_setup config.addresses.client m t c
+                law.server bytes
                 h.0 spells),
             elim soon [ inl k ↦ by_ack tt k.0 first h.1 k.1 | inr k ↦ by_open tt first h.1 k ],
           )
@@ -276,7 +295,7 @@ module _ (config : Config) where
   -- what the message layer of the client hands up at this moment
   pub came_young : (past : List Entry) (c : C.Call) → (law : Lawful config (OfClient c ∷ past)) → (m : Message)
       (gain max_age at : ℕ) → Covers config gain max_age at past m
-      → Ever (HeardAt server_end m at) (client_adds config (client_of past) c)
+      → Ever (HeardAt config.addresses.server m at) (client_adds config (client_of past) c)
       → (m.kind ≡ Con) ⊎ ((m.kind ≡ Non) ⊎ (m.kind ≡ Ack))
       → Sometime (And (AnswersAt config m) (Young config law.clocks gain max_age at)) past
   came_young past c law m gain max_age at covers heard kind = by kind covers
@@ -291,17 +310,21 @@ module _ (config : Config) where
       back w e l = lawful_back config w e l
 
       response : role_of m.code ≡ role.Response
-      response = role_heard config.client_setup m at adds (client_layer config (client_of past))
+      response = role_heard config.addresses config.client_setup m at adds (client_layer config (client_of past))
           (subst (LayerLaw config.client_setup) (client_next config (client_of past) c)
-          (client_facts.layer server_end config.client_sizes config.client_setup (client_of (OfClient c ∷ past)) law.client))
+          (client_facts.layer config.addresses.server config.client_sizes config.client_setup
+          (client_of (OfClient c ∷ past)) law.client))
           heard
 
-      law_across : ChannelLaw (turned law.clocks) config.server_setup config.client_setup server_end client_end
+      law_across : ChannelLaw (turned law.clocks) config.server_setup config.client_setup config.addresses.server
+          config.addresses.client
           (map Far adds ++ across (hops_in config past))
       law_across =
-          subst (ChannelLaw (turned law.clocks) config.server_setup config.client_setup server_end client_end)
+          subst (ChannelLaw (turned law.clocks) config.server_setup config.client_setup config.addresses.server
+          config.addresses.client)
           (across_near adds (hops_in config past))
-          (channel_across law.clocks config.client_setup config.server_setup client_end server_end
+          (channel_across law.clocks config.client_setup config.server_setup config.addresses.client
+          config.addresses.server
           (hops_in config (OfClient c ∷ past)) law.channel)
 
       IsSo : List Entry → Entry → Type 0
@@ -309,7 +332,8 @@ module _ (config : Config) where
 
       in_con : m.kind ≡ Con → last_arrival + gain ≤ max_age → Sometime IsSo past
       in_con is enough =
-          let k = con_came (turned law.clocks) config.server_setup config.client_setup m at (across (hops_in config past)) adds
+          let k = con_came config.addresses (turned law.clocks) config.server_setup config.client_setup m at
+          (across (hops_in config past)) adds
           law_across heard is in
           by_suffix (Lawful config) (AddsAt (λ b. begun b ≡ Some k.con)) IsSo back
           (con_young m response law.clocks gain max_age at enough k.con k.to_is k.spells k.then) past before
@@ -318,10 +342,11 @@ module _ (config : Config) where
 
       in_non : m.kind ≡ Non → max_latency + gain ≤ max_age → Sometime IsSo past
       in_non is enough =
-          let k = non_came (turned law.clocks) config.server_setup config.client_setup m at (across (hops_in config past)) adds
+          let k = non_came config.addresses (turned law.clocks) config.server_setup config.client_setup m at
+          (across (hops_in config past)) adds
           law_across heard is in
           let w = k.sent in
-          let K : T.Entry → Type 0 = PlainSent client_end k.bytes (law.clocks.far w.instant) in
+          let K : T.Entry → Type 0 = PlainSent config.addresses.client k.bytes (law.clocks.far w.instant) in
           by_suffix (Lawful config) (AddsAt K) IsSo back
           (non_young m response law.clocks gain max_age at enough k.bytes k.spells w.instant w.shown) past before
           (located K past (subst (Ever K) (near_across (hops_in config past)) w.so))
@@ -331,7 +356,8 @@ module _ (config : Config) where
           ⊎ ((rest : ℕ) × Ever (RestsFrom rest) (near_of (hops_in config past)) × (at + max_transmit_wait ≤ rest + max_age))
           → Sometime IsSo past
       in_ack is why =
-          let k = ack_came law.clocks config.client_setup config.server_setup m at (hops_in config past) adds law.channel heard
+          let k = ack_came config.addresses law.clocks config.client_setup config.server_setup m at
+          (hops_in config past) adds law.channel heard
           is in
           let soon : Soon m response law.clocks gain max_age at k.first = elim why [
             | inl enough ↦ inl (enough, k.lately)

@@ -91,15 +91,17 @@ module _ (config : Config) where
 
   -- what holds of a record and of each past of it
   pub record Facts (k : Clocks) (clocks : AreClocks k) (turns : List Turn) : Type 0 where
+    pub two : config.addresses.client ≡ config.addresses.server → ⊥
     pub law : LawfulBy (of_layers k) (entries_of turns)
     pub formats : FormatsIn (entries_of turns)
-    pub made : Made turns
-    pub legal : Always (IsLegal k) turns
-    pub stills : Stills k config clocks turns
+    pub made : Made config.addresses turns
+    pub legal : Always (IsLegal config.addresses k) turns
+    pub stills : Stills k config two clocks turns
 
   down : (k : Clocks) (clocks : AreClocks k) (t : Turn) (past : List Turn) → Facts k clocks (t ∷ past)
       → Facts k clocks past
   down k clocks t past f = record {
+    two = f.two;
     law = by_before (of_layers k) t.entries (entries_of past) f.law;
     formats = formats_before t.entries (entries_of past) f.formats;
     made = f.made.1;
@@ -232,7 +234,8 @@ module _ (config : Config) where
               → Always (λ past turn. Has Here past turn → Conclusion past) turns
           fresh [] f = tt
           fresh (t ∷ past) f = (
-            (λ h. at_turn t past f (side k past t.event.at t.event.word t.refused t.entries t.event.what f.made.0
-                (comes_any k past t.event.at t.event.what f.legal.0.comes)) h),
+            (λ h. at_turn t past f (side config.addresses f.two k past t.event.at t.event.word t.refused t.entries
+                t.event.what f.made.0
+                (comes_any config.addresses k past t.event.at t.event.what f.legal.0.comes)) h),
             fresh past (down k clocks t past f),
           )

@@ -24,7 +24,7 @@ use Rattle.coap_client.specs.Trace.{Report, Body, Valid, Value}
 use Rattle.coap_client.proofs.Facts.EachCall.{are_of_types, rests_here}
 use Rattle.coap_client.specs.Follows.Types.{IsOfType}
 use Rattle.coap_world.specs.Clocks.{Clocks, of_layers, IsLegal, Legal}
-use Rattle.coap_world.specs.Events.{server_end, Config, Event}
+use Rattle.coap_world.specs.Events.{Config, Event}
 use Rattle.coap_world.specs.Fresh.{AreBehind, AreFresh, AreFreshIf, ComesIn, GainsAtMost, Has, IsFresh, Reported}
 use Rattle.coap_world.specs.Fresh.{RestsFrom, TickedWithin, age_in}
 use Rattle.coap_world.specs.Held.{HeldSince, ValidSince, ValueSince}
@@ -44,6 +44,7 @@ use Rattle.coap_world.proofs.Reports.FormatsSet.{formats_in_of}
 use Rattle.coap_world.proofs.Requests.CallsInRange.{ranges_by}
 use Rattle.coap_world.proofs.Requests.OfACall.{Lawful, lawful_back}
 use Rattle.coap_world.proofs.Requests.Promised.{comes_by, came_by}
+use Rattle.coap_world.specs.declared.addresses.Addresses.{Addresses}
 
 -- each type's age is at most the greatest
 at_most : (kind : Kind) → age_in kind ≤ exchange_lifetime
@@ -83,7 +84,8 @@ module _ (config : Config) where
       (Ever_front (layers.RestsFrom when) adds (near_of (hops_in config past))
       (Ever_map (layers.RestsFrom now) (layers.RestsFrom when)
       (λ e r. record { call = r.call; answer = r.answer; from = (let f = r.from in omega (arith, f, h)) }) adds
-      (rests_here server_end config.client_sizes config.client_setup (client_of past) now word turn sent token kept answer
+      (rests_here config.addresses.server config.client_sizes config.client_setup (client_of past) now word turn sent
+      token kept answer
       law.client)))
   in_hops (OfClient c ∷ past) when law (inl h) = absurd h
 
@@ -101,8 +103,9 @@ module _ (k : Clocks) (config : Config) (events : List Event) (turns : List Turn
 
   facts : Facts config k legal.clocks turns
   facts = record {
+    two = legal.range.addresses.two;
     law = record { law = law; is = refl };
-    formats = formats_in_of turns run.made (ranges_by k turns legal.events);
+    formats = formats_in_of config.addresses turns run.made (ranges_by config.addresses k turns legal.events);
     made = run.made;
     legal = legal.events;
     stills = joined.stills_by k config events turns run legal;
@@ -110,7 +113,7 @@ module _ (k : Clocks) (config : Config) (events : List Event) (turns : List Turn
 
   pub behind_by : AreBehind config (entries_of turns)
   behind_by = are_behind config legal.range.server_szx (entries_of turns) law
-      (formats_in_of turns run.made (ranges_by k turns legal.events))
+      (formats_in_of config.addresses turns run.made (ranges_by config.addresses k turns legal.events))
 
   abbrev pub client_clock : List Turn → Turn → ℕ
   client_clock past t = k.client (length past)
@@ -145,7 +148,8 @@ module _ (k : Clocks) (config : Config) (events : List Event) (turns : List Turn
     -- by the type of the message
     pub fresh_in : (kind : Kind) → AreFreshIf config client_clock (age_in kind + gain) (λ past e. ComesIn kind e) turns
     fresh_in kind = fresh_if (age_in kind + gain) (λ past e. ComesIn kind e)
-        (λ past c l comes m h. inl (let same : age_in m.kind ≡ age_in kind = ap age_in (comes m h) in omega (arith, same)))
+        (λ past c l comes m h. inl (let same : age_in m.kind
+        ≡ age_in kind = ap age_in (comes m h) in omega (arith, same)))
 
     pub fresh_by : AreFresh config client_clock (exchange_lifetime + gain) turns
     fresh_by =
@@ -184,7 +188,7 @@ module _ (k : Clocks) (config : Config) (events : List Event) (turns : List Turn
     fresh_over time short = fresh_if (last_arrival + gain) (TickedWithin config time) covers
       where
         types_of : (past : List Entry) (c : C.Call) → Lawful config (OfClient c ∷ past) → IsOfType c
-        types_of past c l = (are_of_types server_end config.client_sizes config.client_setup
+        types_of past c l = (are_of_types config.addresses.server config.client_sizes config.client_setup
             (client_of (OfClient c ∷ past)) l.client).0
 
         by : (past : List Entry) (c : C.Call) → Lawful config (OfClient c ∷ past) → TickedWithin config time past (OfClient c)
@@ -224,17 +228,19 @@ module _ (k : Clocks) (config : Config) (events : List Event) (turns : List Turn
 
 -- by one clock
 
-module _ (f : ℕ → ℕ) where
+module _ (addresses : Addresses) (two : addresses.client ≡ addresses.server → ⊥) (f : ℕ → ℕ) where
   abbrev same : Clocks
   same = record { client = f; server = f }
 
-  shown_at : (t : Turn) (past : List Turn) → Made (t ∷ past) → IsLegal same past t → f (length past) ≡ t.event.at
+  shown_at : (t : Turn) (past : List Turn) → Made addresses (t ∷ past) → IsLegal addresses same past t → f (length past)
+      ≡ t.event.at
   shown_at t past made legal = ⊎_elim (λ s. s.1) (λ s. s.1)
-      (side same past t.event.at t.event.word t.refused t.entries t.event.what made.0
-      (comes_any same past t.event.at t.event.what legal.comes))
+      (side addresses two same past t.event.at t.event.word t.refused t.entries t.event.what made.0
+      (comes_any addresses same past t.event.at t.event.what legal.comes))
 
   module _ (config : Config) (Here Was : List Entry → Entry → Type 0) where
-    each_at : (now at : ℕ) → now ≡ at → (turns : List Turn) → Made turns → Always (IsLegal same) turns
+    each_at : (now at : ℕ) → now ≡ at → (turns : List Turn) → Made addresses turns
+        → Always (IsLegal addresses same) turns
         → Sometime (λ before other. Has Was before other × (now ≤ f (length before) + (exchange_lifetime + 0))) turns
         → Sometime (λ before other. Has Was before other × (at ≤ other.event.at + exchange_lifetime)) turns
     each_at now at is [] made legal h = h
@@ -244,7 +250,7 @@ module _ (f : ℕ → ℕ) where
         let young = h.1 in
         inl (h.0, omega (arith, is, shown, young))
 
-    by_events : (turns : List Turn) → Made turns → Always (IsLegal same) turns
+    by_events : (turns : List Turn) → Made addresses turns → Always (IsLegal addresses same) turns
         → IsFresh config (λ past t. f (length past)) (exchange_lifetime + 0) Here Was turns
         → IsFresh config (λ past t. t.event.at) exchange_lifetime Here Was turns
     by_events [] made legal h = tt
@@ -258,14 +264,17 @@ pub fresh_at_one : (config : Config) (events : List Event) (turns : List Turn) �
 fresh_at_one config events turns run legal =
     let two = by_one config turns legal in
     let f = two.0 in
-    let k = fresh_by (same f) config events turns run two.1 0 (λ i j passed short h. omega (arith, h)) in
+    let k = fresh_by (same config.addresses legal.range.addresses.two f) config events turns run two.1 0
+    (λ i j passed short h. omega (arith, h)) in
     record {
-      bodies = λ number tag format body. by_events f config
+      bodies = λ number tag format body. by_events config.addresses legal.range.addresses.two f config
           (ReportsAt config (record { number = number; report = Body tag format body }))
           (HeldSince config number tag format body) turns run.made two.1.events (k.bodies number tag format body);
-      valid = λ number tag. by_events f config (ReportsAt config (record { number = number; report = Valid tag })) (ValidSince config number tag) turns run.made two.1.events
+      valid = λ number tag. by_events config.addresses legal.range.addresses.two f config
+          (ReportsAt config (record { number = number; report = Valid tag })) (ValidSince config number tag) turns
+          run.made two.1.events
           (k.valid number tag);
-      values = λ number sequence tag format body. by_events f config
+      values = λ number sequence tag format body. by_events config.addresses legal.range.addresses.two f config
           (ReportsAt config (record { number = number; report = Value sequence tag format body }))
           (ValueSince config number sequence tag format body) turns run.made two.1.events
           (k.values number sequence tag format body);

@@ -15,7 +15,7 @@ use Rattle.coap_client.specs.Trace.{Body, Valid, Value}
 use Rattle.coap_client.proofs.Facts.EachCall.{are_noted, are_of_types, are_taken, heard_then, values_are_whole}
 use Rattle.coap_client.proofs.Facts.Laws as client_facts
 use Rattle.coap_world.specs.Answers.{AnswersAt}
-use Rattle.coap_world.specs.Events.{server_end, Config}
+use Rattle.coap_world.specs.Events.{Config}
 use Rattle.coap_world.specs.Held.{HeldSince, ValidSince, ValueSince}
 use Rattle.coap_world.specs.Record.{Entry, OfClient, client_of}
 use Rattle.coap_world.specs.Words.{ReportsAt}
@@ -47,35 +47,41 @@ module _ (config : Config) (small : config.server_szx ≤ 6) (past : List Entry)
   before = lawful_back config past (OfClient c) law
 
   types : IsOfType c
-  types = (are_of_types server_end config.client_sizes config.client_setup (client_of (OfClient c ∷ past)) law.client).0
+  types = (are_of_types config.addresses.server config.client_sizes config.client_setup (client_of (OfClient c ∷ past))
+      law.client).0
 
   heard_young : (m : Message) → hears c ≡ Some m → Sometime (And (AnswersAt config m) Y) past
   heard_young m heard = came_young config past c law m gain max_age now (covers m (inl heard))
-      (heard_then server_end config.client_sizes config.client_setup (client_of past) c m
-      ((client_facts.handed_up server_end config.client_sizes config.client_setup (client_of (OfClient c ∷ past)) law.client).0
+      (heard_then config.addresses.server config.client_sizes config.client_setup (client_of past) c m
+      ((client_facts.handed_up config.addresses.server config.client_sizes config.client_setup
+      (client_of (OfClient c ∷ past)) law.client).0
       m heard)) (types.heard m heard)
 
   noted_young : (m : Message) → notes c ≡ Some m → Sometime (And (AnswersAt config m) Y) past
   noted_young m noted = came_young config past c law m gain max_age now (covers m (inr noted))
-      (heard_then server_end config.client_sizes config.client_setup (client_of past) c m
-      ((are_noted server_end config.client_sizes config.client_setup (client_of (OfClient c ∷ past)) law.client).0 m noted))
+      (heard_then config.addresses.server config.client_sizes config.client_setup (client_of past) c m
+      ((are_noted config.addresses.server config.client_sizes config.client_setup (client_of (OfClient c ∷ past))
+      law.client).0 m noted))
       (elim (types.noted m noted) [ inl z ↦ inl z | inr z ↦ inr (inl z) ])
 
   heard_shown : (m : Message) → hears c ≡ Some m → m.code ≡ content → Sometime (And (ShownAt config m) Y) past
   heard_shown m heard code = shown_so config Y m code
-      (heard_understood server_end config.client_sizes config.client_setup (client_of past) c law.client m heard) small past
+      (heard_understood config.addresses.server config.client_sizes config.client_setup (client_of past) c law.client m
+      heard) small past
       before formats (heard_young m heard)
 
   noted_shown : (m : Message) → notes c ≡ Some m → m.code ≡ content → Sometime (And (ShownAt config m) Y) past
   noted_shown m noted code = shown_so config Y m code
-      (noted_understood server_end config.client_sizes config.client_setup (client_of past) c law.client m noted) small past
+      (noted_understood config.addresses.server config.client_sizes config.client_setup (client_of past) c law.client m
+      noted) small past
       before formats (noted_young m noted)
 
   pub body_young : (number : ℕ) (tag : Option (List ℕ)) (format : Option ℕ) (body : List ℕ)
       → ReportsAt config (record { number = number; report = Body tag format body }) past (OfClient c)
       → Sometime (And (HeldSince config number tag format body) Y) past
   body_young number tag format body made =
-      let f = (client_facts.bodies server_end config.client_sizes config.client_setup (c ∷ client_of past) law.client).0
+      let f = (client_facts.bodies config.addresses.server config.client_sizes config.client_setup (c ∷ client_of past)
+      law.client).0
       number tag format body made in
       each_within config (And (ShownAt config f.message) Y) (And (HeldSince config number tag format body) Y) past
       (λ p e l i k. (
@@ -88,12 +94,14 @@ module _ (config : Config) (small : config.server_szx ≤ 6) (past : List Entry)
       → ReportsAt config (record { number = number; report = Valid tag }) past (OfClient c)
       → Sometime (And (ValidSince config number tag) Y) past
   valid_young number tag made =
-      let f = (client_facts.valid server_end config.client_sizes config.client_setup (c ∷ client_of past) law.client).0 number
+      let f = (client_facts.valid config.addresses.server config.client_sizes config.client_setup (c ∷ client_of past)
+      law.client).0 number
       tag made in
       each_within config (And (NamedAt config f.message) Y) (And (ValidSince config number tag) Y) past
       (λ p e l i k. (valid_here config number tag past before c f p e l i k.0, k.1)) past before (within_self config past)
       (named_so config Y f.message f.code
-      (heard_understood server_end config.client_sizes config.client_setup (client_of past) c law.client f.message
+      (heard_understood config.addresses.server config.client_sizes config.client_setup (client_of past) c law.client
+      f.message
       f.heard.heard) past before (heard_young f.message f.heard.heard))
 
   module _ (number sequence : ℕ) (tag : Option (List ℕ)) (format : Option ℕ) (body : List ℕ)
@@ -101,7 +109,8 @@ module _ (config : Config) (small : config.server_szx ≤ 6) (past : List Entry)
     first_young : notifies (own_of config.client_sizes (client_of past)) c ≡ Some f.first
         → Sometime (And (ShownAt config f.first.message) Y) past
     first_young is =
-        let k = (are_taken server_end config.client_sizes config.client_setup (client_of (OfClient c ∷ past)) law.client).0
+        let k = (are_taken config.addresses.server config.client_sizes config.client_setup
+        (client_of (OfClient c ∷ past)) law.client).0
         f.first is in
         let code = notification_code f.first.message k.notification in
         elim k.comes [
@@ -119,7 +128,8 @@ module _ (config : Config) (small : config.server_szx ≤ 6) (past : List Entry)
       → ReportsAt config (record { number = number; report = Value sequence tag format body }) past (OfClient c)
       → Sometime (And (ValueSince config number sequence tag format body) Y) past
   value_young number sequence tag format body made =
-      let f = (values_are_whole config.client_sizes server_end config.client_setup (c ∷ client_of past) law.client).0 number
+      let f = (values_are_whole config.client_sizes config.addresses.server config.client_setup (c ∷ client_of past)
+      law.client).0 number
       sequence tag format body made in
       each_within config (And (ShownAt config f.last) Y) (And (ValueSince config number sequence tag format body) Y) past
       (λ p e l i k. (value_at config small number sequence tag format body past c law formats f p e l i k.0, k.1)) past before

@@ -4,7 +4,7 @@ use Rattle.coap_layer.specs.Channel.{Near, Far}
 use Rattle.coap_layer.specs.Trace.{Packet}
 use Rattle.coap_client.specs.Trace as C
 use Rattle.coap_server.specs.Trace as S
-use Rattle.coap_world.specs.Events.{client_end, server_end, Config}
+use Rattle.coap_world.specs.Events.{Config}
 use Rattle.coap_world.specs.Hops.{client_asks, client_asked, server_asks, server_asked}
 use Rattle.coap_world.specs.Record.{Entry, OfClient, OfServer, client_of, server_of, server_trace, begun_with, given_by}
 use Rattle.coap_world.proofs.Delivery.ClientInTime as client
@@ -12,16 +12,17 @@ use Rattle.coap_world.proofs.Delivery.End.{End}
 use Rattle.coap_world.proofs.Delivery.HopsAreEntries.{client_asked_next, server_asked_next}
 use Rattle.coap_world.proofs.Delivery.OneEndATurn.{client_client, server_server}
 use Rattle.coap_world.proofs.Delivery.ServerInTime as server
+use Rattle.coap_world.specs.declared.addresses.Addresses.{Addresses}
 
-pub client_gives : (t : ℕ) (c : C.Call)
-    → ((answer : Option Packet) × (c ≡ C.NextOut answer)) ⊎ (given_by t (OfClient c) ≡ [])
-client_gives t (C.NextOut answer) = inl (answer, refl)
-client_gives t _ = inr refl
+pub client_gives : (addresses : Addresses) (t : ℕ) (c : C.Call)
+    → ((answer : Option Packet) × (c ≡ C.NextOut answer)) ⊎ (given_by addresses t (OfClient c) ≡ [])
+client_gives addresses t (C.NextOut answer) = inl (answer, refl)
+client_gives addresses t _ = inr refl
 
-pub server_gives : (t : ℕ) (c : S.Call)
-    → ((answer : Option Packet) × (c ≡ S.NextOut answer)) ⊎ (given_by t (OfServer c) ≡ [])
-server_gives t (S.NextOut answer) = inl (answer, refl)
-server_gives t _ = inr refl
+pub server_gives : (addresses : Addresses) (t : ℕ) (c : S.Call)
+    → ((answer : Option Packet) × (c ≡ S.NextOut answer)) ⊎ (given_by addresses t (OfServer c) ≡ [])
+server_gives addresses t (S.NextOut answer) = inl (answer, refl)
+server_gives addresses t _ = inr refl
 
 module _ (config : Config) where
   pub trace_is : (cs : List S.Call) (es : List Entry)
@@ -40,11 +41,11 @@ module _ (config : Config) where
     asked_next = client_asked_next config;
     mark = Near;
     hops = λ es c. refl;
-    place = client_end;
+    place = config.addresses.client;
     out = C.NextOut;
     takes = λ past answer. refl;
     gives = λ t answer. refl;
-    others_give = client_gives;
+    others_give = client_gives config.addresses;
     IsBy = client.IsBy config;
     IsAt = client.IsAt;
     Fed = client.Fed;
@@ -63,11 +64,11 @@ module _ (config : Config) where
     asked_next = server_asked_next config;
     mark = Far;
     hops = λ es c. refl;
-    place = server_end;
+    place = config.addresses.server;
     out = S.NextOut;
     takes = λ past answer. refl;
     gives = λ t answer. refl;
-    others_give = server_gives;
+    others_give = server_gives config.addresses;
     IsBy = server.IsBy config;
     IsAt = server.IsAt;
     Fed = server.Fed;

@@ -24,7 +24,7 @@ use Rattle.coap_client.specs.Follows.Clock.{moment_of}
 use Rattle.coap_common.proofs.Facts.Adds.{left_append}
 use Rattle.coap_client.proofs.Facts.Laws.{clock_is}
 use Rattle.coap_world.specs.Delivery.{FedToClient}
-use Rattle.coap_world.specs.Events.{server_end, Config}
+use Rattle.coap_world.specs.Events.{Config}
 use Rattle.coap_world.specs.Record.{OfClient}
 use Rattle.coap_world.specs.Hops.{client_asks, client_asked, client_adds}
 use Rattle.coap_world.proofs.Delivery.HopsAreEntries.{client_asked_next}
@@ -173,7 +173,7 @@ module _ (config : Config) where
       → Done t (Fed (Forgets number kept answer)) (before past) (client_asks config past (Forgets number kept answer))
   forgets_done t past number kept true by =
       subst (Done t (Fed (Forgets number kept true)) (before past))
-      (sym (forgets_nothing server_end config.client_setup (exchanges past)
+      (sym (forgets_nothing config.addresses.server config.client_setup (exchanges past)
       (observation_of number (own past).observations) (own past) 0 0 _ _ kept))
       (nothing_done t (Fed (Forgets number kept true)) (before past) by.layer)
   forgets_done t past number kept false by = nothing_done t (Fed (Forgets number kept false)) (before past) by.layer
@@ -188,7 +188,7 @@ module _ (config : Config) where
       let h : m ≤ t = omega (arith, o, at) in
       let k : t ≤ m = omega (arith, at) in
       let c : Call = Feeds now from bytes word up settled event sent token kept in
-      let w = input_done t (Fed c) server_end config.client_setup (exchanges past)
+      let w = input_done t (Fed c) config.addresses.server config.client_setup (exchanges past)
       (effect (own past) c) m word sent token kept (A.Receive m from bytes up settled event) h
       (h, (now, word, up, settled, event, sent, token, kept, refl)) k in
       done t (Fed c) (before past) _ by.layer w.0 w.1
@@ -198,7 +198,7 @@ module _ (config : Config) where
       let h : m ≤ t = omega (arith, o, at) in
       let k : t ≤ m = omega (arith, at) in
       let c : Call = Ticks now word below turn sent token kept answer in
-      let w = input_done t (Fed c) server_end config.client_setup (exchanges past)
+      let w = input_done t (Fed c) config.addresses.server config.client_setup (exchanges past)
       (effect (own past) c) m word sent token kept (A.Ticks m below turn) h h k in
       done t (Fed c) (before past) _ by.layer w.0 w.1
   asks_done t past c by at = nothing_done t (Fed c) (before past) by.layer

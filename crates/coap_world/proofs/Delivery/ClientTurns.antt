@@ -8,7 +8,7 @@ use Rattle.coap_layer.specs.Trace.{Packet}
 use Rattle.coap_layer.specs.Words.{waiting}
 use Rattle.coap_client.specs.Trace.{Call, NextOut, NextReport, Reported}
 use Rattle.coap_world.specs.Delivery.{FedToClient}
-use Rattle.coap_world.specs.Events.{client_end, server_end, Config}
+use Rattle.coap_world.specs.Events.{Config}
 use Rattle.coap_world.specs.Record.{Entry, OfClient, client_of, server_trace, begun_with, Given, given_by}
 use Rattle.coap_world.specs.Hops.{hops_in, SendsAt, SentIn}
 use Rattle.coap_world.proofs.Delivery.AfterATurn.{on_near, near_fair, Still, Goes}
@@ -87,8 +87,9 @@ module _ (config : Config) where
         (told_good reports (taken_after outs calls) (client_of es)
         (down (told_after reports (taken_after outs calls) ++ client_of es) (NextReport None) good))
 
-    sent_now : IsGood (all ++ client_of es) → (g : Given) → Ever (λ h. h ≡ g) (all_of (given_by t) (map OfClient all))
-        → SentIn (map Near adds ++ hops_in config es) g
+    sent_now : IsGood (all ++ client_of es) → (g : Given) → Ever (λ h. h ≡ g)
+        (all_of (given_by config.addresses t) (map OfClient all))
+        → SentIn config.addresses (map Near adds ++ hops_in config es) g
     sent_now good g h =
         let k = taken_out (client_side config) t g all h in
         inl (
@@ -100,9 +101,10 @@ module _ (config : Config) where
         )
 
     pub goes : IsGood (client_of (map OfClient all ++ es))
-        → ((bytes : List ℕ) → Ever (FedToClient server_end bytes) (map OfClient all)
-        → Ever (OnFar (GaveOut client_end bytes t)) (hops_in config es))
-        → Always (IsFair client_end server_end) (hops_in config es) → Goes config t (map OfClient all) es
+        → ((bytes : List ℕ) → Ever (FedToClient config.addresses.server bytes) (map OfClient all)
+        → Ever (OnFar (GaveOut config.addresses.client bytes t)) (hops_in config es))
+        → Always (IsFair config.addresses.client config.addresses.server) (hops_in config es)
+        → Goes config t (map OfClient all) es
     goes good feeds fair =
         let is = client_client all es in
         let hops = hops_are (client_side config) all es in
@@ -117,19 +119,19 @@ module _ (config : Config) where
             client_none = subst (λ s. waiting (client_layer config s) ≡ []) (sym is) (none_left here);
             server_none = subst (λ s. waiting (server_layer config s) ≡ []) (sym alike) still.server_none;
           };
-          sent = λ g h. subst (λ hs. SentIn hs g) (sym hops) (sent_now here g h);
-          fair = subst (Always (IsFair client_end server_end)) (sym hops)
-              (near_fair t G (hops_in config es) fair feeds adds timely);
+          sent = λ g h. subst (λ hs. SentIn config.addresses hs g) (sym hops) (sent_now here g h);
+          fair = subst (Always (IsFair config.addresses.client config.addresses.server)) (sym hops)
+              (near_fair config.addresses t G (hops_in config es) fair feeds adds timely);
         }
 
   pub client_turn : (t : ℕ) (entries es : List Entry) → ClientTurn t entries → Still config t es
       → IsGood (client_of (entries ++ es))
-      → ((bytes : List ℕ) → Ever (FedToClient server_end bytes) entries
-      → Ever (OnFar (GaveOut client_end bytes t)) (hops_in config es))
-      → Always (IsFair client_end server_end) (hops_in config es) → Goes config t entries es
+      → ((bytes : List ℕ) → Ever (FedToClient config.addresses.server bytes) entries
+      → Ever (OnFar (GaveOut config.addresses.client bytes t)) (hops_in config es))
+      → Always (IsFair config.addresses.client config.addresses.server) (hops_in config es) → Goes config t entries es
   client_turn t entries es turn still good feeds fair =
       let is = turn.on.is in
       subst (λ x. Goes config t x es) (sym is)
       (goes t es turn.on.outs turn.on.reports turn.calls turn.at still
       (subst (λ x. IsGood (client_of (x ++ es))) is good)
-      (λ bytes h. feeds bytes (subst (Ever (FedToClient server_end bytes)) (sym is) h)) fair)
+      (λ bytes h. feeds bytes (subst (Ever (FedToClient config.addresses.server bytes)) (sym is) h)) fair)

@@ -116,8 +116,10 @@ module _ (config : Config) where
     pub out : Option Packet → X
     pub takes : (past : List X) (answer : Option Packet)
         → asks past (out answer) ≡ record { now = 0; call = L.Take; answer = L.Gives answer } ∷ []
-    pub gives : (t : ℕ) (answer : Option Packet) → given_by t (of (out answer)) ≡ given_as t place answer
-    pub others_give : (t : ℕ) (c : X) → ((answer : Option Packet) × (c ≡ out answer)) ⊎ (given_by t (of c) ≡ [])
+    pub gives : (t : ℕ) (answer : Option Packet) → given_by config.addresses t (of (out answer))
+        ≡ given_as t place answer
+    pub others_give : (t : ℕ) (c : X) → ((answer : Option Packet) × (c ≡ out answer))
+        ⊎ (given_by config.addresses t (of c) ≡ [])
     -- no clock of it is past a moment; a call is handed it, and fed these bytes
     pub IsBy : ℕ → List X → Type 0
     pub IsAt : ℕ → X → Type 0
@@ -163,20 +165,21 @@ module _ {config : Config} {X : Type 0} (end : End config X) where
   hops_are cs es = front_is config (map end.of cs) es ∙ ap (λ hs. hs ++ hops_in config es) (front_of cs es)
 
   -- what is given out is what a call takes
-  pub taken_out : (t : ℕ) (g : Given) (cs : List X) → Ever (λ h. h ≡ g) (all_of (given_by t) (map end.of cs))
+  pub taken_out : (t : ℕ) (g : Given) (cs : List X) → Ever (λ h. h ≡ g)
+      (all_of (given_by config.addresses t) (map end.of cs))
       → Takes end.out end.place t g cs
   taken_out t g [] h = absurd h
-  taken_out t g (c ∷ cs) h = elim (Ever_append (λ x. x ≡ g) (given_by t (end.of c))
-      (all_of (given_by t) (map end.of cs)) h) [
+  taken_out t g (c ∷ cs) h = elim (Ever_append (λ x. x ≡ g) (given_by config.addresses t (end.of c))
+      (all_of (given_by config.addresses t) (map end.of cs)) h) [
         | inl p ↦ (let k = one c p in record { by = k.by; at = k.at; taken = ever_one _ c cs k.taken })
         | inr q ↦ (let k = taken_out t g cs q in record { by = k.by; at = k.at; taken = inr k.taken })
       ]
     where
-      one : (c : X) → Ever (λ h. h ≡ g) (given_by t (end.of c)) → Takes end.out end.place t g (c ∷ [])
+      one : (c : X) → Ever (λ h. h ≡ g) (given_by config.addresses t (end.of c)) → Takes end.out end.place t g (c ∷ [])
       one c p = elim (end.others_give t c) [
         | inl o ↦ subst (λ d. Takes end.out end.place t g (d ∷ [])) (sym o.1)
             (as_taken end.out end.place t g o.0 (subst (Ever (λ h. h ≡ g)) (end.gives t o.0)
-            (subst (λ d. Ever (λ h. h ≡ g) (given_by t (end.of d))) o.1 p)))
+            (subst (λ d. Ever (λ h. h ≡ g) (given_by config.addresses t (end.of d))) o.1 p)))
         | inr none ↦ absurd (subst (Ever (λ h. h ≡ g)) none p)
       ]
 

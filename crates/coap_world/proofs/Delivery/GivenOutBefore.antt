@@ -7,12 +7,13 @@ use Rattle.coap_layer.specs.Trace.{Packet}
 use Rattle.coap_world.specs.Record.{Given, given_as, IsOne, AreTicks, Entry, OfClient, OfServer, Turn, given_by}
 use Rattle.coap_world.specs.Record.{given_in, IsNumber, OnClient, OnServer, ClientTick, ServerTick, Makes}
 use Rattle.coap_types.proofs.Facts.Traces.{Ever_map, Ever_append, Ever_of_Sometime}
-use Rattle.coap_world.specs.Events.{client_end, server_end, What, Cancels, Forgets, Sets, Removes}
+use Rattle.coap_world.specs.Events.{What, Cancels, Forgets, Sets, Removes}
 use Rattle.coap_world.specs.Events.{TickClient, TickServer, Deliver, StrangerToClient, StrangerToServer}
 use Rattle.coap_world.specs.Legal.{NotBefore, MayCome, AllLegal}
 use Rattle.coap_world.specs.Delivery.{GaveOut, FedToServer, FedToClient, AllFair}
 use Rattle.coap_client.specs.Trace as C
 use Rattle.coap_server.specs.Trace as S
+use Rattle.coap_world.specs.declared.addresses.Addresses.{Addresses}
 
 pub as_at : (at : ℕ) (from : Endpoint) (o : Option Packet) (g : Given) → Ever (λ h. h ≡ g) (given_as at from o)
     → g.at ≡ at
@@ -74,23 +75,28 @@ packet_is p to bytes h k = ap {B = Packet} (λ t. record { to = t; bytes = p.byt
 
 -- moments of what was given out
 
-by_at : (at : ℕ) (e : Entry) (g : Given) → Ever (λ h. h ≡ g) (given_by at e) → g.at ≡ at
-by_at at (OfClient (C.NextOut o)) g h = as_at at client_end o g h
-by_at at (OfServer (S.NextOut o)) g h = as_at at server_end o g h
-by_at at _ g h = absurd h
+by_at : (addresses : Addresses) (at : ℕ) (e : Entry) (g : Given) → Ever (λ h. h ≡ g) (given_by addresses at e) → g.at
+    ≡ at
+by_at addresses at (OfClient (C.NextOut o)) g h = as_at at addresses.client o g h
+by_at addresses at (OfServer (S.NextOut o)) g h = as_at at addresses.server o g h
+by_at addresses at _ g h = absurd h
 
-in_at : (at : ℕ) (es : List Entry) (g : Given) → Ever (λ h. h ≡ g) (all_of (given_by at) es) → g.at ≡ at
-in_at at [] g h = absurd h
-in_at at (e ∷ es) g h = elim (Ever_append (λ x. x ≡ g) (given_by at e) (all_of (given_by at) es) h)
-    [ inl p ↦ by_at at e g p | inr q ↦ in_at at es g q ]
+in_at : (addresses : Addresses) (at : ℕ) (es : List Entry) (g : Given)
+    → Ever (λ h. h ≡ g) (all_of (given_by addresses at) es) → g.at ≡ at
+in_at addresses at [] g h = absurd h
+in_at addresses at (e ∷ es) g h = elim (Ever_append (λ x. x ≡ g) (given_by addresses at e)
+    (all_of (given_by addresses at) es) h)
+    [ inl p ↦ by_at addresses at e g p | inr q ↦ in_at addresses at es g q ]
 
-pub not_later : (past : List Turn) (at : ℕ) (g : Given) → AllLegal past → NotBefore past at
-    → Ever (λ h. h ≡ g) (all_of given_in past) → g.at ≤ at
-not_later [] at g legal n h = absurd h
-not_later (t ∷ past) at g legal n h = elim (Ever_append (λ x. x ≡ g) (given_in t) (all_of given_in past) h) [
-  | inl p ↦ (let e = in_at t.event.at t.entries g p in omega (arith, e, n))
-  | inr q ↦ (let k = not_later past t.event.at g legal.1 legal.0.later q in omega (arith, k, n))
-]
+pub not_later : (addresses : Addresses) (past : List Turn) (at : ℕ) (g : Given) → AllLegal addresses past
+    → NotBefore past at
+    → Ever (λ h. h ≡ g) (all_of (given_in addresses) past) → g.at ≤ at
+not_later addresses [] at g legal n h = absurd h
+not_later addresses (t ∷ past) at g legal n h = elim (Ever_append (λ x. x ≡ g) (given_in addresses t)
+    (all_of (given_in addresses) past) h) [
+      | inl p ↦ (let e = in_at addresses t.event.at t.entries g p in omega (arith, e, n))
+      | inr q ↦ (let k = not_later addresses past t.event.at g legal.1 legal.0.later q in omega (arith, k, n))
+    ]
 
 -- what a turn feeds is its call
 
@@ -176,81 +182,86 @@ never_here from bytes calls entries on h =
     (subst (Ever (FedToClient from bytes)) on.is h))
 
 -- the datagram of a number
-module _ (past : List Turn) (at : ℕ) (number : ℕ) (legal : AllLegal past) (later : NotBefore past at)
-    (may : MayCome past at (Deliver number)) (g : Given) (is : IsNumber number g past) where
+module _ (addresses : Addresses) (past : List Turn) (at : ℕ) (number : ℕ) (legal : AllLegal addresses past)
+    (later : NotBefore past at)
+    (may : MayCome addresses past at (Deliver number)) (g : Given) (is : IsNumber addresses number g past) where
   gave : (from to : Endpoint) (bytes : List ℕ) → g.from ≡ from → g.packet.to ≡ to → g.packet.bytes ≡ bytes
-      → Ever (GaveOut from to bytes at) (all_of given_in past)
+      → Ever (GaveOut from to bytes at) (all_of (given_in addresses) past)
   gave from to bytes f t b =
-      let here : Ever (λ h. h ≡ g) (all_of given_in past) =
-      Ever_of_Sometime _ (λ h. h ≡ g) (λ before h k. inl k.0) (all_of given_in past) is in
-      let same : may.0 ≡ g = number_unique number may.0 g (all_of given_in past) may.1 is in
+      let here : Ever (λ h. h ≡ g) (all_of (given_in addresses) past) =
+      Ever_of_Sometime _ (λ h. h ≡ g) (λ before h k. inl k.0) (all_of (given_in addresses) past) is in
+      let same : may.0 ≡ g = number_unique number may.0 g (all_of (given_in addresses) past) may.1 is in
       let y = may.3 in
       let e : may.0.at ≡ g.at = ap (λ (x : Given). x.at) same in
-      let n = not_later past at g legal later here in
+      let n = not_later addresses past at g legal later here in
       Ever_map (λ h. h ≡ g) (GaveOut from to bytes at)
       (λ h k. subst (GaveOut from to bytes at) (sym k)
       (record { packet = packet_is g.packet to bytes t b; by = f; early = n; young = omega (arith, y, e) }))
-      (all_of given_in past) here
+      (all_of (given_in addresses) past) here
 
-module _ (past : List Turn) (at word : ℕ) (refused : Bool) (entries : List Entry) (legal : AllLegal past)
+module _ (addresses : Addresses) (past : List Turn) (at word : ℕ) (refused : Bool) (entries : List Entry)
+    (legal : AllLegal addresses past)
     (later : NotBefore past at) (bytes : List ℕ) where
-  to_server : (what : What) → Makes past at word what refused entries → MayCome past at what
-      → Ever (FedToServer client_end bytes) entries
-      → Ever (GaveOut client_end server_end bytes at) (all_of given_in past)
+  to_server : (what : What) → Makes addresses past at word what refused entries → MayCome addresses past at what
+      → Ever (FedToServer addresses.client bytes) entries
+      → Ever (GaveOut addresses.client addresses.server bytes at) (all_of (given_in addresses) past)
   to_server (Sets path format body) m may h = let k =
-      one_call _ _ refused m.0 m.1 (server_call client_end bytes m.0 entries m.2 h) in absurd (cc (k.1.2, k.2.6))
+      one_call _ _ refused m.0 m.1 (server_call addresses.client bytes m.0 entries m.2 h) in absurd (cc (k.1.2, k.2.6))
   to_server (Removes path) m may h = let k =
-      one_call _ _ false m.0 m.1.0 (server_call client_end bytes m.0 entries m.2 h) in absurd (cc (k.1.2, k.2.6))
+      one_call _ _ false m.0 m.1.0 (server_call addresses.client bytes m.0 entries m.2 h) in absurd (cc (k.1.2, k.2.6))
   to_server TickServer m may h = let k = tick_of (ServerTick at word) _ refused m.0 m.1
-      (server_call client_end bytes m.0 entries m.2 h) in absurd (cc (k.2.6, k.3.6))
+      (server_call addresses.client bytes m.0 entries m.2 h) in absurd (cc (k.2.6, k.3.6))
   to_server (StrangerToServer from b) m may h =
-      let k = one_call _ _ refused m.0 m.1 (server_call client_end bytes m.0 entries m.2 h) in
-      let same : from ≡ client_end = cc (k.1.4, k.2.6) in
+      let k = one_call _ _ refused m.0 m.1 (server_call addresses.client bytes m.0 entries m.2 h) in
+      let same : from ≡ addresses.client = cc (k.1.4, k.2.6) in
       absurd (may.0 same)
   to_server (Deliver number) m may h = elim m.2 [
-    | inl d ↦ (let k = one_call _ _ refused d.1 d.2 (server_call client_end bytes d.1 entries d.3 h) in
-        gave past at number legal later may m.0 m.1 client_end server_end bytes (cc (k.1.4, k.2.6)) d.0
+    | inl d ↦ (let k = one_call _ _ refused d.1 d.2 (server_call addresses.client bytes d.1 entries d.3 h) in
+        gave addresses past at number legal later may m.0 m.1 addresses.client addresses.server bytes
+        (cc (k.1.4, k.2.6)) d.0
         (cc (k.1.4, k.2.6)))
-    | inr d ↦ absurd (never_there client_end bytes d.1 entries d.3 h)
+    | inr d ↦ absurd (never_there addresses.client bytes d.1 entries d.3 h)
   ]
-  to_server _ m may h = absurd (never_there client_end bytes m.0 entries m.2 h)
+  to_server _ m may h = absurd (never_there addresses.client bytes m.0 entries m.2 h)
 
-  to_client : (what : What) → Makes past at word what refused entries → MayCome past at what
-      → Ever (FedToClient server_end bytes) entries
-      → Ever (GaveOut server_end client_end bytes at) (all_of given_in past)
+  to_client : (what : What) → Makes addresses past at word what refused entries → MayCome addresses past at what
+      → Ever (FedToClient addresses.server bytes) entries
+      → Ever (GaveOut addresses.server addresses.client bytes at) (all_of (given_in addresses) past)
   to_client (Cancels number) m may h = let k =
-      one_call _ _ false m.0 m.1.0 (client_call server_end bytes m.0 entries m.2 h) in absurd (cc (k.1.1, k.2.8))
+      one_call _ _ false m.0 m.1.0 (client_call addresses.server bytes m.0 entries m.2 h) in absurd (cc (k.1.1, k.2.8))
   to_client (Forgets number) m may h = let k =
-      one_call _ _ false m.0 m.1.0 (client_call server_end bytes m.0 entries m.2 h) in absurd (cc (k.1.2, k.2.8))
+      one_call _ _ false m.0 m.1.0 (client_call addresses.server bytes m.0 entries m.2 h) in absurd (cc (k.1.2, k.2.8))
   to_client TickClient m may h = let k = tick_of (ClientTick at word) _ refused m.0 m.1
-      (client_call server_end bytes m.0 entries m.2 h) in absurd (cc (k.2.5, k.3.8))
+      (client_call addresses.server bytes m.0 entries m.2 h) in absurd (cc (k.2.5, k.3.8))
   to_client (StrangerToClient from b) m may h =
-      let k = one_call _ _ refused m.0 m.1 (client_call server_end bytes m.0 entries m.2 h) in
-      let same : from ≡ server_end = cc (k.1.6, k.2.8) in
+      let k = one_call _ _ refused m.0 m.1 (client_call addresses.server bytes m.0 entries m.2 h) in
+      let same : from ≡ addresses.server = cc (k.1.6, k.2.8) in
       absurd (may.1 same)
-  to_client (Sets path format body) m may h = absurd (never_here server_end bytes m.0 entries m.2 h)
-  to_client (Removes path) m may h = absurd (never_here server_end bytes m.0 entries m.2 h)
-  to_client TickServer m may h = absurd (never_here server_end bytes m.0 entries m.2 h)
-  to_client (StrangerToServer from b) m may h = absurd (never_here server_end bytes m.0 entries m.2 h)
+  to_client (Sets path format body) m may h = absurd (never_here addresses.server bytes m.0 entries m.2 h)
+  to_client (Removes path) m may h = absurd (never_here addresses.server bytes m.0 entries m.2 h)
+  to_client TickServer m may h = absurd (never_here addresses.server bytes m.0 entries m.2 h)
+  to_client (StrangerToServer from b) m may h = absurd (never_here addresses.server bytes m.0 entries m.2 h)
   to_client (Deliver number) m may h = elim m.2 [
-    | inl d ↦ absurd (never_here server_end bytes d.1 entries d.3 h)
-    | inr d ↦ (let k = one_call _ _ refused d.1 d.2 (client_call server_end bytes d.1 entries d.3 h) in
-        gave past at number legal later may m.0 m.1 server_end client_end bytes (cc (k.1.6, k.2.8)) d.0
+    | inl d ↦ absurd (never_here addresses.server bytes d.1 entries d.3 h)
+    | inr d ↦ (let k = one_call _ _ refused d.1 d.2 (client_call addresses.server bytes d.1 entries d.3 h) in
+        gave addresses past at number legal later may m.0 m.1 addresses.server addresses.client bytes
+        (cc (k.1.6, k.2.8)) d.0
         (cc (k.1.6, k.2.8)))
   ]
   to_client _ m may h =
-      let k = one_call _ _ refused m.0 m.1 (client_call server_end bytes m.0 entries m.2 h) in
+      let k = one_call _ _ refused m.0 m.1 (client_call addresses.server bytes m.0 entries m.2 h) in
       absurd (cc (k.1.1, k.2.8))
 
-pub all_fair : (turns : List Turn) → Always (λ past t. Makes past t.event.at t.event.word t.event.what t.refused
-    t.entries) turns → AllLegal turns → AllFair turns
-all_fair [] made legal = tt
-all_fair (t ∷ past) made legal = (
+pub all_fair : (addresses : Addresses) (turns : List Turn) → Always
+    (λ past t. Makes addresses past t.event.at t.event.word t.event.what t.refused
+    t.entries) turns → AllLegal addresses turns → AllFair addresses turns
+all_fair addresses [] made legal = tt
+all_fair addresses (t ∷ past) made legal = (
   record {
-    server = λ bytes h. to_server past t.event.at t.event.word t.refused t.entries legal.1 legal.0.later bytes
+    server = λ bytes h. to_server addresses past t.event.at t.event.word t.refused t.entries legal.1 legal.0.later bytes
         t.event.what made.0 legal.0.comes h;
-    client = λ bytes h. to_client past t.event.at t.event.word t.refused t.entries legal.1 legal.0.later bytes
+    client = λ bytes h. to_client addresses past t.event.at t.event.word t.refused t.entries legal.1 legal.0.later bytes
         t.event.what made.0 legal.0.comes h;
   },
-  all_fair past made.1 legal.1,
+  all_fair addresses past made.1 legal.1,
 )

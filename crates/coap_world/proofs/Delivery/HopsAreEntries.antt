@@ -3,7 +3,7 @@ use Rattle.std.proofs.Common.{◌≡◌, List, [], ◌∷◌, ◌++◌, map, ref
 use Rattle.coap_layer.specs.Channel.{Hop, Near, Far, near_of, far_of}
 use Rattle.coap_layer.specs.Machine.State.{start}
 use Rattle.coap_layer.specs.Machine.Steps.{entries}
-use Rattle.coap_world.specs.Events.{server_end, Config}
+use Rattle.coap_world.specs.Events.{Config}
 use Rattle.coap_world.specs.Record.{Entry, OfClient, OfServer, client_of, server_trace}
 use Rattle.coap_world.specs.Record.{Setting, DelayOf, PlainOf, gives_it, settings}
 use Rattle.coap_common.proofs.Facts.Adds.{answerer_append, entries_append}
@@ -38,14 +38,15 @@ far_near (x ∷ xs) hs = far_near xs hs
 
 module _ (config : Config) where
   abbrev pub client_layer : List C.Call → List L.Entry
-  client_layer t = client.layer_of server_end config.client_sizes config.client_setup t
+  client_layer t = client.layer_of config.addresses.server config.client_sizes config.client_setup t
 
   abbrev pub server_layer : List S.Call → List L.Entry
   server_layer t = server.layer_of config.limits config.server_szx config.server_setup t
 
   pub client_asked_next : (past : List C.Call) (c : C.Call)
       → client_asked config (c ∷ past) ≡ client_asks config past c ++ client_asked config past
-  client_asked_next past c = client_facts.asked_next server_end config.client_sizes config.client_setup past c
+  client_asked_next past c = client_facts.asked_next config.addresses.server config.client_sizes config.client_setup
+      past c
 
   pub server_asked_next : (past : List S.Call) (c : S.Call)
       → server_asked config (c ∷ past) ≡ server_asks config past c ++ server_asked config past
@@ -54,7 +55,7 @@ module _ (config : Config) where
 
   pub client_next : (past : List C.Call) (c : C.Call)
       → client_layer (c ∷ past) ≡ client_adds config past c ++ client_layer past
-  client_next past c = client_facts.layer_next server_end config.client_sizes config.client_setup past c
+  client_next past c = client_facts.layer_next config.addresses.server config.client_sizes config.client_setup past c
 
   pub server_next : (past : List S.Call) (c : S.Call)
       → server_layer (c ∷ past) ≡ server_adds config past c ++ server_layer past

@@ -5,7 +5,7 @@ use Rattle.coap_types.specs.Past.{Ever, Always, all_of}
 use Rattle.coap_types.proofs.Facts.Traces.{Ever_back, Ever_map, Ever_append}
 use Rattle.coap_types.specs.declared.endpoint.Endpoint.{Endpoint}
 use Rattle.coap_layer.specs.Channel.{Hop, Near, Far, OnNear, OnFar, GaveOut, IsFair}
-use Rattle.coap_world.specs.Events.{client_end, server_end, Config}
+use Rattle.coap_world.specs.Events.{Config}
 use Rattle.coap_world.specs.Hops.{SendsAt, SentIn, client_adds, server_adds, hops_in, hops_of}
 use Rattle.coap_world.specs.Record.{Given, Entry, OfClient, OfServer, client_of, server_trace, Turn, given_in, Setting}
 use Rattle.coap_world.specs.Record.{DelayOf, PlainOf, gives_it, settings, entries_of, Makes}
@@ -24,11 +24,9 @@ use Rattle.coap_world.proofs.Delivery.ClientInTime as client
 use Rattle.coap_world.proofs.Delivery.ClientTurns as client_turns
 use Rattle.coap_world.proofs.Delivery.ServerInTime as server
 use Rattle.coap_world.proofs.Delivery.ServerTurns as server_turns
+use Rattle.coap_world.specs.declared.addresses.Addresses.{Addresses}
 
 -- what was sent there
-
-pub apart : client_end ≡ server_end → ⊥
-apart h = let k : 40001 ≡ 5683 = ap (λ (e : Endpoint). e.port) h in absurd (omega (arith, k))
 
 sent_there : (from to : Endpoint) (bytes : List ℕ) (when : ℕ) (g : Given) (e : L.Entry) → D.GaveOut from to bytes when g
     → SendsAt g.at g.packet e → GaveOut to bytes when e
@@ -42,24 +40,26 @@ sent_there from to bytes when g e gave sends =
       till = omega (arith, a, c);
     }
 
-pub by_server : (hs : List Hop) (bytes : List ℕ) (when : ℕ) (g : Given) → D.GaveOut server_end client_end bytes when g
-    → SentIn hs g → Ever (OnFar (GaveOut client_end bytes when)) hs
-by_server hs bytes when g gave (inl h) = absurd (apart (sym h.0 ∙ gave.by))
-by_server hs bytes when g gave (inr h) = Ever_map (OnFar (SendsAt g.at g.packet))
-    (OnFar (GaveOut client_end bytes when)) each hs h.1
+pub by_server : (addresses : Addresses) → (addresses.client ≡ addresses.server → ⊥)
+    → (hs : List Hop) (bytes : List ℕ) (when : ℕ) (g : Given) → D.GaveOut addresses.server addresses.client bytes when g
+    → SentIn addresses hs g → Ever (OnFar (GaveOut addresses.client bytes when)) hs
+by_server addresses two hs bytes when g gave (inl h) = absurd (two (sym h.0 ∙ gave.by))
+by_server addresses two hs bytes when g gave (inr h) = Ever_map (OnFar (SendsAt g.at g.packet))
+    (OnFar (GaveOut addresses.client bytes when)) each hs h.1
   where
-    each : (e : Hop) → OnFar (SendsAt g.at g.packet) e → OnFar (GaveOut client_end bytes when) e
+    each : (e : Hop) → OnFar (SendsAt g.at g.packet) e → OnFar (GaveOut addresses.client bytes when) e
     each (Near e) k = absurd k
-    each (Far e) k = sent_there server_end client_end bytes when g e gave k
+    each (Far e) k = sent_there addresses.server addresses.client bytes when g e gave k
 
-pub by_client : (hs : List Hop) (bytes : List ℕ) (when : ℕ) (g : Given) → D.GaveOut client_end server_end bytes when g
-    → SentIn hs g → Ever (OnNear (GaveOut server_end bytes when)) hs
-by_client hs bytes when g gave (inr h) = absurd (apart (sym gave.by ∙ h.0))
-by_client hs bytes when g gave (inl h) = Ever_map (OnNear (SendsAt g.at g.packet))
-    (OnNear (GaveOut server_end bytes when)) each hs h.1
+pub by_client : (addresses : Addresses) → (addresses.client ≡ addresses.server → ⊥)
+    → (hs : List Hop) (bytes : List ℕ) (when : ℕ) (g : Given) → D.GaveOut addresses.client addresses.server bytes when g
+    → SentIn addresses hs g → Ever (OnNear (GaveOut addresses.server bytes when)) hs
+by_client addresses two hs bytes when g gave (inr h) = absurd (two (sym gave.by ∙ h.0))
+by_client addresses two hs bytes when g gave (inl h) = Ever_map (OnNear (SendsAt g.at g.packet))
+    (OnNear (GaveOut addresses.server bytes when)) each hs h.1
   where
-    each : (e : Hop) → OnNear (SendsAt g.at g.packet) e → OnNear (GaveOut server_end bytes when) e
-    each (Near e) k = sent_there client_end server_end bytes when g e gave k
+    each : (e : Hop) → OnNear (SendsAt g.at g.packet) e → OnNear (GaveOut addresses.server bytes when) e
+    each (Near e) k = sent_there addresses.client addresses.server bytes when g e gave k
     each (Far e) k = absurd k
 
 -- some element, with its finding
@@ -68,18 +68,20 @@ found_in P [] h = absurd h
 found_in P (x ∷ xs) (inl h) = (x, h, inl refl)
 found_in P (x ∷ xs) (inr h) = let k = found_in P xs h in (k.0, k.1, inr k.2)
 
-pub sent_later : (front hs : List Hop) (g : Given) → SentIn hs g → SentIn (front ++ hs) g
-sent_later front hs g (inl h) = inl (h.0, Ever_back (OnNear (SendsAt g.at g.packet)) front hs h.1)
-sent_later front hs g (inr h) = inr (h.0, Ever_back (OnFar (SendsAt g.at g.packet)) front hs h.1)
+pub sent_later : (addresses : Addresses) (front hs : List Hop) (g : Given) → SentIn addresses hs g
+    → SentIn addresses (front ++ hs) g
+sent_later addresses front hs g (inl h) = inl (h.0, Ever_back (OnNear (SendsAt g.at g.packet)) front hs h.1)
+sent_later addresses front hs g (inr h) = inr (h.0, Ever_back (OnFar (SendsAt g.at g.packet)) front hs h.1)
 
 module _ (config : Config) where
   -- the hops of later entries stand in front
-  pub sent_still : (g : Given) (later es : List Entry) → SentIn (hops_in config es) g
-      → SentIn (hops_in config (later ++ es)) g
+  pub sent_still : (g : Given) (later es : List Entry) → SentIn config.addresses (hops_in config es) g
+      → SentIn config.addresses (hops_in config (later ++ es)) g
   sent_still g [] es h = h
-  sent_still g (OfClient c ∷ later) es h = sent_later (map Near (client_adds config (client_of (later ++ es)) c))
+  sent_still g (OfClient c ∷ later) es h = sent_later config.addresses
+      (map Near (client_adds config (client_of (later ++ es)) c))
       (hops_in config (later ++ es)) g (sent_still g later es h)
-  sent_still g (OfServer c ∷ later) es h = sent_later
+  sent_still g (OfServer c ∷ later) es h = sent_later config.addresses
       (map Far (server_adds config (server_trace config (later ++ es)) c)) (hops_in config (later ++ es)) g
       (sent_still g later es h)
 
@@ -116,8 +118,9 @@ module _ (config : Config) where
 
   pub record Ran (turns : List Turn) : Type 0 where
     pub still : (t : ℕ) → NotBefore turns t → Still config t (entries_of turns)
-    pub sent : (g : Given) → Ever (λ h. h ≡ g) (all_of given_in turns) → SentIn (hops_of config turns) g
-    pub fair : Always (IsFair client_end server_end) (hops_of config turns)
+    pub sent : (g : Given) → Ever (λ h. h ≡ g) (all_of (given_in config.addresses) turns)
+        → SentIn config.addresses (hops_of config turns) g
+    pub fair : Always (IsFair config.addresses.client config.addresses.server) (hops_of config turns)
 
   ran_first : Ran []
   ran_first = record { still = λ t n. still_first t; sent = λ g h. absurd h; fair = tt }
@@ -128,27 +131,31 @@ module _ (config : Config) where
   ran_next turn past ran goes =
       record {
         still = λ u n. still_later turn.event.at u (turn.entries ++ entries_of past) n goes.still;
-        sent = λ g h. elim (Ever_append (λ x. x ≡ g) (given_in turn) (all_of given_in past) h) [
-          | inl now ↦ goes.sent g now
-          | inr before ↦ sent_still g turn.entries (entries_of past) (ran.sent g before)
-        ];
+        sent = λ g h. elim (Ever_append (λ x. x ≡ g) (given_in config.addresses turn)
+            (all_of (given_in config.addresses) past) h) [
+              | inl now ↦ goes.sent g now
+              | inr before ↦ sent_still g turn.entries (entries_of past) (ran.sent g before)
+            ];
         fair = goes.fair;
       }
 
-  turn_goes : (turn : Turn) (past : List Turn) → Ran past → D.IsFair past turn → NotBefore past turn.event.at
+  turn_goes : (config.addresses.client ≡ config.addresses.server → ⊥) → (turn : Turn) (past : List Turn) → Ran past
+      → D.IsFair config.addresses past turn → NotBefore past turn.event.at
       → client_turns.IsGood config (client_of (turn.entries ++ entries_of past))
       → server_turns.IsGood config (server_trace config (turn.entries ++ entries_of past))
       → ClientTurn turn.event.at turn.entries ⊎ ServerTurn turn.event.at turn.entries
       → Goes config turn.event.at turn.entries (entries_of past)
-  turn_goes turn past ran fair later good_client good_server (inl t) =
+  turn_goes two turn past ran fair later good_client good_server (inl t) =
       client_turns.client_turn config turn.event.at turn.entries (entries_of past) t
       (ran.still turn.event.at later) good_client
-      (λ bytes h. let k = found_in _ (all_of given_in past) (fair.client bytes h) in by_server
+      (λ bytes h. let k = found_in _ (all_of (given_in config.addresses) past) (fair.client bytes h) in by_server
+      config.addresses two
       (hops_of config past) bytes turn.event.at k.0 k.1 (ran.sent k.0 k.2)) ran.fair
-  turn_goes turn past ran fair later good_client good_server (inr t) =
+  turn_goes two turn past ran fair later good_client good_server (inr t) =
       server_turns.server_turn config turn.event.at turn.entries (entries_of past) t
       (ran.still turn.event.at later) good_server
-      (λ bytes h. let k = found_in _ (all_of given_in past) (fair.server bytes h) in by_client
+      (λ bytes h. let k = found_in _ (all_of (given_in config.addresses) past) (fair.server bytes h) in by_client
+      config.addresses two
       (hops_of config past) bytes turn.event.at k.0 k.1 (ran.sent k.0 k.2)) ran.fair
 
   pub client_down : (later es : List Entry) → client_turns.IsGood config (client_of (later ++ es))
@@ -165,14 +172,15 @@ module _ (config : Config) where
   server_down (OfServer c ∷ later) es good = server_down later es
       (server_turns.down config (server_trace config (later ++ es)) c good)
 
-  pub ran : (turns : List Turn) → Always (λ past t. Makes past t.event.at t.event.word t.event.what t.refused t.entries)
-      turns → AllLegal turns → D.AllFair turns
+  pub ran : (config.addresses.client ≡ config.addresses.server → ⊥) → (turns : List Turn)
+      → Always (λ past t. Makes config.addresses past t.event.at t.event.word t.event.what t.refused t.entries)
+      turns → AllLegal config.addresses turns → D.AllFair config.addresses turns
       → client_turns.IsGood config (client_of (entries_of turns))
       → server_turns.IsGood config (server_trace config (entries_of turns)) → Ran turns
-  ran [] made legal fair good_client good_server = ran_first
-  ran (turn ∷ past) made legal fair good_client good_server =
-      let before = ran past made.1 legal.1 fair.1 (client_down turn.entries (entries_of past) good_client)
+  ran two [] made legal fair good_client good_server = ran_first
+  ran two (turn ∷ past) made legal fair good_client good_server =
+      let before = ran two past made.1 legal.1 fair.1 (client_down turn.entries (entries_of past) good_client)
       (server_down turn.entries (entries_of past) good_server) in
       ran_next turn past before
-      (turn_goes turn past before fair.0 legal.0.later good_client good_server
-      (side past turn.event.at turn.event.word turn.refused turn.entries turn.event.what made.0))
+      (turn_goes two turn past before fair.0 legal.0.later good_client good_server
+      (side config.addresses past turn.event.at turn.event.word turn.refused turn.entries turn.event.what made.0))

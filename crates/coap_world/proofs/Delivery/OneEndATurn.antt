@@ -10,6 +10,7 @@ use Rattle.coap_client.specs.Trace as C
 use Rattle.coap_server.specs.Trace as S
 use Rattle.coap_world.proofs.Delivery.ClientInTime as client
 use Rattle.coap_world.proofs.Delivery.ServerInTime as server
+use Rattle.coap_world.specs.declared.addresses.Addresses.{Addresses}
 
 pub each_one : {X : Type 0} (Is P : X → Type 0) → ((c : X) → Is c → P c) → (refused : Bool) (calls : List X)
     → IsOne Is refused calls → Every P calls
@@ -48,8 +49,9 @@ module _ (t : ℕ) (refused : Bool) (entries : List Entry) where
   server_one Is at calls one on =
       record { calls = calls; on = on; at = each_one Is (server.IsAt t) at refused calls one }
 
-module _ (past : List Turn) (t : ℕ) (word : ℕ) (refused : Bool) (entries : List Entry) where
-  pub side : (what : What) → Makes past t word what refused entries → ClientTurn t entries ⊎ ServerTurn t entries
+module _ (addresses : Addresses) (past : List Turn) (t : ℕ) (word : ℕ) (refused : Bool) (entries : List Entry) where
+  pub side : (what : What) → Makes addresses past t word what refused entries → ClientTurn t entries
+      ⊎ ServerTurn t entries
   side (Cancels number) m =
       inl (client_one t false entries _ (λ c h. subst (client.IsAt t) (sym h.1) refl) m.0 m.1.0 m.2)
   side (Forgets number) m =

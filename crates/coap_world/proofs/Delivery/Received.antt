@@ -24,9 +24,9 @@ use Rattle.coap_server.specs.Handling.{heard, incoming}
 use Rattle.coap_server.specs.Trace as S
 use Rattle.coap_client.specs.Law as client_law
 use Rattle.coap_server.specs.Law as server_law
-use Rattle.coap_world.specs.Events.{server_end, Config, Event}
+use Rattle.coap_world.specs.Events.{Config, Event}
 use Rattle.coap_world.specs.Hops.{client_adds, server_adds, client_asked, server_asked}
-use Rattle.coap_world.specs.Legal.{AllLegal}
+use Rattle.coap_world.specs.Legal.{Legal}
 use Rattle.coap_world.specs.Received.{ReceivesAt, AreReceived}
 use Rattle.coap_world.specs.Record.{Turn, RecordOf, entries_of, client_of, server_trace}
 use Rattle.coap_world.proofs.Delivery.ClientInTime as client
@@ -112,14 +112,15 @@ module _ (config : Config) where
       (at_moment t (client.Fed d) from bytes _ (client.adds_timely config t past d by refl)
       (in_entries (L.Receive from bytes) (left_after (start config.client_setup) (client_asked config past)) _
       (subst (λ l. Ever (λ (a : Asked). a.call ≡ L.Receive from bytes)
-      (asked_by_client server_end config.client_setup (client_law.lower_of config.client_sizes past) l))
+      (asked_by_client config.addresses.server config.client_setup (client_law.lower_of config.client_sizes past) l))
       (append_assoc later first (input ∷ []))
-      (client_last server_end config.client_setup (client_law.lower_of config.client_sizes past) (later ++ first) input
-      (L.Receive from bytes) (receive_asked (asker.own_of server_end config.client_setup
+      (client_last config.addresses.server config.client_setup (client_law.lower_of config.client_sizes past)
+      (later ++ first) input
+      (L.Receive from bytes) (receive_asked (asker.own_of config.addresses.server config.client_setup
       (client_law.lower_of config.client_sizes past)) m from bytes up settled event)))))
 
 pub are_received : (config : Config) (events : List Event) (turns : List Turn) → RecordOf config events turns
-    → AllLegal turns → AreReceived config turns
+    → Legal config turns → AreReceived config turns
 are_received config events turns made legal t word from bytes later = (
   (λ c k. server_receives config t (server_trace config (entries_of turns)) from bytes c word k.0 k.1 k.2 k.3 k.4
       ((run config events turns made legal).still t later).server),

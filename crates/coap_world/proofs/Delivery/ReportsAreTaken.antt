@@ -17,6 +17,7 @@ use Rattle.coap_world.specs.Given.{AllGiven}
 use Rattle.coap_world.specs.Record.{Turn, Entry, OnClient, OnServer, ClientTick, Makes, client_of, entries_of}
 use Rattle.coap_world.proofs.Delivery.EntriesInTime.{Every}
 use Rattle.coap_world.proofs.Delivery.OneEndATurn.{each_one, each_tick, client_client, client_server}
+use Rattle.coap_world.specs.declared.addresses.Addresses.{Addresses}
 
 -- it forgets no observation
 abbrev Keeps : C.Call → Type 0
@@ -35,8 +36,8 @@ record ServerTakes (entries : List Entry) : Type 0 where
   calls : List S.Call
   on : OnServer calls entries
 
-module _ (past : List Turn) (t : ℕ) (word : ℕ) (refused : Bool) (entries : List Entry) where
-  side : (what : What) → Makes past t word what refused entries → ClientTakes entries ⊎ ServerTakes entries
+module _ (addresses : Addresses) (past : List Turn) (t : ℕ) (word : ℕ) (refused : Bool) (entries : List Entry) where
+  side : (what : What) → Makes addresses past t word what refused entries → ClientTakes entries ⊎ ServerTakes entries
   side (Cancels number) m = inl (record {
     calls = m.0;
     on = m.2;
@@ -74,7 +75,7 @@ none_first : {X : Type 0} (rs : List X) → None ≡ slice_get rs 0 → drop 1 r
 none_first [] h = refl
 none_first (r ∷ rs) h = absurd (cc h)
 
-module _ (sizes : Sizes) where
+module _ (addresses : Addresses) (sizes : Sizes) where
   -- nothing waits to be taken
   abbrev NoneLeft : List C.Call → Type 0
   NoneLeft t = (own_of sizes t).reports ≡ []
@@ -142,21 +143,22 @@ module _ (sizes : Sizes) where
         ∙ client_server calls (entries_of past) in
         subst AreTaken (sym is) (before (subst (ClientRows sizes) is rows))
 
-  are_taken : (turns : List Turn) → Always (λ past t. Makes past t.event.at t.event.word t.event.what t.refused
+  are_taken : (turns : List Turn) → Always (λ past t. Makes addresses past t.event.at t.event.word t.event.what
+      t.refused
       t.entries) turns → ClientRows sizes (client_of (entries_of turns)) → AreTaken (client_of (entries_of turns))
   are_taken [] made rows = record { left = refl; dropped = tt }
   are_taken (t ∷ past) made rows =
-      elim (side past t.event.at t.event.word t.refused t.entries t.event.what made.0) [
+      elim (side addresses past t.event.at t.event.word t.refused t.entries t.event.what made.0) [
         | inl k ↦ by_client t past rows k (are_taken past made.1)
         | inr k ↦ by_server t past rows k (are_taken past made.1)
       ]
 
 pub all_given : (config : Config) (turns : List Turn)
-    → Always (λ past t. Makes past t.event.at t.event.word t.event.what t.refused t.entries) turns
+    → Always (λ past t. Makes config.addresses past t.event.at t.event.word t.event.what t.refused t.entries) turns
     → ClientRows config.client_sizes (client_of (entries_of turns)) → AllGiven config (entries_of turns)
 all_given config turns made rows =
     let t : List C.Call = client_of (entries_of turns) in
-    let k = are_taken config.client_sizes turns made rows in
+    let k = are_taken config.addresses config.client_sizes turns made rows in
     record {
       none_left = k.left;
       given_all = sym

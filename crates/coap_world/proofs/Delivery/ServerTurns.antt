@@ -8,7 +8,7 @@ use Rattle.coap_layer.specs.Trace.{Packet}
 use Rattle.coap_layer.specs.Words.{waiting}
 use Rattle.coap_server.specs.Trace.{Call, NextOut}
 use Rattle.coap_world.specs.Delivery.{FedToServer}
-use Rattle.coap_world.specs.Events.{client_end, server_end, Config}
+use Rattle.coap_world.specs.Events.{Config}
 use Rattle.coap_world.specs.Record.{Entry, OfServer, server_trace, Given, given_by}
 use Rattle.coap_world.specs.Hops.{hops_in, SendsAt, SentIn}
 use Rattle.coap_world.proofs.Delivery.AfterATurn.{on_far, far_fair, Still, Goes}
@@ -63,8 +63,9 @@ module _ (config : Config) where
     timely = all_timely (server_side config) t G all past still.server (all_at t outs calls at)
         (λ from bytes h. to_entries from bytes all h)
 
-    sent_now : IsGood (all ++ past) → (g : Given) → Ever (λ h. h ≡ g) (all_of (given_by t) (map OfServer all))
-        → SentIn (map Far adds ++ hops_in config es) g
+    sent_now : IsGood (all ++ past) → (g : Given) → Ever (λ h. h ≡ g)
+        (all_of (given_by config.addresses t) (map OfServer all))
+        → SentIn config.addresses (map Far adds ++ hops_in config es) g
     sent_now good g h =
         let k = taken_out (server_side config) t g all h in
         inr (
@@ -76,9 +77,10 @@ module _ (config : Config) where
         )
 
     pub goes : IsGood (server_trace config (map OfServer all ++ es))
-        → ((bytes : List ℕ) → Ever (FedToServer client_end bytes) (map OfServer all)
-        → Ever (OnNear (GaveOut server_end bytes t)) (hops_in config es))
-        → Always (IsFair client_end server_end) (hops_in config es) → Goes config t (map OfServer all) es
+        → ((bytes : List ℕ) → Ever (FedToServer config.addresses.client bytes) (map OfServer all)
+        → Ever (OnNear (GaveOut config.addresses.server bytes t)) (hops_in config es))
+        → Always (IsFair config.addresses.client config.addresses.server) (hops_in config es)
+        → Goes config t (map OfServer all) es
     goes good feeds fair =
         let is = trace_is config all es in
         let hops = hops_are (server_side config) all es in
@@ -93,18 +95,18 @@ module _ (config : Config) where
             server_none = subst (λ s. waiting (server_layer config s) ≡ []) (sym is)
                 (nothing_waits (server_side config) (outs_after outs calls ++ past) here);
           };
-          sent = λ g h. subst (λ hs. SentIn hs g) (sym hops) (sent_now here g h);
-          fair = subst (Always (IsFair client_end server_end)) (sym hops)
-              (far_fair t G (hops_in config es) fair feeds adds timely);
+          sent = λ g h. subst (λ hs. SentIn config.addresses hs g) (sym hops) (sent_now here g h);
+          fair = subst (Always (IsFair config.addresses.client config.addresses.server)) (sym hops)
+              (far_fair config.addresses t G (hops_in config es) fair feeds adds timely);
         }
 
   pub server_turn : (t : ℕ) (entries es : List Entry) → ServerTurn t entries → Still config t es
       → IsGood (server_trace config (entries ++ es))
-      → ((bytes : List ℕ) → Ever (FedToServer client_end bytes) entries
-      → Ever (OnNear (GaveOut server_end bytes t)) (hops_in config es))
-      → Always (IsFair client_end server_end) (hops_in config es) → Goes config t entries es
+      → ((bytes : List ℕ) → Ever (FedToServer config.addresses.client bytes) entries
+      → Ever (OnNear (GaveOut config.addresses.server bytes t)) (hops_in config es))
+      → Always (IsFair config.addresses.client config.addresses.server) (hops_in config es) → Goes config t entries es
   server_turn t entries es turn still good feeds fair =
       let is = turn.on.is in
       subst (λ x. Goes config t x es) (sym is)
       (goes t es turn.on.outs turn.calls turn.at still (subst (λ x. IsGood (server_trace config (x ++ es))) is good)
-      (λ bytes h. feeds bytes (subst (Ever (FedToServer client_end bytes)) (sym is) h)) fair)
+      (λ bytes h. feeds bytes (subst (Ever (FedToServer config.addresses.client bytes)) (sym is) h)) fair)

@@ -28,7 +28,7 @@ use Rattle.coap_server.specs.Follows.Adds.{call_adds}
 use Rattle.coap_server.specs.Follows.Tells.{InCon, InNon, InReply}
 use Rattle.coap_server.specs.Follows.Told.{TellsIn, ServesNon, TellsSent}
 use Rattle.coap_server.proofs.Facts.EachCall.{all_tell_sent}
-use Rattle.coap_world.specs.Events.{client_end, server_end, Config}
+use Rattle.coap_world.specs.Events.{Config}
 use Rattle.coap_world.specs.Hops.{hops_in, across, client_adds}
 use Rattle.coap_world.specs.Record.{Entry, OfClient, client_of, server_trace}
 use Rattle.coap_world.proofs.Delivery.ChannelAcross.{near_across}
@@ -38,6 +38,7 @@ use Rattle.coap_world.proofs.Requests.OfACall.{Lawful}
 use Rattle.coap_world.proofs.Observations.Positions.{across_near, located}
 use Rattle.coap_world.proofs.Observations.Acknowledged.{before_now}
 use Rattle.coap_world.proofs.Observations.ToldThen.{told_in_non, told_before}
+use Rattle.coap_world.specs.declared.addresses.Addresses.{Addresses}
 
 -- What the near layer sent at this moment of its clock comes as the far one shows that: no sooner by the near clock, and the
 -- near layer has come as far.
@@ -48,47 +49,51 @@ pub record Behind (clocks : Clocks) (hs : List Hop) (sent at : ℕ) : Type 0 whe
   pub before : sent ≤ clock (near_of hs)
 
 -- a CON is in the bytes of an entry of the near layer, and it is handed up here, at this moment
-pub record ConHeard (clocks : Clocks) (m : Message) (at : ℕ) (adds : List T.Entry) (hs : List Hop) : Type 0 where
+pub record ConHeard (addresses : Addresses) (clocks : Clocks) (m : Message) (at : ℕ) (adds : List T.Entry)
+    (hs : List Hop) : Type 0 where
   pub con : Open
   pub begun_before : Ever (λ b. begun b ≡ Some con) (near_of hs)
-  pub to_is : con.to ≡ client_end
+  pub to_is : con.to ≡ addresses.client
   pub spells : Spells con.bytes m
-  pub up : Ever (HandsUpAs clocks server_end con) adds
+  pub up : Ever (HandsUpAs clocks addresses.server con) adds
   pub behind : Behind clocks hs con.first at
 
 -- a NON was sent by the near layer, at most MAX_LATENCY before this moment; an acknowledgement given by the far one
 
-pub record NonHeard (clocks : Clocks) (m : Message) (at : ℕ) (hs : List Hop) : Type 0 where
+pub record NonHeard (addresses : Addresses) (clocks : Clocks) (m : Message) (at : ℕ) (hs : List Hop) : Type 0 where
   pub bytes : List ℕ
   pub spells : Spells bytes m
-  pub sent : Meanwhile clocks at (near_of hs) (λ when. Ever (PlainSent client_end bytes when) (near_of hs))
+  pub sent : Meanwhile clocks at (near_of hs) (λ when. Ever (PlainSent addresses.client bytes when) (near_of hs))
 
-pub record AckHeard (m : Message) (hs : List Hop) : Type 0 where
+pub record AckHeard (addresses : Addresses) (m : Message) (hs : List Hop) : Type 0 where
   pub bytes : List ℕ
   pub spells : Spells bytes m
-  pub given : Ever (λ e. e.call ≡ T.Reply client_end m.id bytes) (far_of hs)
+  pub given : Ever (λ e. e.call ≡ T.Reply addresses.client m.id bytes) (far_of hs)
 
-module _ (clocks : Clocks) (one other : Setup) (m : Message) where
-  module _ (past : List Hop) (x : T.Entry) (law : ChannelLaw clocks one other server_end client_end (Far x ∷ past))
-      (h : Hears server_end m x) (kept : is_kept m.kind ≡ true) where
+module _ (addresses : Addresses) (clocks : Clocks) (one other : Setup) (m : Message) where
+  module _ (past : List Hop) (x : T.Entry) (law : ChannelLaw clocks one other addresses.server addresses.client
+      (Far x ∷ past))
+      (h : Hears addresses.server m x) (kept : is_kept m.kind ≡ true) where
     abbrev incoming : Incoming
-    incoming = record { from = server_end; message = m }
+    incoming = record { from = addresses.server; message = m }
 
     is_handed : handed x ≡ Some incoming
     is_handed =
-        ap (λ c. handed_in c x.answer) h.call ∙ (ap (λ a. handed_in (T.Receive server_end h.bytes) a) h.answer
+        ap (λ c. handed_in c x.answer) h.call ∙ (ap (λ a. handed_in (T.Receive addresses.server h.bytes) a) h.answer
         ∙ ap (λ b. elim (cond {A = Option Message} b (Some m) None)
-        [ Some n ↦ Some (record { from = server_end; message = n }) | None ↦ None ]) kept)
+        [ Some n ↦ Some (record { from = addresses.server; message = n }) | None ↦ None ]) kept)
 
     handed_by : HandedBy x incoming
     handed_by = (handed_spelled other (x ∷ far_of past) law.far_law).0 incoming is_handed
 
   module _ (hs : List Hop) where
-    con_heard : (at : ℕ) (adds : List T.Entry) → ChannelLaw clocks one other server_end client_end (map Far adds ++ hs)
-        → Ever (HeardAt server_end m at) adds → m.kind ≡ Con → ConHeard clocks m at adds hs
+    con_heard : (at : ℕ) (adds : List T.Entry) → ChannelLaw clocks one other addresses.server addresses.client
+        (map Far adds ++ hs)
+        → Ever (HeardAt addresses.server m at) adds → m.kind ≡ Con → ConHeard addresses clocks m at adds hs
     con_heard at [] law h kind = absurd h
     con_heard at (x ∷ adds) law (inr h) kind =
-        let k = con_heard at adds (earlier clocks one other server_end client_end (map Far adds ++ hs) (Far x) law) h kind in
+        let k = con_heard at adds (earlier clocks one other addresses.server addresses.client (map Far adds ++ hs)
+        (Far x) law) h kind in
         record {
           con = k.con;
           begun_before = k.begun_before;
@@ -101,7 +106,8 @@ module _ (clocks : Clocks) (one other : Setup) (m : Message) where
         let past = map Far adds ++ hs in
         let kept : is_kept m.kind ≡ true = ap is_kept kind in
         let by = handed_by past x law h.hears kept in
-        let w = begun_as clocks one other server_end client_end past x by.bytes law by.call m by.spells kind in
+        let w = begun_as clocks one other addresses.server addresses.client past x by.bytes law by.call m by.spells
+        kind in
         let b = w.so in
         let there = subst (Ever (λ e. begun e ≡ Some b.con)) (near_far adds hs) b.begun in
         record {
@@ -124,56 +130,62 @@ module _ (clocks : Clocks) (one other : Setup) (m : Message) where
           };
         }
 
-    non_heard : (at : ℕ) (adds : List T.Entry) → ChannelLaw clocks one other server_end client_end (map Far adds ++ hs)
-        → Ever (HeardAt server_end m at) adds → m.kind ≡ Non → NonHeard clocks m at hs
+    non_heard : (at : ℕ) (adds : List T.Entry) → ChannelLaw clocks one other addresses.server addresses.client
+        (map Far adds ++ hs)
+        → Ever (HeardAt addresses.server m at) adds → m.kind ≡ Non → NonHeard addresses clocks m at hs
     non_heard at [] law h kind = absurd h
     non_heard at (x ∷ adds) law (inr h) kind = non_heard at adds
-        (earlier clocks one other server_end client_end (map Far adds ++ hs) (Far x) law) h kind
+        (earlier clocks one other addresses.server addresses.client (map Far adds ++ hs) (Far x) law) h kind
     non_heard at (x ∷ adds) law (inl h) kind =
         let past = map Far adds ++ hs in
         let kept : is_kept m.kind ≡ true = ap is_kept kind in
         let by = handed_by past x law h.hears kept in
-        let sent = (nons_sent clocks one other server_end client_end (Far x ∷ past) law).0 x by.bytes m refl by.call by.spells
+        let sent = (nons_sent clocks one other addresses.server addresses.client (Far x ∷ past) law).0 x by.bytes m refl
+        by.call by.spells
         kind in
         record {
           bytes = by.bytes;
           spells = by.spells;
-          sent = subst (λ n. Meanwhile clocks n (near_of hs) (λ when. Ever (PlainSent client_end by.bytes when) (near_of hs)))
+          sent = subst (λ n. Meanwhile clocks n (near_of hs) (λ when. Ever (PlainSent addresses.client by.bytes when)
+              (near_of hs)))
               h.at_is
-              (subst (λ l. Meanwhile clocks x.at l (λ when. Ever (PlainSent client_end by.bytes when) l))
+              (subst (λ l. Meanwhile clocks x.at l (λ when. Ever (PlainSent addresses.client by.bytes when) l))
               (near_far adds hs) sent);
         }
 
     replies_there : (con : Open) (bytes : List ℕ) (past : List Hop) (h : Hop)
-        → OnFarThen (RepliesTo clocks client_end con bytes) past h → OnFar (λ b. b.call ≡ T.Reply client_end con.id bytes) h
+        → OnFarThen (RepliesTo clocks addresses.client con bytes) past h
+        → OnFar (λ b. b.call ≡ T.Reply addresses.client con.id bytes) h
     replies_there con bytes past (Near e) k = absurd k
     replies_there con bytes past (Far e) k = k.call
 
-    ack_heard : (at : ℕ) (adds : List T.Entry) → ChannelLaw clocks one other client_end server_end (map Near adds ++ hs)
-        → Ever (HeardAt server_end m at) adds → m.kind ≡ Ack → AckHeard m hs
+    ack_heard : (at : ℕ) (adds : List T.Entry) → ChannelLaw clocks one other addresses.client addresses.server
+        (map Near adds ++ hs)
+        → Ever (HeardAt addresses.server m at) adds → m.kind ≡ Ack → AckHeard addresses m hs
     ack_heard at [] law h kind = absurd h
     ack_heard at (x ∷ adds) law (inr h) kind = ack_heard at adds
-        (earlier clocks one other client_end server_end (map Near adds ++ hs) (Near x) law) h kind
+        (earlier clocks one other addresses.client addresses.server (map Near adds ++ hs) (Near x) law) h kind
     ack_heard at (x ∷ adds) law (inl h) kind =
         let past = map Near adds ++ hs in
         let near = x ∷ near_of past in
         let c = (responses_spelled one near law.near_law).0 m h.hears.answer in
-        let a = (acks_heard one near law.near_law).0 server_end h.hears.bytes m.id h.hears.call
+        let a = (acks_heard one near law.near_law).0 addresses.server h.hears.bytes m.id h.hears.call
         (inr (m, h.hears.answer, kind, refl)) in
-        let r = (acks_replied clocks one other client_end server_end (Near x ∷ past) law).0 x a.0 refl a.1 a.3 in
+        let r = (acks_replied clocks one other addresses.client addresses.server (Near x ∷ past) law).0 x a.0 refl a.1
+        a.3 in
         let calls : T.Receive c.from c.bytes ≡ T.Receive a.0.to a.3.bytes = let p = c.call in let q =
         a.3.call in cc (p, q) in
         let bytes : c.bytes ≡ a.3.bytes = cc calls in
-        let there = Ever_of_Sometime (OnFarThen (RepliesTo clocks client_end a.0 a.3.bytes))
-        (OnFar (λ b. b.call ≡ T.Reply client_end a.0.id a.3.bytes))
+        let there = Ever_of_Sometime (OnFarThen (RepliesTo clocks addresses.client a.0 a.3.bytes))
+        (OnFar (λ b. b.call ≡ T.Reply addresses.client a.0.id a.3.bytes))
         (λ p e k. inl (replies_there a.0 a.3.bytes p e k)) past r in
-        let given = subst (Ever (λ b. b.call ≡ T.Reply client_end a.0.id a.3.bytes)) (far_near adds hs)
-        (far_ever (λ b. b.call ≡ T.Reply client_end a.0.id a.3.bytes) past there) in
+        let given = subst (Ever (λ b. b.call ≡ T.Reply addresses.client a.0.id a.3.bytes)) (far_near adds hs)
+        (far_ever (λ b. b.call ≡ T.Reply addresses.client a.0.id a.3.bytes) past there) in
         record {
           bytes = c.bytes;
           spells = c.spells;
-          given = subst (λ z. Ever (λ b. b.call ≡ T.Reply client_end m.id z) (far_of hs)) (sym bytes)
-              (subst (λ z. Ever (λ b. b.call ≡ T.Reply client_end z a.3.bytes) (far_of hs)) a.2 given);
+          given = subst (λ z. Ever (λ b. b.call ≡ T.Reply addresses.client m.id z) (far_of hs)) (sym bytes)
+              (subst (λ z. Ever (λ b. b.call ≡ T.Reply addresses.client z a.3.bytes) (far_of hs)) a.2 given);
         }
 
 module _ (config : Config) where
@@ -182,15 +194,15 @@ module _ (config : Config) where
 
   -- the server tells it in this CON
   abbrev pub TellsCon : Open → Message → List S.Call → S.Call → Type 0
-  TellsCon con m past c = TellsIn config.limits config.server_szx (InCon con.id) client_end m past c
+  TellsCon con m past c = TellsIn config.limits config.server_szx (InCon con.id) config.addresses.client m past c
       × Ever (λ b. begun b ≡ Some con) (call_adds config.limits config.server_szx config.server_setup past c)
 
   abbrev pub TellsAck : Message → List S.Call → S.Call → Type 0
-  TellsAck m past c = TellsIn config.limits config.server_szx InReply client_end m past c
+  TellsAck m past c = TellsIn config.limits config.server_szx InReply config.addresses.client m past c
 
   -- .. in a NON, at most MAX_LATENCY before this moment, and by another one
   pub record TellsNon (m : Message) (when now : ℕ) (past : List S.Call) (c : S.Call) : Type 0 where
-    pub tells : TellsIn config.limits config.server_szx InNon client_end m past c
+    pub tells : TellsIn config.limits config.server_szx InNon config.addresses.client m past c
     pub from : tells.told.at ≤ when
     pub till : when ≤ tells.told.at + max_latency
     pub before : tells.told.at ≤ now
@@ -198,14 +210,14 @@ module _ (config : Config) where
   -- a CON that was begun before this moment, handed up here, and the call of the server that told it
   pub record ConTold (clocks : Clocks) (m : Message) (at : ℕ) (past : List Entry) (adds : List T.Entry) : Type 0 where
     pub con : Open
-    pub to_is : con.to ≡ client_end
+    pub to_is : con.to ≡ config.addresses.client
     pub begun_before : Ever (λ b. begun b ≡ Some con) (near_of (across (hops_in config past)))
-    pub up : Ever (HandsUpAs clocks server_end con) adds
+    pub up : Ever (HandsUpAs clocks config.addresses.server con) adds
     pub told : Sometime (TellsCon con m) (trace past)
     pub behind : Behind clocks (across (hops_in config past)) con.first at
 
   module _ (past : List Entry) (c : C.Call) (law : Lawful config (OfClient c ∷ past)) (m : Message)
-      (at : ℕ) (hears : Ever (HeardAt server_end m at) (client_adds config (client_of past) c))
+      (at : ℕ) (hears : Ever (HeardAt config.addresses.server m at) (client_adds config (client_of past) c))
       (note : is_notification m ≡ true) where
     abbrev adds : List T.Entry
     adds = client_adds config (client_of past) c
@@ -218,12 +230,14 @@ module _ (config : Config) where
     abbrev pub now : ℕ
     now = clock (near_of (across (hops_in config past)))
 
-    pub law_across : ChannelLaw back config.server_setup config.client_setup server_end client_end
+    pub law_across : ChannelLaw back config.server_setup config.client_setup config.addresses.server
+        config.addresses.client
         (map Far adds ++ across (hops_in config past))
     law_across =
-        subst (ChannelLaw back config.server_setup config.client_setup server_end client_end)
+        subst (ChannelLaw back config.server_setup config.client_setup config.addresses.server config.addresses.client)
         (across_near adds (hops_in config past))
-        (channel_across law.clocks config.client_setup config.server_setup client_end server_end
+        (channel_across law.clocks config.client_setup config.server_setup config.addresses.client
+        config.addresses.server
         (hops_in config (OfClient c ∷ past)) law.channel)
 
     near_there : near_of (across (hops_in config past))
@@ -239,7 +253,7 @@ module _ (config : Config) where
     -- in a CON
     pub con_told : m.kind ≡ Con → ConTold back m at past adds
     con_told kind =
-        let k = con_heard back config.server_setup config.client_setup m
+        let k = con_heard config.addresses back config.server_setup config.client_setup m
         (across (hops_in config past)) at adds law_across hears kind in
         let P : T.Entry → Type 0 = λ b. begun b ≡ Some k.con in
         let there = located config.limits config.server_szx config.server_setup P (trace past)
@@ -261,28 +275,29 @@ module _ (config : Config) where
     -- in an acknowledgement
     pub ack_told : m.kind ≡ Ack → Sometime (TellsAck m) (trace past)
     ack_told kind =
-        let k = ack_heard law.clocks config.client_setup config.server_setup m (hops_in config past) at adds
+        let k = ack_heard config.addresses law.clocks config.client_setup config.server_setup m (hops_in config past) at
+        adds
         law.channel hears kind in
-        let P : T.Entry → Type 0 = λ b. b.call ≡ T.Reply client_end m.id k.bytes in
+        let P : T.Entry → Type 0 = λ b. b.call ≡ T.Reply config.addresses.client m.id k.bytes in
         let there = located config.limits config.server_szx config.server_setup P (trace past)
         (subst (Ever P) (far_is config past) k.given) in
         by_law (TellsSent config.limits config.server_szx config.server_setup) (Added P) (TellsAck m)
-        (λ p b l h. l.0.replied client_end k.bytes m h k.spells note) (trace past) told there
+        (λ p b l h. l.0.replied config.addresses.client k.bytes m h k.spells note) (trace past) told there
 
     abbrev SentBy : List ℕ → ℕ → T.Entry → Type 0
-    SentBy bytes when e = PlainSent client_end bytes when e × (e.at ≤ now)
+    SentBy bytes when e = PlainSent config.addresses.client bytes when e × (e.at ≤ now)
 
     -- in a NON, which the server's layer sent in that call, at most MAX_LATENCY before
     pub non_sent : m.kind ≡ Non → (bytes : List ℕ) × Spells bytes m
         × Meanwhile back at (near_of (across (hops_in config past)))
         (λ when. Sometime (Added (SentBy bytes when)) (trace past))
     non_sent kind =
-        let k = non_heard back config.server_setup config.client_setup m
+        let k = non_heard config.addresses back config.server_setup config.client_setup m
         (across (hops_in config past)) at adds law_across hears kind in
         let w = k.sent in
         let near_law = subst (LayerLaw config.server_setup) (near_far adds (across (hops_in config past)))
         law_across.near_law in
-        let there = before_now config.server_setup (PlainSent client_end k.bytes (back.near w.instant))
+        let there = before_now config.server_setup (PlainSent config.addresses.client k.bytes (back.near w.instant))
         (near_of (across (hops_in config past))) now near_law (omega arith) w.so in
         let P : T.Entry → Type 0 = SentBy k.bytes (back.near w.instant) in (
           k.bytes,
@@ -299,7 +314,8 @@ module _ (config : Config) where
     -- that was the answer to a request in a NON, or it was told so
     pub non_told : m.kind ≡ Non
         → Meanwhile back at (near_of (across (hops_in config past))) (λ when.
-        Sometime (λ p b. ServesNon config.limits config.server_szx client_end p b ⊎ TellsNon m when now p b) (trace past))
+        Sometime (λ p b. ServesNon config.limits config.server_szx config.addresses.client p b
+        ⊎ TellsNon m when now p b) (trace past))
     non_told kind =
         let sent = non_sent kind in
         let bytes : List ℕ = sent.0 in
@@ -311,16 +327,16 @@ module _ (config : Config) where
           shown = w.shown;
           later = w.later;
           so = by_law (TellsSent config.limits config.server_szx config.server_setup) (Added P)
-              (λ p b. ServesNon config.limits config.server_szx client_end p b ⊎ TellsNon m when now p b)
+              (λ p b. ServesNon config.limits config.server_szx config.addresses.client p b ⊎ TellsNon m when now p b)
               (λ p b l h.
-              elim (l.0.plain client_end bytes m
-              (Ever_map P (λ e. PlainOut e (record { to = client_end; bytes = bytes })) (λ e z. z.0.goes)
+              elim (l.0.plain config.addresses.client bytes m
+              (Ever_map P (λ e. PlainOut e (record { to = config.addresses.client; bytes = bytes })) (λ e z. z.0.goes)
               (call_adds config.limits config.server_szx config.server_setup p b) h) sent.1 note) [
                 | inl z ↦ inl z.1
-                | inr z ↦ (let then = told_in_non config p b z.told client_end bytes when z.here
-                    (Ever_map P (PlainSent client_end bytes when) (λ e y. y.0)
+                | inr z ↦ (let then = told_in_non config p b z.told config.addresses.client bytes when z.here
+                    (Ever_map P (PlainSent config.addresses.client bytes when) (λ e y. y.0)
                     (call_adds config.limits config.server_szx config.server_setup p b) h) in
-                    let early = told_before config p b z.told client_end bytes when now z.here h in
+                    let early = told_before config p b z.told config.addresses.client bytes when now z.here h in
                     inr (record { tells = z; from = then.0; till = then.1; before = early }))
               ])
               (trace past) told w.so;

@@ -23,7 +23,7 @@ use Rattle.coap_client.proofs.Facts.Laws as client_facts
 use Rattle.coap_server.proofs.Facts.Laws as server_facts
 use Rattle.coap_server.specs.Follows.Told.{ServesNon, ServesPair}
 use Rattle.coap_world.specs.CameFrom.{request_of}
-use Rattle.coap_world.specs.Events.{client_end, server_end, Config}
+use Rattle.coap_world.specs.Events.{Config}
 use Rattle.coap_world.specs.Hops.{hops_at, hops_in}
 use Rattle.coap_world.specs.Record.{Entry, OfClient, OfServer, client_of, server_trace, Setting, DelayOf, PlainOf}
 use Rattle.coap_world.specs.Record.{gives_it, settings}
@@ -38,7 +38,7 @@ module _ (config : Config) where
   -- which of the client's requests it is that is served here
   pub came : (past : List Entry) (c : S.Call) → Lawful config (OfServer c ∷ past) → (x : Serving)
       → serving (own_of config.limits config.server_szx (server_trace config past)) c ≡ Some x
-      → x.asked.from ≡ client_end
+      → x.asked.from ≡ config.addresses.client
       → Traced config x.asked x.question (OfServer c ∷ past)
   came past c law x here from =
       let w : List Entry = OfServer c ∷ past in
@@ -48,12 +48,12 @@ module _ (config : Config) where
 
   -- it is a CON
   non_first : (past : List S.Call) (s : Setting)
-      → ServesNon config.limits config.server_szx client_end past (gives_it s) → ⊥
+      → ServesNon config.limits config.server_szx config.addresses.client past (gives_it s) → ⊥
   non_first past (DelayOf d) k = let here = k.here in cc here
   non_first past (PlainOf p) k = let here = k.here in cc here
 
   non_at : (t : List Entry) → Lawful config t → Sometime
-      (AtServer config (ServesNon config.limits config.server_szx client_end)) t → ⊥
+      (AtServer config (ServesNon config.limits config.server_szx config.addresses.client)) t → ⊥
   non_at [] law h = h
   non_at (OfClient c ∷ past) law (inl h) = h
   non_at (OfClient c ∷ past) law (inr h) = non_at past (lawful_back config past (OfClient c) law) h
@@ -63,9 +63,9 @@ module _ (config : Config) where
       h.kind (ap (λ (a : Asked). a.kind) k.came.asked)
 
   pub no_non : (t : List Entry) → Lawful config t
-      → Sometime (ServesNon config.limits config.server_szx client_end) (server_trace config t) → ⊥
+      → Sometime (ServesNon config.limits config.server_szx config.addresses.client) (server_trace config t) → ⊥
   no_non t law h = non_at t law (server_entries config
-      (ServesNon config.limits config.server_szx client_end) non_first t h)
+      (ServesNon config.limits config.server_szx config.addresses.client) non_first t h)
 
 module _ (config : Config) (all : List Entry) (whole : Lawful config all) (number : ℕ) (token : List ℕ)
     (first : Sending) (sent : WasSent config.client_sizes first (client_of all)) (path : List (List ℕ))
@@ -73,7 +73,7 @@ module _ (config : Config) (all : List Entry) (whole : Lawful config all) (numbe
     (none : WasCancelled config.client_sizes number (client_of all) → ⊥) where
   -- the token is that of the registration alone
   is_first : (x : Sending) → WasSent config.client_sizes x (client_of all) → x.token ≡ token → x ≡ first
-  is_first x there same = by (client_facts.tokens server_end config.client_sizes config.client_setup
+  is_first x there same = by (client_facts.tokens config.addresses.server config.client_sizes config.client_setup
       (client_of all) whole.client x first there sent (same ∙ sym token_is))
     where
       by : (x ≡ first) ⊎ (Deregisters x first ⊎ Deregisters first x) → x ≡ first
@@ -86,10 +86,10 @@ module _ (config : Config) (all : List Entry) (whole : Lawful config all) (numbe
           absurd (none (record { sending = x; sent = there; cancels = d.cancels ∙ ap (λ z. Cancelling z) n }))
 
   not_ended : (con other : Open) (m : Message) → Spells con.bytes m → con.id ≡ m.id
-      → m.token ≡ token → Ends server_end config.client_sizes (client_of all) con other → ⊥
+      → m.token ≡ token → Ends config.addresses.server config.client_sizes (client_of all) con other → ⊥
   not_ended con other m spells id here e =
       let same = is_first e.first e.first_sent (sym
-      (ap (λ (z : Message). z.token) (same_request con m e.first e.begins spells id)) ∙ here) in
+      (ap (λ (z : Message). z.token) (same_request config.addresses con m e.first e.begins spells id)) ∙ here) in
       let r : Registering e.deregisters.number e.deregisters.path
       ≡ Registering number path = sym e.deregisters.registers
       ∙ (ap (λ (z : Sending). z.operation) same ∙ registers) in
@@ -103,18 +103,19 @@ module _ (config : Config) (all : List Entry) (whole : Lawful config all) (numbe
   one_con : OneConBy token (near_of (hops_in config all))
   one_con a b i j x y sa sb ia ib ta tb =
       let near = near_is config all in
-      by (client_facts.one_con server_end config.client_sizes config.client_setup (client_of all) whole.client a b
+      by (client_facts.one_con config.addresses.server config.client_sizes config.client_setup (client_of all)
+      whole.client a b
       (subst (Ever (λ e. begun e ≡ Some a)) near i) (subst (Ever (λ e. begun e ≡ Some b)) near j) x y sa sb
       (ta ∙ sym tb))
     where
-      by : (a ≡ b) ⊎ (Ends server_end config.client_sizes (client_of all) a b
-          ⊎ Ends server_end config.client_sizes (client_of all) b a) → a ≡ b
+      by : (a ≡ b) ⊎ (Ends config.addresses.server config.client_sizes (client_of all) a b
+          ⊎ Ends config.addresses.server config.client_sizes (client_of all) b a) → a ≡ b
       by (inl same) = same
       by (inr (inl e)) = absurd (not_ended a b x sa ia ta e)
       by (inr (inr e)) = absurd (not_ended b a y sb ib tb e)
 
   abbrev pub pair : Pair
-  pair = record { to = client_end; token = token }
+  pair = record { to = config.addresses.client; token = token }
 
   abbrev pub Serves : List S.Call → S.Call → Type 0
   Serves past c = ServesPair config.limits config.server_szx pair past c
@@ -134,7 +135,7 @@ module _ (config : Config) (all : List Entry) (whole : Lawful config all) (numbe
   pub record ServesIt (past : List S.Call) (c : S.Call) : Type 0 where
     pub request : Serving
     pub here : serving (own_of config.limits config.server_szx past) c ≡ Some request
-    pub from : request.asked.from ≡ client_end
+    pub from : request.asked.from ≡ config.addresses.client
     pub under : request.asked.token ≡ token
 
   abbrev it : (past : List S.Call) (c : S.Call) → Serves past c → ServesIt past c
@@ -145,7 +146,7 @@ module _ (config : Config) (all : List Entry) (whole : Lawful config all) (numbe
     con : Open
     begun_there : Ever (λ b. begun b ≡ Some con) (near_of (hops_in config all))
     spells : Spells con.bytes (request_of con.id first)
-    asked : x.asked ≡ asked_of client_end (request_of con.id first)
+    asked : x.asked ≡ asked_of config.addresses.client (request_of con.id first)
 
   known : (past : List Entry) (c : S.Call) → Later (OfServer c ∷ past) → Lawful config (OfServer c ∷ past)
       → (k : ServesIt (server_trace config past) c) → Known k.request
@@ -159,14 +160,14 @@ module _ (config : Config) (all : List Entry) (whole : Lawful config all) (numbe
         con = t.came.con;
         begun_there = later.1 t.came.con t.begun_before;
         spells = subst (λ z. Spells t.came.con.bytes (request_of t.came.con.id z)) same t.came.spells;
-        asked = t.came.asked ∙ ap (λ z. asked_of client_end (request_of t.came.con.id z)) same;
+        asked = t.came.asked ∙ ap (λ z. asked_of config.addresses.client (request_of t.came.con.id z)) same;
       }
 
   same_asked_by : (x y : Serving) → Known x → Known y → x.asked ≡ y.asked
   same_asked_by x y k l =
       let c : k.con ≡ l.con = one_con k.con l.con k.begun_there l.begun_there (request_of k.con.id first)
       (request_of l.con.id first) k.spells l.spells refl refl token_is token_is in
-      k.asked ∙ (ap (λ (z : Open). asked_of client_end (request_of z.id first)) c ∙ sym l.asked)
+      k.asked ∙ (ap (λ (z : Open). asked_of config.addresses.client (request_of z.id first)) c ∙ sym l.asked)
 
   abbrev own : List Entry → S.Own
   own past = own_of config.limits config.server_szx (server_trace config past)
@@ -217,9 +218,9 @@ module _ (config : Config) (all : List Entry) (whole : Lawful config all) (numbe
       one_con p q (later.1 p i) (later.1 q j) m n pm qn pi qi (tp ∙ its) (tq ∙ its)
       in
       let nons = subst NoNons (sym (near_is config (e ∷ past)))
-      (client_facts.nons server_end config.client_sizes config.client_setup (client_of past)) in
+      (client_facts.nons config.addresses.server config.client_sizes config.client_setup (client_of past)) in
       let few = once_counted x.asked (hops_in config (e ∷ past))
-      (up_once config.client_setup config.server_setup client_end server_end x.asked a.from
+      (up_once config.client_setup config.server_setup config.addresses.client config.addresses.server x.asked a.from
       (hops_in config (e ∷ past)) law.channel nons cons) in
       let same = ap (ups x.asked) (far_is config (e ∷ past)) in
       omega (arith, before, fewer, counted, few, same)

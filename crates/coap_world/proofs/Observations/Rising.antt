@@ -27,7 +27,7 @@ use Rattle.coap_server.specs.Follows.Tells.{InCon, InNon, InReply, Telling, Way}
 use Rattle.coap_server.specs.Follows.Told.{Conveys, TellsIn, TellsSent}
 use Rattle.coap_server.specs.Trace as S
 use Rattle.coap_server.proofs.Facts.EachCall.{all_tell_sent}
-use Rattle.coap_world.specs.Events.{client_end, server_end, Config}
+use Rattle.coap_world.specs.Events.{Config}
 use Rattle.coap_world.specs.Hops.{hops_in, across, client_adds}
 use Rattle.coap_world.specs.Record.{Entry, OfClient, OfServer, client_of, server_trace}
 use Rattle.coap_world.specs.Rising.{Names, AreRising, ShowsValue, ValuesRise}
@@ -58,7 +58,7 @@ rising_by v w first second a b less = record {
 }
 
 module _ (config : Config) (small : config.server_szx ≤ 6) (few : config.limits.changes ≤ max_changes) where
-  named : (x : Telling) (m : Message) → Conveys x client_end m → Names x.version (tag_in m)
+  named : (x : Telling) (m : Message) → Conveys x config.addresses.client m → Names x.version (tag_in m)
   named x m k = record { small = k.small; is = k.tag_is }
 
   -- one that is taken, and the newest before it
@@ -87,7 +87,8 @@ module _ (config : Config) (small : config.server_szx ≤ 6) (few : config.limit
     back = turned law.clocks
 
     taken : IsTaken (sizes config) second (client_of past) c
-    taken = (are_taken server_end (sizes config) config.client_setup (client_of (OfClient c ∷ past)) law.client).0 second
+    taken = (are_taken config.addresses.server (sizes config) config.client_setup (client_of (OfClient c ∷ past))
+        law.client).0 second
         comes
 
     told_here : TakenTold config back second (OfClient c ∷ past)
@@ -116,27 +117,30 @@ module _ (config : Config) (small : config.server_szx ≤ 6) (few : config.limit
         let r = prior_registered in
         let s = second_registered in
         let same = one_registration (sizes config) number r.path s.path r.sending s.sending (client_of past)
-        (ask_once server_end (sizes config) config.client_setup (client_of past) before.client) r.sent s.sent r.registers
+        (ask_once config.addresses.server (sizes config) config.client_setup (client_of past) before.client) r.sent
+        s.sent r.registers
         s.registers in
         sym r.token_is ∙ (ap (λ (x : Sending). x.token) same ∙ s.token_is)
 
     once : OnceOf config.limits config.server_szx config.server_setup
-        (record { to = client_end; token = n.token }) calls
+        (record { to = config.addresses.client; token = n.token }) calls
     once =
         let s = second_registered in
         serves_once config past before number n.token s.sending s.sent s.path s.registers s.token_is none
 
     abbrev Heard : Type 0
-    Heard = Ever (HeardAt server_end n second.mark.at) (client_adds config (client_of past) c)
+    Heard = Ever (HeardAt config.addresses.server n second.mark.at) (client_adds config (client_of past) c)
 
     heard : Heard
-    heard = (are_noted_at server_end (sizes config) config.client_setup (client_of (OfClient c ∷ past)) law.client).0
+    heard = (are_noted_at config.addresses.server (sizes config) config.client_setup (client_of (OfClient c ∷ past))
+        law.client).0
         second comes
 
     abbrev hops : List Hop
     hops = across (hops_in config past)
 
-    across_here : ChannelLaw back config.server_setup config.client_setup server_end client_end
+    across_here : ChannelLaw back config.server_setup config.client_setup config.addresses.server
+        config.addresses.client
         (map Far (client_adds config (client_of past) c) ++ hops)
     across_here = law_across config past c law n second.mark.at heard taken.notification
 
@@ -193,14 +197,15 @@ module _ (config : Config) (small : config.server_szx ≤ 6) (few : config.limit
           (record { number = earlier.numbered x.version b.names }) (meets x x (omega arith) a b) renews
 
     abbrev Says : Way → Message → List S.Call → S.Call → Type 0
-    Says k x p b = TellsIn config.limits config.server_szx k client_end x p b
+    Says k x p b = TellsIn config.limits config.server_szx k config.addresses.client x p b
 
     -- what the server told behind the prior one rises over it
     rises_behind : (k l : Way) (A B : List S.Call → S.Call → Type 0)
         → ((p : List S.Call) (b : S.Call) → A p b → Says k m p b) → ((p : List S.Call) (b : S.Call) → B p b → Says l n p b)
         → Sometime (λ p b. B p b × Sometime A p) calls → Rise prior second
     rises_behind k l A B is_prior is_second h =
-        let f = follows_in config.limits config.server_szx config.server_setup client_end n.token k l m n token refl A B
+        let f = follows_in config.limits config.server_szx config.server_setup config.addresses.client n.token k l m n
+        token refl A B
         is_prior is_second calls before.server once h in
         let x = is_prior f.older f.call f.one in
         let y = is_second (f.after ++ f.call ∷ f.older) f.next f.other in
@@ -221,20 +226,22 @@ module _ (config : Config) (small : config.server_szx ≤ 6) (few : config.limit
         let y = is_second p b h.1 in
         differ (sym x.way_is ∙ (ap (λ (z : Telling). z.way) (same_told k l p b x y) ∙ y.way_is))
 
-    module _ (con : Open) (up : Ever (HandsUpAs back server_end con) (client_adds config (client_of past) c))
+    module _ (con : Open) (up : Ever (HandsUpAs back config.addresses.server con)
+        (client_adds config (client_of past) c))
         (told : Sometime (TellsCon config con n) calls) (begun_before : Ever (λ b. begun b ≡ Some con) (near_of hops))
-        (to : con.to ≡ client_end) where
+        (to : con.to ≡ config.addresses.client) where
       -- the prior one was not told behind this CON, which was acknowledged before
       not_sooner : (k : Way) (A : List S.Call → S.Call → Type 0)
           → ((p : List S.Call) (b : S.Call) → A p b → Says k m p b)
           → Sometime (λ p b. A p b × Sometime (TellsCon config con n) p) calls → ⊥
       not_sooner k A is_prior h =
-          let acked = acked_in config.limits config.server_szx config.server_setup client_end n.token con k n m refl
+          let acked = acked_in config.limits config.server_szx config.server_setup config.addresses.client n.token con k
+          n m refl
           token calls before.server once
           (Sometime_map (λ p b. A p b × Sometime (TellsCon config con n) p)
           (λ p b. Says k m p b × Sometime (TellsCon config con n) p)
           (λ p b x. (is_prior p b x.0, x.1)) calls h) in
-          not_after back config.server_setup config.client_setup con to hops begun_before
+          not_after config.addresses back config.server_setup config.client_setup con to hops begun_before
           (client_adds config (client_of past) c) across_here up (taken_before config con to past before acked)
 
       decide : (k : Way) (A : List S.Call → S.Call → Type 0)
@@ -267,9 +274,9 @@ module _ (config : Config) (small : config.server_szx ≤ 6) (few : config.limit
               (λ same.
               let e = one_begun other calls (all_tell_sent config.limits config.server_szx config.server_setup calls
               before.server) same in
-              not_again back config.server_setup config.client_setup con to hops begun_before
+              not_again config.addresses back config.server_setup config.client_setup con to hops begun_before
               (client_adds config (client_of past) c) across_here up
-              (subst (λ z. Ever (OnFar (HandsUpAs back server_end z)) hops) e before_up)) x
+              (subst (λ z. Ever (OnFar (HandsUpAs back config.addresses.server z)) hops) e before_up)) x
 
     module _ (w : Meanwhile back second.mark.at (near_of hops) (λ when. Sometime (TellsNon config n when now) calls)) where
       abbrev ByNon : List S.Call → S.Call → Type 0
@@ -294,7 +301,8 @@ module _ (config : Config) (small : config.server_szx ≤ 6) (few : config.limit
           → ((p : List S.Call) (b : S.Call) (x : A p b) → Behind back hops (is_prior p b x).told.at prior.mark.at)
           → Sometime (λ p b. A p b × Sometime ByNon p) calls → ⊥
       crosses_none k A is_prior from h =
-          let f = follows_in config.limits config.server_szx config.server_setup client_end n.token InNon k n m refl token
+          let f = follows_in config.limits config.server_szx config.server_setup config.addresses.client n.token InNon k
+          n m refl token
           ByNon A (λ p b z. z.tells) is_prior calls before.server once h in
           let x = f.one.tells in
           let y = is_prior (f.after ++ f.call ∷ f.older) f.next f.other in
@@ -329,7 +337,8 @@ module _ (config : Config) (small : config.server_szx ≤ 6) (few : config.limit
           by : HeardTold config back m prior.mark.at past → Rise prior second
           by (in_ack x) = by_non InReply (TellsAck config m) (λ p b h. h)
               (apart InReply InNon (TellsAck config m) ByNon (λ p b h. h) non_says (λ e. cc e) calls)
-              (λ h. reply_first config.limits config.server_szx config.server_setup client_end n.token InNon InReply n m
+              (λ h. reply_first config.limits config.server_szx config.server_setup config.addresses.client n.token
+              InNon InReply n m
               refl token refl calls before.server once
               (Sometime_map (λ p b. TellsAck config m p b × Sometime ByNon p)
               (λ p b. TellsAck config m p b × Sometime (Says InNon n) p)
@@ -344,7 +353,8 @@ module _ (config : Config) (small : config.server_szx ≤ 6) (few : config.limit
               first)) x
 
     rises_here : Rise prior second
-    rises_here = by ((are_of_types server_end (sizes config) config.client_setup (client_of (OfClient c ∷ past))
+    rises_here = by ((are_of_types config.addresses.server (sizes config) config.client_setup
+        (client_of (OfClient c ∷ past))
         law.client).0.noted n later.noted)
       where
         by : (n.kind ≡ Con) ⊎ (n.kind ≡ Non) → Rise prior second
@@ -383,7 +393,8 @@ module _ (config : Config) (small : config.server_szx ≤ 6) (few : config.limit
       let k = earlier_value past (lawful_back config past (OfClient c) law) number tag h in record
       { first = k.first; tag_is = k.tag_is; number_is = k.number_is; shown = inr k.shown }
   earlier_value (OfClient c ∷ past) law number tag (inl h) =
-      let v = (values_are_whole (sizes config) server_end config.client_setup (client_of (OfClient c ∷ past))
+      let v = (values_are_whole (sizes config) config.addresses.server config.client_setup
+      (client_of (OfClient c ∷ past))
       law.client).0 number h.sequence tag h.format h.body h.here in
       record {
         first = v.first;
@@ -398,20 +409,23 @@ module _ (config : Config) (small : config.server_szx ≤ 6) (few : config.limit
   rises_at past (OfServer c) law formats number first second h sooner = absurd h.here
   rises_at past (OfClient c) law formats number first second h sooner =
       let t : List Call = client_of (OfClient c ∷ past) in
-      let v = (values_are_whole (sizes config) server_end config.client_setup t law.client).0 number h.sequence second
+      let v = (values_are_whole (sizes config) config.addresses.server config.client_setup t law.client).0 number
+      h.sequence second
       h.format h.body h.here in
       let shows = shown_of (sizes config) number h.sequence second h.format h.body (client_of past) c v h.here in
       let k = earlier_value past (lawful_back config past (OfClient c) law) number first sooner in
-      let comes = (values_rise (sizes config) server_end config.client_setup t law.client).0 number k.first v.first shows
+      let comes = (values_rise (sizes config) config.addresses.server config.client_setup t law.client).0 number k.first
+      v.first shows
       k.shown in
       let none : WasCancelled (sizes config) number (client_of past) → ⊥ =
-      λ x. (are_over (sizes config) server_end config.client_setup t law.client).0.cancelled number x shows.value in
+      λ x. (are_over (sizes config) config.addresses.server config.client_setup t law.client).0.cancelled number x
+      shows.value in
       let next : Always (RisesNext (sizes config) number) t = (
         λ n of is later. rises_here past c law formats number n of is later none,
         each_next number past (lawful_back config past (OfClient c) law) formats none,
       ) in
       let number_is = newest_number (sizes config) number t v.first v.is_newest in
-      let taken = are_taken server_end (sizes config) config.client_setup t law.client in
+      let taken = are_taken config.addresses.server (sizes config) config.client_setup t law.client in
       let rising = chained (sizes config) number t taken next k.first v.first k.number_is number_is comes in
       subst (λ z. AreRising z second) (sym k.tag_is)
       (subst (λ z. AreRising (tag_in k.first.message) z)

@@ -24,7 +24,7 @@ use Rattle.coap_client.specs.Follows.Types.{IsOfType}
 use Rattle.coap_client.specs.Responses.{is_notification, tag_in}
 use Rattle.coap_client.specs.Trace.{Call}
 use Rattle.coap_client.proofs.Facts.EachCall.{are_noted_at, are_of_types, are_taken}
-use Rattle.coap_world.specs.Events.{client_end, server_end, Config}
+use Rattle.coap_world.specs.Events.{Config}
 use Rattle.coap_world.specs.Hops.{hops_at, hops_in, across, client_adds, server_adds}
 use Rattle.coap_world.specs.Record.{Entry, OfClient, OfServer, client_of, server_trace}
 use Rattle.coap_world.specs.Rising.{Names}
@@ -41,6 +41,7 @@ use Rattle.coap_world.proofs.Reports.HeldThere.{some_shown}
 use Rattle.coap_world.proofs.Reports.ValuesShown.{taken_shown}
 use Rattle.coap_world.proofs.Requests.OfACall.{Lawful, lawful_back}
 use Rattle.coap_world.proofs.Requests.Traced.{sent_later}
+use Rattle.coap_world.specs.declared.addresses.Addresses.{Addresses}
 
 pub far_there : (P : T.Entry → Type 0) (adds : List T.Entry) → Ever P adds → Ever (OnFar P) (map Far adds)
 far_there P [] h = h
@@ -56,15 +57,18 @@ formats_before [] es h = h
 formats_before (e ∷ later) es h = formats_before later es (formats_back (later ++ es) e h)
 
 -- what is heard here was not heard before what was heard in the past
-pub not_earlier : (clocks : Clocks) (one other : Setup) (m n : Message) (before now : ℕ) (hs : List Hop) (adds : List T.Entry)
-    → ChannelLaw clocks one other server_end client_end (map Far adds ++ hs) → Ever (HeardAt server_end n now) adds
-    → Ever (OnFar (HeardAt server_end m before)) hs → before ≤ now
-not_earlier clocks one other m n before now hs [] law up h = absurd up
-not_earlier clocks one other m n before now hs (x ∷ adds) law (inr up) h = not_earlier clocks one other m n before now hs adds
-    (earlier clocks one other server_end client_end (map Far adds ++ hs) (Far x) law) up h
-not_earlier clocks one other m n before now hs (x ∷ adds) law (inl up) h =
+pub not_earlier : (addresses : Addresses) (clocks : Clocks) (one other : Setup) (m n : Message) (before now : ℕ)
+    (hs : List Hop) (adds : List T.Entry)
+    → ChannelLaw clocks one other addresses.server addresses.client (map Far adds ++ hs)
+    → Ever (HeardAt addresses.server n now) adds
+    → Ever (OnFar (HeardAt addresses.server m before)) hs → before ≤ now
+not_earlier addresses clocks one other m n before now hs [] law up h = absurd up
+not_earlier addresses clocks one other m n before now hs (x ∷ adds) law (inr up) h = not_earlier addresses clocks one
+    other m n before now hs adds
+    (earlier clocks one other addresses.server addresses.client (map Far adds ++ hs) (Far x) law) up h
+not_earlier addresses clocks one other m n before now hs (x ∷ adds) law (inl up) h =
     let past = map Far adds ++ hs in
-    let P : T.Entry → Type 0 = HeardAt server_end m before in
+    let P : T.Entry → Type 0 = HeardAt addresses.server m before in
     let there = far_ever P past (Ever_back (OnFar P) (map Far adds) hs h) in
     let till = before_now other P (far_of past) x.at law.far_law.1 law.far_law.0.time there in
     let here = up.at_is in
@@ -96,7 +100,7 @@ module _ (config : Config) where
   -- acknowledgement, or in a NON
   pub data HeardTold (clocks : Clocks) (m : Message) (at : ℕ) (t : List Entry) : Type 0 where
     in_con : (con : Open) → Behind clocks (across (hops_in config t)) con.first at
-        → Ever (OnFar (HandsUpAs clocks server_end con)) (across (hops_in config t))
+        → Ever (OnFar (HandsUpAs clocks config.addresses.server con)) (across (hops_in config t))
         → Sometime (TellsCon config con m) (server_trace config t) → HeardTold clocks m at t
     in_ack : Sometime (TellsAck config m) (server_trace config t) → HeardTold clocks m at t
     in_non : NonTold clocks m at t → HeardTold clocks m at t
@@ -143,7 +147,8 @@ module _ (config : Config) where
   heard_more : (clocks : Clocks) (m : Message) (at : ℕ) (e : Entry) (t : List Entry) → Lawful config (e ∷ t)
       → HeardTold clocks m at t → HeardTold clocks m at (e ∷ t)
   heard_more clocks m at e t law (in_con con from up told) = in_con con (behind_more clocks con.first at e t law from)
-      (hops_more (OnFar (HandsUpAs clocks server_end con)) e t up) (server_more config (TellsCon config con m) e t told)
+      (hops_more (OnFar (HandsUpAs clocks config.addresses.server con)) e t up)
+      (server_more config (TellsCon config con m) e t told)
   heard_more clocks m at e t law (in_ack told) = in_ack (server_more config (TellsAck config m) e t told)
   heard_more clocks m at e t law (in_non k) =
       let f = further e t law in
@@ -168,7 +173,7 @@ module _ (config : Config) where
 
   -- it is heard here
   module _ (past : List Entry) (c : Call) (law : Lawful config (OfClient c ∷ past)) (m : Message) (at : ℕ)
-      (hears_it : Ever (HeardAt server_end m at) (client_adds config (client_of past) c))
+      (hears_it : Ever (HeardAt config.addresses.server m at) (client_adds config (client_of past) c))
       (note : is_notification m ≡ true) where
     -- the server's clock is the near one
     abbrev back : Clocks
@@ -186,7 +191,7 @@ module _ (config : Config) where
           instant = w.instant;
           shown = w.shown;
           later = w.later;
-          so = other_one (ServesNon config.limits config.server_szx client_end)
+          so = other_one (ServesNon config.limits config.server_szx config.addresses.client)
               (TellsNon config m (back.near w.instant) now)
               (server_trace config past) (no_non config past (lawful_back config past (OfClient c) law)) w.so;
         }
@@ -200,13 +205,13 @@ module _ (config : Config) where
     heard_here (inl kind) =
         let k = con_told config past c law m at hears_it note kind in
         in_con k.con (behind_more back k.con.first at (OfClient c) past law k.behind)
-        (hops_here (HandsUpAs back server_end k.con) past c k.up) k.told
+        (hops_here (HandsUpAs back config.addresses.server k.con) past c k.up) k.told
 
   -- what is taken of an observation was heard so, at the moment that its mark has, under the token of its registration;
   -- and its mark has the number of the version that it shows
   pub record TakenTold (clocks : Clocks) (n : Newly) (t : List Entry) : Type 0 where
     pub told : HeardTold clocks n.message n.mark.at t
-    pub heard : Ever (OnFar (HeardAt server_end n.message n.mark.at)) (across (hops_in config t))
+    pub heard : Ever (OnFar (HeardAt config.addresses.server n.message n.mark.at)) (across (hops_in config t))
     pub registered : WasRegistered sizes n.number n.message.token (client_of t)
     pub numbered : (v : ℕ) → Names v (tag_in n.message) → n.mark.number ≡ sequence_number v
 
@@ -225,12 +230,12 @@ module _ (config : Config) where
         → TakenTold (turned law.clocks) n (OfClient c ∷ past)
     taken_here past c law formats n is =
         let t : List Call = client_of (OfClient c ∷ past) in
-        let k = (are_taken server_end sizes config.client_setup t law.client).0 n is in
-        let types = (are_of_types server_end sizes config.client_setup t law.client).0 in
-        let hears = (are_noted_at server_end sizes config.client_setup t law.client).0 n is in
+        let k = (are_taken config.addresses.server sizes config.client_setup t law.client).0 n is in
+        let types = (are_of_types config.addresses.server sizes config.client_setup t law.client).0 in
+        let hears = (are_noted_at config.addresses.server sizes config.client_setup t law.client).0 n is in
         record {
           told = heard_here past c law n.message n.mark.at hears k.notification (by types k.comes);
-          heard = hops_here (HeardAt server_end n.message n.mark.at) past c hears;
+          heard = hops_here (HeardAt config.addresses.server n.message n.mark.at) past c hears;
           registered = registered_more n.number n.message.token (OfClient c) past k.registered;
           numbered = number_here past c law formats n is k;
         }
@@ -250,7 +255,7 @@ module _ (config : Config) where
         let k = taken_told past (lawful_back config past e law) (formats_back past e formats) n h in
         record {
           told = heard_more (turned law.clocks) n.message n.mark.at e past law k.told;
-          heard = hops_more (OnFar (HeardAt server_end n.message n.mark.at)) e past k.heard;
+          heard = hops_more (OnFar (HeardAt config.addresses.server n.message n.mark.at)) e past k.heard;
           registered = registered_more n.number n.message.token e past k.registered;
           numbered = k.numbered;
         }

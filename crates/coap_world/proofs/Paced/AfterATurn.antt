@@ -11,7 +11,7 @@ use Rattle.coap_layer.specs.Paced.{IsFair}
 use Rattle.coap_layer.specs.Trace.{Receive, Entry}
 use Rattle.coap_layer.specs.Words.{clock, waiting}
 use Rattle.coap_world.specs.Clocks.{Clocks, of_layers}
-use Rattle.coap_world.specs.Events.{client_end, server_end, Config}
+use Rattle.coap_world.specs.Events.{Config}
 use Rattle.coap_world.specs.Hops.{hops_in, SentIn}
 use Rattle.coap_world.specs.Record as W
 use Rattle.coap_world.specs.Record.{client_of, server_trace, Given, given_by}
@@ -19,6 +19,7 @@ use Rattle.coap_world.proofs.Delivery.ClientInTime as client
 use Rattle.coap_world.proofs.Delivery.EntriesInTime.{Every, Timely}
 use Rattle.coap_world.proofs.Delivery.HopsAreEntries.{client_layer, server_layer, near_far, far_near}
 use Rattle.coap_world.proofs.Delivery.ServerInTime as server
+use Rattle.coap_world.specs.declared.addresses.Addresses.{Addresses}
 
 same_moment : (t : ℕ) (G : Endpoint → List ℕ → Type 0) (e : Entry) → Timely t G e → (from : Endpoint) (bytes : List ℕ)
     → e.call ≡ Receive from bytes → t ≡ e.at
@@ -30,36 +31,36 @@ pub clock_by : (t : ℕ) (G : Endpoint → List ℕ → Type 0) (xs past : List 
 clock_by t G [] past h by = by
 clock_by t G (x ∷ xs) past h by = h.0.till
 
-module _ (c : Clocks) (n : ℕ) (G : Endpoint → List ℕ → Type 0) (hs : List Hop)
-    (old : Always (IsFair (of_layers c) client_end server_end) hs) where
+module _ (addresses : Addresses) (c : Clocks) (n : ℕ) (G : Endpoint → List ℕ → Type 0) (hs : List Hop)
+    (old : Always (IsFair (of_layers c) addresses.client addresses.server) hs) where
   pub near_fair : clock (far_of hs) ≤ c.server n
-      → ((bytes : List ℕ) → G server_end bytes → Ever (OnFar (GaveOut client_end bytes (c.server n))) hs)
+      → ((bytes : List ℕ) → G addresses.server bytes → Ever (OnFar (GaveOut addresses.client bytes (c.server n))) hs)
       → (xs : List Entry) → Every (Timely (c.client n) G) xs
-      → Always (IsFair (of_layers c) client_end server_end) (map Near xs ++ hs)
+      → Always (IsFair (of_layers c) addresses.client addresses.server) (map Near xs ++ hs)
   near_fair by f [] h = old
   near_fair by f (x ∷ xs) h = (
     (λ bytes is. record {
       instant = n;
-      shown = same_moment (c.client n) G x h.0 server_end bytes is;
+      shown = same_moment (c.client n) G x h.0 addresses.server bytes is;
       later = subst (λ l. clock l ≤ c.server n) (sym (far_near xs hs)) by;
-      so = Ever_back (OnFar (GaveOut client_end bytes (c.server n))) (map Near xs) hs
-          (f bytes (h.0.fed server_end bytes is).0);
+      so = Ever_back (OnFar (GaveOut addresses.client bytes (c.server n))) (map Near xs) hs
+          (f bytes (h.0.fed addresses.server bytes is).0);
     }),
     near_fair by f xs h.1,
   )
 
   pub far_fair : clock (near_of hs) ≤ c.client n
-      → ((bytes : List ℕ) → G client_end bytes → Ever (OnNear (GaveOut server_end bytes (c.client n))) hs)
+      → ((bytes : List ℕ) → G addresses.client bytes → Ever (OnNear (GaveOut addresses.server bytes (c.client n))) hs)
       → (xs : List Entry) → Every (Timely (c.server n) G) xs
-      → Always (IsFair (of_layers c) client_end server_end) (map Far xs ++ hs)
+      → Always (IsFair (of_layers c) addresses.client addresses.server) (map Far xs ++ hs)
   far_fair by f [] h = old
   far_fair by f (x ∷ xs) h = (
     (λ bytes is. record {
       instant = n;
-      shown = same_moment (c.server n) G x h.0 client_end bytes is;
+      shown = same_moment (c.server n) G x h.0 addresses.client bytes is;
       later = subst (λ l. clock l ≤ c.client n) (sym (near_far xs hs)) by;
-      so = Ever_back (OnNear (GaveOut server_end bytes (c.client n))) (map Far xs) hs
-          (f bytes (h.0.fed client_end bytes is).0);
+      so = Ever_back (OnNear (GaveOut addresses.server bytes (c.client n))) (map Far xs) hs
+          (f bytes (h.0.fed addresses.client bytes is).0);
     }),
     far_fair by f xs h.1,
   )
@@ -76,27 +77,33 @@ module _ (c : Clocks) (config : Config) (n : ℕ) where
 
   pub record Leaves (at : ℕ) (entries es : List W.Entry) : Type 0 where
     pub still : Still (entries ++ es)
-    pub sent : (g : Given) → Ever (λ h. h ≡ g) (all_of (given_by at) entries) → SentIn (hops_in config (entries ++ es)) g
+    pub sent : (g : Given) → Ever (λ h. h ≡ g) (all_of (given_by config.addresses at) entries)
+        → SentIn config.addresses (hops_in config (entries ++ es)) g
 
   pub record Goes (at : ℕ) (entries es : List W.Entry) : Type 0 where
     pub leaves : Leaves at entries es
-    pub fair : Always (IsFair (of_layers c) client_end server_end) (hops_in config (entries ++ es))
+    pub fair : Always (IsFair (of_layers c) config.addresses.client config.addresses.server)
+        (hops_in config (entries ++ es))
 
 -- at any time
-module _ (t : ℕ) (G : Endpoint → List ℕ → Type 0) (hs : List Hop)
-    (old : Always (any_time.IsFair client_end server_end) hs) where
-  pub near_any : ((bytes : List ℕ) → G server_end bytes → Ever (OnFar (WasOut client_end bytes)) hs)
-      → (xs : List Entry) → Every (Timely t G) xs → Always (any_time.IsFair client_end server_end) (map Near xs ++ hs)
+module _ (addresses : Addresses) (t : ℕ) (G : Endpoint → List ℕ → Type 0) (hs : List Hop)
+    (old : Always (any_time.IsFair addresses.client addresses.server) hs) where
+  pub near_any : ((bytes : List ℕ) → G addresses.server bytes → Ever (OnFar (WasOut addresses.client bytes)) hs)
+      → (xs : List Entry) → Every (Timely t G) xs → Always (any_time.IsFair addresses.client addresses.server)
+      (map Near xs ++ hs)
   near_any f [] h = old
   near_any f (x ∷ xs) h = (
-    (λ bytes is. Ever_back (OnFar (WasOut client_end bytes)) (map Near xs) hs (f bytes (h.0.fed server_end bytes is).0)),
+    (λ bytes is. Ever_back (OnFar (WasOut addresses.client bytes)) (map Near xs) hs
+        (f bytes (h.0.fed addresses.server bytes is).0)),
     near_any f xs h.1,
   )
 
-  pub far_any : ((bytes : List ℕ) → G client_end bytes → Ever (OnNear (WasOut server_end bytes)) hs)
-      → (xs : List Entry) → Every (Timely t G) xs → Always (any_time.IsFair client_end server_end) (map Far xs ++ hs)
+  pub far_any : ((bytes : List ℕ) → G addresses.client bytes → Ever (OnNear (WasOut addresses.server bytes)) hs)
+      → (xs : List Entry) → Every (Timely t G) xs → Always (any_time.IsFair addresses.client addresses.server)
+      (map Far xs ++ hs)
   far_any f [] h = old
   far_any f (x ∷ xs) h = (
-    (λ bytes is. Ever_back (OnNear (WasOut server_end bytes)) (map Far xs) hs (f bytes (h.0.fed client_end bytes is).0)),
+    (λ bytes is. Ever_back (OnNear (WasOut addresses.server bytes)) (map Far xs) hs
+        (f bytes (h.0.fed addresses.client bytes is).0)),
     far_any f xs h.1,
   )

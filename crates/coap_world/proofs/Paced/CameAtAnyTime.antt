@@ -20,7 +20,7 @@ use Rattle.coap_server.specs.Follows.Brings.{HandsUp, Comes}
 use Rattle.coap_server.specs.Checks.{Verdict}
 use Rattle.coap_server.specs.Trace as S
 use Rattle.coap_world.specs.CameFrom.{CameFrom, CamesFrom}
-use Rattle.coap_world.specs.Events.{client_end, server_end, Config}
+use Rattle.coap_world.specs.Events.{Config}
 use Rattle.coap_world.specs.Hops.{hops_at, hops_in, server_adds}
 use Rattle.coap_world.specs.Record.{Entry, OfClient, OfServer, client_of, server_trace}
 use Rattle.coap_world.proofs.Delivery.HopsAreEntries.{near_far, near_is}
@@ -96,11 +96,12 @@ module _ (one other : Setup) (near far : Endpoint) (V : Message → Type 0) (a :
 
 module _ (config : Config) where
   abbrev IsFair : List Entry → Type 0
-  IsFair t = FairLaw config.client_setup config.server_setup client_end server_end (hops_in config t)
+  IsFair t = FairLaw config.client_setup config.server_setup config.addresses.client config.addresses.server
+      (hops_in config t)
 
   came_here : (past : List Entry) (c : S.Call) → IsFair (OfServer c ∷ past) → FromClient config past → (a : Asked)
       (v : Verdict) → Comes config.limits config.server_szx config.server_setup (server_trace config past) c a v
-      → a.from ≡ client_end → CameFrom config past (OfServer c) a v
+      → a.from ≡ config.addresses.client → CameFrom config past (OfServer c) a v
   came_here past c law own a v up from =
       let adds : List T.Entry = server_adds config (server_trace config past) c in
       let ups = Ever_map (HandsUp config.server_szx a v) (UpOf (Says config v) a)
@@ -115,12 +116,14 @@ module _ (config : Config) where
       (handed_there config (server_trace config past) c a v up)
       in
       let nons = subst NoNons (sym (near_is config past))
-      (client_facts.nons server_end config.client_sizes config.client_setup (client_of past)) in
-      let f = find_at config.client_setup config.server_setup client_end server_end (Says config v) a from adds
+      (client_facts.nons config.addresses.server config.client_sizes config.client_setup (client_of past)) in
+      let f = find_at config.client_setup config.server_setup config.addresses.client config.addresses.server
+      (Says config v) a from adds
       (hops_in config past) law nons ups in
-      let r = client_facts.begins server_end config.client_sizes config.client_setup (client_of past) own f.con
+      let r = client_facts.begins config.addresses.server config.client_sizes config.client_setup (client_of past) own
+      f.con
       (subst (Ever (λ b. begun b ≡ Some f.con)) (near_is config past) f.begun_before) in
-      let same = same_request f.con f.message r.0 r.2 f.spells f.id in
+      let same = same_request config.addresses f.con f.message r.0 r.2 f.spells f.id in
       record {
         sending = r.0;
         sent = r.1;
@@ -128,7 +131,7 @@ module _ (config : Config) where
         begun_before = f.begun_before;
         is = r.2;
         spells = subst (Spells f.con.bytes) same f.spells;
-        asked = f.asked ∙ ap (asked_of client_end) same;
+        asked = f.asked ∙ ap (asked_of config.addresses.client) same;
         verdict = subst (Says config v) same f.verdict;
       }
 
@@ -136,12 +139,15 @@ module _ (config : Config) where
   came_at_any_time [] law own = tt
   came_at_any_time (OfClient c ∷ past) law own = (
     λ a v comes from. absurd comes,
-    came_at_any_time past (fair_back config.client_setup config.server_setup client_end server_end
+    came_at_any_time past (fair_back config.client_setup config.server_setup config.addresses.client
+        config.addresses.server
         (hops_at config past (OfClient c)) (hops_in config past) law)
-        (client_facts.back server_end config.client_sizes config.client_setup (c ∷ []) (client_of past) own),
+        (client_facts.back config.addresses.server config.client_sizes config.client_setup (c ∷ []) (client_of past)
+        own),
   )
   came_at_any_time (OfServer c ∷ past) law own = (
     λ a v comes from. came_here past c law own a v comes from,
-    came_at_any_time past (fair_back config.client_setup config.server_setup client_end server_end
+    came_at_any_time past (fair_back config.client_setup config.server_setup config.addresses.client
+        config.addresses.server
         (hops_at config past (OfServer c)) (hops_in config past) law) own,
   )

@@ -12,7 +12,7 @@ use Rattle.coap_layer.specs.Words.{clock, waiting}
 use Rattle.coap_client.specs.Trace.{Call, NextOut, NextReport, Reported}
 use Rattle.coap_world.specs.Clocks.{Clocks, of_layers}
 use Rattle.coap_world.specs.Delivery.{FedToClient}
-use Rattle.coap_world.specs.Events.{client_end, server_end, Config}
+use Rattle.coap_world.specs.Events.{Config}
 use Rattle.coap_world.specs.Hops.{hops_in, SendsAt, SentIn}
 use Rattle.coap_world.specs.Record.{Entry, OfClient, client_of, server_trace, begun_with, Given, given_by}
 use Rattle.coap_world.proofs.Delivery.AfterATurn.{on_near}
@@ -55,7 +55,8 @@ module _ (c : Clocks) (config : Config) (n : ℕ) where
         (down config (told_after reports (taken_after outs calls) ++ client_of es) (NextReport None) good))
 
     sent_now : IsGood config (all ++ client_of es) → (g : Given)
-        → Ever (λ h. h ≡ g) (all_of (given_by t) (map OfClient all)) → SentIn (map Near adds ++ hops_in config es) g
+        → Ever (λ h. h ≡ g) (all_of (given_by config.addresses t) (map OfClient all))
+        → SentIn config.addresses (map Near adds ++ hops_in config es) g
     sent_now good g h =
         let k = taken_out (client_side config) t g all h in
         inl (
@@ -85,56 +86,62 @@ module _ (c : Clocks) (config : Config) (n : ℕ) where
             far_by = subst (λ l. clock l ≤ c.server n) (sym (ap far_of hops ∙ far_near adds (hops_in config es)))
                 still.far_by;
           };
-          sent = λ g h. subst (λ hs. SentIn hs g) (sym hops) (sent_now here g h);
+          sent = λ g h. subst (λ hs. SentIn config.addresses hs g) (sym hops) (sent_now here g h);
         }
 
     pub goes : IsGood config (client_of (map OfClient all ++ es))
-        → ((bytes : List ℕ) → Ever (FedToClient server_end bytes) (map OfClient all)
-        → Ever (OnFar (GaveOut client_end bytes (c.server n))) (hops_in config es))
-        → Always (IsFair (of_layers c) client_end server_end) (hops_in config es)
+        → ((bytes : List ℕ) → Ever (FedToClient config.addresses.server bytes) (map OfClient all)
+        → Ever (OnFar (GaveOut config.addresses.client bytes (c.server n))) (hops_in config es))
+        → Always (IsFair (of_layers c) config.addresses.client config.addresses.server) (hops_in config es)
         → Goes c config n t (map OfClient all) es
     goes good feeds fair =
         record {
           leaves = leaves good;
-          fair = subst (Always (IsFair (of_layers c) client_end server_end)) (sym (hops_are (client_side config) all es))
-              (near_fair c n G (hops_in config es) fair still.far_by feeds adds timely);
+          fair = subst (Always (IsFair (of_layers c) config.addresses.client config.addresses.server))
+              (sym (hops_are (client_side config) all es))
+              (near_fair config.addresses c n G (hops_in config es) fair still.far_by feeds adds timely);
         }
 
     pub goes_any : IsGood config (client_of (map OfClient all ++ es))
-        → ((bytes : List ℕ) → Ever (FedToClient server_end bytes) (map OfClient all)
-        → Ever (OnFar (WasOut client_end bytes)) (hops_in config es))
-        → Always (any_time.IsFair client_end server_end) (hops_in config es)
-        → Leaves c config n t (map OfClient all) es × Always (any_time.IsFair client_end server_end) (hops_in config (map OfClient all ++ es))
+        → ((bytes : List ℕ) → Ever (FedToClient config.addresses.server bytes) (map OfClient all)
+        → Ever (OnFar (WasOut config.addresses.client bytes)) (hops_in config es))
+        → Always (any_time.IsFair config.addresses.client config.addresses.server) (hops_in config es)
+        → Leaves c config n t (map OfClient all) es × Always (any_time.IsFair config.addresses.client
+        config.addresses.server) (hops_in config (map OfClient all ++ es))
     goes_any good feeds fair = (
       leaves good,
-      subst (Always (any_time.IsFair client_end server_end)) (sym (hops_are (client_side config) all es))
-          (near_any t G (hops_in config es) fair feeds adds timely),
+      subst (Always (any_time.IsFair config.addresses.client config.addresses.server))
+          (sym (hops_are (client_side config) all es))
+          (near_any config.addresses t G (hops_in config es) fair feeds adds timely),
     )
 
   pub client_turn : (at : ℕ) (entries es : List Entry) → ClientTurn at entries → c.client n ≡ at → Still c config n es
       → IsGood config (client_of (entries ++ es))
-      → ((bytes : List ℕ) → Ever (FedToClient server_end bytes) entries
-      → Ever (OnFar (GaveOut client_end bytes (c.server n))) (hops_in config es))
-      → Always (IsFair (of_layers c) client_end server_end) (hops_in config es) → Goes c config n at entries es
+      → ((bytes : List ℕ) → Ever (FedToClient config.addresses.server bytes) entries
+      → Ever (OnFar (GaveOut config.addresses.client bytes (c.server n))) (hops_in config es))
+      → Always (IsFair (of_layers c) config.addresses.client config.addresses.server) (hops_in config es)
+      → Goes c config n at entries es
   client_turn at entries es turn shown still good feeds fair =
       let is = turn.on.is in
       subst (λ t. Goes c config n t entries es) shown (subst (λ x. Goes c config n (c.client n) x es) (sym is)
       (goes es turn.on.outs turn.on.reports turn.calls (subst (λ t. Every (IsAt t) turn.calls) (sym shown) turn.at) still
       (subst (λ x. IsGood config (client_of (x ++ es))) is good)
-      (λ bytes h. feeds bytes (subst (Ever (FedToClient server_end bytes)) (sym is) h)) fair))
+      (λ bytes h. feeds bytes (subst (Ever (FedToClient config.addresses.server bytes)) (sym is) h)) fair))
 
   -- at any time
   abbrev pub GoesAny : ℕ → List Entry → List Entry → Type 0
   GoesAny at entries es = Leaves c config n at entries es
-      × Always (any_time.IsFair client_end server_end) (hops_in config (entries ++ es))
+      × Always (any_time.IsFair config.addresses.client config.addresses.server) (hops_in config (entries ++ es))
 
   pub any_turn : (at : ℕ) (entries es : List Entry) → ClientTurn at entries → c.client n ≡ at → Still c config n es
       → IsGood config (client_of (entries ++ es))
-      → ((bytes : List ℕ) → Ever (FedToClient server_end bytes) entries → Ever (OnFar (WasOut client_end bytes)) (hops_in config es))
-      → Always (any_time.IsFair client_end server_end) (hops_in config es) → GoesAny at entries es
+      → ((bytes : List ℕ) → Ever (FedToClient config.addresses.server bytes) entries
+      → Ever (OnFar (WasOut config.addresses.client bytes)) (hops_in config es))
+      → Always (any_time.IsFair config.addresses.client config.addresses.server) (hops_in config es)
+      → GoesAny at entries es
   any_turn at entries es turn shown still good feeds fair =
       let is = turn.on.is in
       subst (λ t. GoesAny t entries es) shown (subst (λ x. GoesAny (c.client n) x es) (sym is)
       (goes_any es turn.on.outs turn.on.reports turn.calls (subst (λ t. Every (IsAt t) turn.calls) (sym shown) turn.at) still
       (subst (λ x. IsGood config (client_of (x ++ es))) is good)
-      (λ bytes h. feeds bytes (subst (Ever (FedToClient server_end bytes)) (sym is) h)) fair))
+      (λ bytes h. feeds bytes (subst (Ever (FedToClient config.addresses.server bytes)) (sym is) h)) fair))

@@ -10,7 +10,7 @@ use Rattle.coap_server.specs.Trace as S
 use Rattle.coap_world.specs.AtAnyTime as any_time
 use Rattle.coap_world.specs.Clocks.{Clocks, AreClocks, Shows, MayCome, IsLegal}
 use Rattle.coap_world.specs.Delivery.{GaveOut, FedToServer, FedToClient}
-use Rattle.coap_world.specs.Events.{client_end, server_end, Config, What, Calls, Observes, Cancels, Forgets, Sets, Removes}
+use Rattle.coap_world.specs.Events.{Config, What, Calls, Observes, Cancels, Forgets, Sets, Removes}
 use Rattle.coap_world.specs.Events.{TickClient, TickServer, Deliver, StrangerToClient, StrangerToServer}
 use Rattle.coap_world.specs.Record.{Given, IsOne, Entry, Turn, given_by, given_in, IsNumber, OnClient}
 use Rattle.coap_world.specs.Record.{OnServer, ClientTick, ServerTick, Makes}
@@ -18,18 +18,19 @@ use Rattle.coap_world.proofs.Delivery.BothEnds.{client_side, server_side}
 use Rattle.coap_world.proofs.Delivery.End.{taken_out}
 use Rattle.coap_world.proofs.Delivery.GivenOutBefore.{number_unique, one_call, tick_of, packet_is, server_call, client_call}
 use Rattle.coap_world.proofs.Delivery.GivenOutBefore.{never_there, never_here}
-use Rattle.coap_world.proofs.Delivery.HopsAreFair.{apart}
 use Rattle.coap_world.proofs.Delivery.OneEndATurn.{ClientTurn, ServerTurn, each_one, each_tick}
 use Rattle.coap_world.proofs.Delivery.ClientInTime as client
 use Rattle.coap_world.proofs.Delivery.ClientTurns as client_turns
 use Rattle.coap_world.proofs.Delivery.ServerInTime as server
 use Rattle.coap_world.proofs.Delivery.ServerTurns as server_turns
+use Rattle.coap_world.specs.declared.addresses.Addresses.{Addresses}
 
 -- each turn is one end's, at the moment that its clock shows
 abbrev pub OfAnEnd : Clocks → ℕ → ℕ → List Entry → Type 0
 OfAnEnd c n at entries = (ClientTurn at entries × (c.client n ≡ at)) ⊎ (ServerTurn at entries × (c.server n ≡ at))
 
-module _ (c : Clocks) (past : List Turn) (t word : ℕ) (refused : Bool) (entries : List Entry) where
+module _ (addresses : Addresses) (two : addresses.client ≡ addresses.server → ⊥) (c : Clocks) (past : List Turn)
+    (t word : ℕ) (refused : Bool) (entries : List Entry) where
   client_one : (Is : C.Call → Type 0) → ((c : C.Call) → Is c → client.IsAt t c) → (gone : Bool) (calls : List C.Call)
       → IsOne Is gone calls → OnClient calls entries → ClientTurn t entries
   client_one Is at gone calls one on =
@@ -40,16 +41,18 @@ module _ (c : Clocks) (past : List Turn) (t word : ℕ) (refused : Bool) (entrie
   server_one Is at gone calls one on =
       record { calls = calls; on = on; at = each_one Is (server.IsAt t) at gone calls one }
 
-  at_server : (to : Endpoint) → to ≡ server_end → Shows c (length past) to t → c.server (length past) ≡ t
-  at_server to is (inl h) = absurd (apart (sym h.0 ∙ is))
+  at_server : (to : Endpoint) → to ≡ addresses.server → Shows addresses c (length past) to t → c.server (length past)
+      ≡ t
+  at_server to is (inl h) = absurd (two (sym h.0 ∙ is))
   at_server to is (inr h) = h.1
 
-  at_client : (to : Endpoint) → to ≡ client_end → Shows c (length past) to t → c.client (length past) ≡ t
+  at_client : (to : Endpoint) → to ≡ addresses.client → Shows addresses c (length past) to t → c.client (length past)
+      ≡ t
   at_client to is (inl h) = h.1
-  at_client to is (inr h) = absurd (apart (sym is ∙ h.0))
+  at_client to is (inr h) = absurd (two (sym is ∙ h.0))
 
   -- it may come at any time
-  pub side : (what : What) → Makes past t word what refused entries → any_time.MayCome c past t what
+  pub side : (what : What) → Makes addresses past t word what refused entries → any_time.MayCome addresses c past t what
       → OfAnEnd c (length past) t entries
   side (Calls r) m h =
       inl (client_one _ (λ c k. subst (client.IsAt t) (sym k.1) refl) refused m.0 m.1 m.2, h)
@@ -88,9 +91,9 @@ module _ (c : Clocks) (past : List Turn) (t word : ℕ) (refused : Bool) (entrie
   side (StrangerToServer from bytes) m h =
       inr (server_one _ (λ c k. subst (server.IsAt t) (sym k.4) refl) refused m.0 m.1 m.2, h.2)
   side (Deliver number) m h =
-      let same : h.0 ≡ m.0 = number_unique number h.0 m.0 (all_of given_in past) h.1 m.1 in
-      let shows : Shows c (length past) m.0.packet.to t =
-      subst (λ (g : Given). Shows c (length past) g.packet.to t) same h.2 in
+      let same : h.0 ≡ m.0 = number_unique number h.0 m.0 (all_of (given_in addresses) past) h.1 m.1 in
+      let shows : Shows addresses c (length past) m.0.packet.to t =
+      subst (λ (g : Given). Shows addresses c (length past) g.packet.to t) same h.2 in
       elim m.2 [
         | inl d ↦ inr (
           server_one _ (λ c k. subst (server.IsAt t) (sym k.4) refl) refused d.1 d.2 d.3,
@@ -103,144 +106,170 @@ module _ (c : Clocks) (past : List Turn) (t word : ℕ) (refused : Bool) (entrie
       ]
 
 -- what comes in time may come
-pub comes_any : (c : Clocks) (past : List Turn) (at : ℕ) (what : What) → MayCome c past at what
-    → any_time.MayCome c past at what
-comes_any c past at (Deliver number) m = (m.0, m.1, m.2)
-comes_any c past at (StrangerToClient from bytes) m = m
-comes_any c past at (StrangerToServer from bytes) m = m
-comes_any c past at (Calls r) m = m
-comes_any c past at (Observes path) m = m
-comes_any c past at (Cancels number) m = m
-comes_any c past at (Forgets number) m = m
-comes_any c past at (Sets path format body) m = m
-comes_any c past at (Removes path) m = m
-comes_any c past at TickClient m = m
-comes_any c past at TickServer m = m
+pub comes_any : (addresses : Addresses) (c : Clocks) (past : List Turn) (at : ℕ) (what : What)
+    → MayCome addresses c past at what
+    → any_time.MayCome addresses c past at what
+comes_any addresses c past at (Deliver number) m = (m.0, m.1, m.2)
+comes_any addresses c past at (StrangerToClient from bytes) m = m
+comes_any addresses c past at (StrangerToServer from bytes) m = m
+comes_any addresses c past at (Calls r) m = m
+comes_any addresses c past at (Observes path) m = m
+comes_any addresses c past at (Cancels number) m = m
+comes_any addresses c past at (Forgets number) m = m
+comes_any addresses c past at (Sets path format body) m = m
+comes_any addresses c past at (Removes path) m = m
+comes_any addresses c past at TickClient m = m
+comes_any addresses c past at TickServer m = m
 
-abbrev pub Made : List Turn → Type 0
-Made turns = Always (λ past t. Makes past t.event.at t.event.word t.event.what t.refused t.entries) turns
+abbrev pub Made : Addresses → List Turn → Type 0
+Made addresses turns = Always (λ past t. Makes addresses past t.event.at t.event.word t.event.what t.refused t.entries)
+    turns
 
-module _ (config : Config) (c : Clocks) (clocks : AreClocks c) where
+module _ (config : Config) (two : config.addresses.client ≡ config.addresses.server → ⊥) (c : Clocks)
+    (clocks : AreClocks c) where
   -- it was given out by an end, whose clock shows no less at the event of this number
   abbrev pub Before : ℕ → Given → Type 0
-  Before n g = ((g.from ≡ client_end) × (g.at ≤ c.client n)) ⊎ ((g.from ≡ server_end) × (g.at ≤ c.server n))
+  Before n g = ((g.from ≡ config.addresses.client) × (g.at ≤ c.client n))
+      ⊎ ((g.from ≡ config.addresses.server) × (g.at ≤ c.server n))
 
   in_turn : (t : Turn) (past : List Turn) (n : ℕ) → length past ≤ n → OfAnEnd c (length past) t.event.at t.entries
-      → (g : Given) → Ever (λ h. h ≡ g) (given_in t) → Before n g
+      → (g : Given) → Ever (λ h. h ≡ g) (given_in config.addresses t) → Before n g
   in_turn t past n le (inl s) g h =
       let k = taken_out (client_side config) t.event.at g (client_turns.turn_calls s.0.on.outs s.0.on.reports s.0.calls)
-      (subst (λ es. Ever (λ x. x ≡ g) (all_of (given_by t.event.at) es)) s.0.on.is h) in
+      (subst (λ es. Ever (λ x. x ≡ g) (all_of (given_by config.addresses t.event.at) es)) s.0.on.is h) in
       let r = clocks.near.rises (length past) n le in
       let at = k.at in
       let is = s.1 in
       inl (k.by, omega (arith, at, is, r))
   in_turn t past n le (inr s) g h =
       let k = taken_out (server_side config) t.event.at g (server_turns.turn_calls s.0.on.outs s.0.calls)
-      (subst (λ es. Ever (λ x. x ≡ g) (all_of (given_by t.event.at) es)) s.0.on.is h) in
+      (subst (λ es. Ever (λ x. x ≡ g) (all_of (given_by config.addresses t.event.at) es)) s.0.on.is h) in
       let r = clocks.far.rises (length past) n le in
       let at = k.at in
       let is = s.1 in
       inr (k.by, omega (arith, at, is, r))
 
-  pub given_before : (turns : List Turn) → Made turns → Always (IsLegal c) turns → (n : ℕ) → length turns ≤ n → (g : Given)
-      → Ever (λ h. h ≡ g) (all_of given_in turns) → Before n g
+  pub given_before : (turns : List Turn) → Made config.addresses turns → Always (IsLegal config.addresses c) turns
+      → (n : ℕ) → length turns ≤ n → (g : Given)
+      → Ever (λ h. h ≡ g) (all_of (given_in config.addresses) turns) → Before n g
   given_before [] made legal n le g h = absurd h
   given_before (t ∷ past) made legal n le g h = ⊎_elim
-      (in_turn t past n (omega (arith, le)) (side c past t.event.at t.event.word t.refused t.entries t.event.what made.0
-      (comes_any c past t.event.at t.event.what legal.0.comes)) g)
+      (in_turn t past n (omega (arith, le)) (side config.addresses two c past t.event.at t.event.word t.refused
+      t.entries t.event.what made.0
+      (comes_any config.addresses c past t.event.at t.event.what legal.0.comes)) g)
       (given_before past made.1 legal.1 n (omega (arith, le)) g)
-      (Ever_append (λ x. x ≡ g) (given_in t) (all_of given_in past) h)
+      (Ever_append (λ x. x ≡ g) (given_in config.addresses t) (all_of (given_in config.addresses) past) h)
 
   -- the datagram of a number
-  module _ (past : List Turn) (made : Made past) (legal : Always (IsLegal c) past) (at : ℕ) (number : ℕ)
-      (may : MayCome c past at (Deliver number)) (g : Given) (is : IsNumber number g past) where
-    there : Ever (λ h. h ≡ g) (all_of given_in past)
-    there = Ever_of_Sometime _ (λ h. h ≡ g) (λ before h k. inl k.0) (all_of given_in past) is
+  module _ (past : List Turn) (made : Made config.addresses past) (legal : Always (IsLegal config.addresses c) past)
+      (at : ℕ) (number : ℕ)
+      (may : MayCome config.addresses c past at (Deliver number)) (g : Given)
+      (is : IsNumber config.addresses number g past) where
+    there : Ever (λ h. h ≡ g) (all_of (given_in config.addresses) past)
+    there = Ever_of_Sometime _ (λ h. h ≡ g) (λ before h k. inl k.0) (all_of (given_in config.addresses) past) is
 
     same : may.0 ≡ g
-    same = number_unique number may.0 g (all_of given_in past) may.1 is
+    same = number_unique number may.0 g (all_of (given_in config.addresses) past) may.1 is
 
-    now_shown : Shows c (length past) g.from may.3.0
-    now_shown = subst (λ (x : Given). Shows c (length past) x.from may.3.0) same may.3.1
+    now_shown : Shows config.addresses c (length past) g.from may.3.0
+    now_shown = subst (λ (x : Given). Shows config.addresses c (length past) x.from may.3.0) same may.3.1
 
     now_young : may.3.0 ≤ g.at + 100000
     now_young = let y = may.3.2 in let e : may.0.at ≡ g.at = ap (λ (x : Given). x.at) same in omega (arith, y, e)
 
     gave : (from to : Endpoint) (bytes : List ℕ) (when : ℕ) → g.from ≡ from → g.packet.to ≡ to → g.packet.bytes ≡ bytes
-        → g.at ≤ when → when ≤ g.at + 100000 → Ever (GaveOut from to bytes when) (all_of given_in past)
+        → g.at ≤ when → when ≤ g.at + 100000 → Ever (GaveOut from to bytes when)
+        (all_of (given_in config.addresses) past)
     gave from to bytes when f t b early young =
         Ever_map (λ h. h ≡ g) (GaveOut from to bytes when)
         (λ h k. subst (GaveOut from to bytes when) (sym k)
         (record { packet = packet_is g.packet to bytes t b; by = f; early = early; young = omega (arith, young) }))
-        (all_of given_in past) there
+        (all_of (given_in config.addresses) past) there
 
-    pub client_gave : (bytes : List ℕ) → g.from ≡ client_end → g.packet.to ≡ server_end → g.packet.bytes ≡ bytes
-        → Ever (GaveOut client_end server_end bytes (c.client (length past))) (all_of given_in past)
-    client_gave bytes f t b = ⊎_elim ours (λ k. absurd (apart (sym f ∙ k.0)))
+    pub client_gave : (bytes : List ℕ) → g.from ≡ config.addresses.client → g.packet.to ≡ config.addresses.server
+        → g.packet.bytes ≡ bytes
+        → Ever (GaveOut config.addresses.client config.addresses.server bytes (c.client (length past)))
+        (all_of (given_in config.addresses) past)
+    client_gave bytes f t b = ⊎_elim ours (λ k. absurd (two (sym f ∙ k.0)))
         (given_before past made legal (length past) (omega arith) g there)
       where
-        ours : (g.from ≡ client_end) × (g.at ≤ c.client (length past))
-            → Ever (GaveOut client_end server_end bytes (c.client (length past))) (all_of given_in past)
+        ours : (g.from ≡ config.addresses.client) × (g.at ≤ c.client (length past))
+            → Ever (GaveOut config.addresses.client config.addresses.server bytes (c.client (length past)))
+            (all_of (given_in config.addresses) past)
         ours k = ⊎_elim
             (λ s. let y = now_young in let e = s.1 in
-            gave client_end server_end bytes (c.client (length past)) f t b k.1 (omega (arith, y, e)))
-            (λ s. absurd (apart (sym f ∙ s.0))) now_shown
+            gave config.addresses.client config.addresses.server bytes (c.client (length past)) f t b k.1
+            (omega (arith, y, e)))
+            (λ s. absurd (two (sym f ∙ s.0))) now_shown
 
-    pub server_gave : (bytes : List ℕ) → g.from ≡ server_end → g.packet.to ≡ client_end → g.packet.bytes ≡ bytes
-        → Ever (GaveOut server_end client_end bytes (c.server (length past))) (all_of given_in past)
-    server_gave bytes f t b = ⊎_elim (λ k. absurd (apart (sym k.0 ∙ f))) ours
+    pub server_gave : (bytes : List ℕ) → g.from ≡ config.addresses.server → g.packet.to ≡ config.addresses.client
+        → g.packet.bytes ≡ bytes
+        → Ever (GaveOut config.addresses.server config.addresses.client bytes (c.server (length past)))
+        (all_of (given_in config.addresses) past)
+    server_gave bytes f t b = ⊎_elim (λ k. absurd (two (sym k.0 ∙ f))) ours
         (given_before past made legal (length past) (omega arith) g there)
       where
-        ours : (g.from ≡ server_end) × (g.at ≤ c.server (length past))
-            → Ever (GaveOut server_end client_end bytes (c.server (length past))) (all_of given_in past)
-        ours k = ⊎_elim (λ s. absurd (apart (sym s.0 ∙ f)))
+        ours : (g.from ≡ config.addresses.server) × (g.at ≤ c.server (length past))
+            → Ever (GaveOut config.addresses.server config.addresses.client bytes (c.server (length past)))
+            (all_of (given_in config.addresses) past)
+        ours k = ⊎_elim (λ s. absurd (two (sym s.0 ∙ f)))
             (λ s. let y = now_young in let e = s.1 in
-            gave server_end client_end bytes (c.server (length past)) f t b k.1 (omega (arith, y, e))) now_shown
+            gave config.addresses.server config.addresses.client bytes (c.server (length past)) f t b k.1
+            (omega (arith, y, e))) now_shown
 
-  module _ (past : List Turn) (made : Made past) (legal : Always (IsLegal c) past) (at word : ℕ) (refused : Bool)
+  module _ (past : List Turn) (made : Made config.addresses past) (legal : Always (IsLegal config.addresses c) past)
+      (at word : ℕ) (refused : Bool)
       (entries : List Entry) (bytes : List ℕ) where
-    pub to_server : (what : What) → Makes past at word what refused entries → MayCome c past at what
-        → Ever (FedToServer client_end bytes) entries
-        → Ever (GaveOut client_end server_end bytes (c.client (length past))) (all_of given_in past)
+    pub to_server : (what : What) → Makes config.addresses past at word what refused entries
+        → MayCome config.addresses c past at what
+        → Ever (FedToServer config.addresses.client bytes) entries
+        → Ever (GaveOut config.addresses.client config.addresses.server bytes (c.client (length past)))
+        (all_of (given_in config.addresses) past)
     to_server (Sets path format body) m may h = let k =
-        one_call _ _ refused m.0 m.1 (server_call client_end bytes m.0 entries m.2 h) in absurd (cc (k.1.2, k.2.6))
+        one_call _ _ refused m.0 m.1 (server_call config.addresses.client bytes m.0 entries m.2 h) in absurd
+        (cc (k.1.2, k.2.6))
     to_server (Removes path) m may h = let k =
-        one_call _ _ false m.0 m.1.0 (server_call client_end bytes m.0 entries m.2 h) in absurd (cc (k.1.2, k.2.6))
+        one_call _ _ false m.0 m.1.0 (server_call config.addresses.client bytes m.0 entries m.2 h) in absurd
+        (cc (k.1.2, k.2.6))
     to_server TickServer m may h = let k = tick_of (ServerTick at word) _ refused m.0 m.1
-        (server_call client_end bytes m.0 entries m.2 h) in absurd (cc (k.2.6, k.3.6))
+        (server_call config.addresses.client bytes m.0 entries m.2 h) in absurd (cc (k.2.6, k.3.6))
     to_server (StrangerToServer from b) m may h =
-        let k = one_call _ _ refused m.0 m.1 (server_call client_end bytes m.0 entries m.2 h) in
-        let same : from ≡ client_end = cc (k.1.4, k.2.6) in
+        let k = one_call _ _ refused m.0 m.1 (server_call config.addresses.client bytes m.0 entries m.2 h) in
+        let same : from ≡ config.addresses.client = cc (k.1.4, k.2.6) in
         absurd (may.0 same)
     to_server (Deliver number) m may h = elim m.2 [
-      | inl d ↦ (let k = one_call _ _ refused d.1 d.2 (server_call client_end bytes d.1 entries d.3 h) in
+      | inl d ↦ (let k = one_call _ _ refused d.1 d.2 (server_call config.addresses.client bytes d.1 entries d.3 h) in
           client_gave past made legal at number may m.0 m.1 bytes (cc (k.1.4, k.2.6)) d.0 (cc (k.1.4, k.2.6)))
-      | inr d ↦ absurd (never_there client_end bytes d.1 entries d.3 h)
+      | inr d ↦ absurd (never_there config.addresses.client bytes d.1 entries d.3 h)
     ]
-    to_server _ m may h = absurd (never_there client_end bytes m.0 entries m.2 h)
+    to_server _ m may h = absurd (never_there config.addresses.client bytes m.0 entries m.2 h)
 
-    pub to_client : (what : What) → Makes past at word what refused entries → MayCome c past at what
-        → Ever (FedToClient server_end bytes) entries
-        → Ever (GaveOut server_end client_end bytes (c.server (length past))) (all_of given_in past)
+    pub to_client : (what : What) → Makes config.addresses past at word what refused entries
+        → MayCome config.addresses c past at what
+        → Ever (FedToClient config.addresses.server bytes) entries
+        → Ever (GaveOut config.addresses.server config.addresses.client bytes (c.server (length past)))
+        (all_of (given_in config.addresses) past)
     to_client (Cancels number) m may h = let k =
-        one_call _ _ false m.0 m.1.0 (client_call server_end bytes m.0 entries m.2 h) in absurd (cc (k.1.1, k.2.8))
+        one_call _ _ false m.0 m.1.0 (client_call config.addresses.server bytes m.0 entries m.2 h) in absurd
+        (cc (k.1.1, k.2.8))
     to_client (Forgets number) m may h = let k =
-        one_call _ _ false m.0 m.1.0 (client_call server_end bytes m.0 entries m.2 h) in absurd (cc (k.1.2, k.2.8))
+        one_call _ _ false m.0 m.1.0 (client_call config.addresses.server bytes m.0 entries m.2 h) in absurd
+        (cc (k.1.2, k.2.8))
     to_client TickClient m may h = let k = tick_of (ClientTick at word) _ refused m.0 m.1
-        (client_call server_end bytes m.0 entries m.2 h) in absurd (cc (k.2.5, k.3.8))
+        (client_call config.addresses.server bytes m.0 entries m.2 h) in absurd (cc (k.2.5, k.3.8))
     to_client (StrangerToClient from b) m may h =
-        let k = one_call _ _ refused m.0 m.1 (client_call server_end bytes m.0 entries m.2 h) in
-        let same : from ≡ server_end = cc (k.1.6, k.2.8) in
+        let k = one_call _ _ refused m.0 m.1 (client_call config.addresses.server bytes m.0 entries m.2 h) in
+        let same : from ≡ config.addresses.server = cc (k.1.6, k.2.8) in
         absurd (may.1 same)
-    to_client (Sets path format body) m may h = absurd (never_here server_end bytes m.0 entries m.2 h)
-    to_client (Removes path) m may h = absurd (never_here server_end bytes m.0 entries m.2 h)
-    to_client TickServer m may h = absurd (never_here server_end bytes m.0 entries m.2 h)
-    to_client (StrangerToServer from b) m may h = absurd (never_here server_end bytes m.0 entries m.2 h)
+    to_client (Sets path format body) m may h = absurd (never_here config.addresses.server bytes m.0 entries m.2 h)
+    to_client (Removes path) m may h = absurd (never_here config.addresses.server bytes m.0 entries m.2 h)
+    to_client TickServer m may h = absurd (never_here config.addresses.server bytes m.0 entries m.2 h)
+    to_client (StrangerToServer from b) m may h = absurd (never_here config.addresses.server bytes m.0 entries m.2 h)
     to_client (Deliver number) m may h = elim m.2 [
-      | inl d ↦ absurd (never_here server_end bytes d.1 entries d.3 h)
-      | inr d ↦ (let k = one_call _ _ refused d.1 d.2 (client_call server_end bytes d.1 entries d.3 h) in
+      | inl d ↦ absurd (never_here config.addresses.server bytes d.1 entries d.3 h)
+      | inr d ↦ (let k = one_call _ _ refused d.1 d.2 (client_call config.addresses.server bytes d.1 entries d.3 h) in
           server_gave past made legal at number may m.0 m.1 bytes (cc (k.1.6, k.2.8)) d.0 (cc (k.1.6, k.2.8)))
     ]
     to_client _ m may h =
-        let k = one_call _ _ refused m.0 m.1 (client_call server_end bytes m.0 entries m.2 h) in
+        let k = one_call _ _ refused m.0 m.1 (client_call config.addresses.server bytes m.0 entries m.2 h) in
         absurd (cc (k.1.1, k.2.8))

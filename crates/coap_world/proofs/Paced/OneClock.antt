@@ -10,10 +10,11 @@ use Rattle.coap_layer.specs.Trace.{Packet}
 use Rattle.coap_client.specs.Trace as C
 use Rattle.coap_server.specs.Trace as S
 use Rattle.coap_world.specs.Clocks as clocks
-use Rattle.coap_world.specs.Events.{client_end, server_end, Config, What, Calls, Observes, Cancels, Forgets, Sets, Removes}
+use Rattle.coap_world.specs.Events.{Config, What, Calls, Observes, Cancels, Forgets, Sets, Removes}
 use Rattle.coap_world.specs.Events.{TickClient, TickServer, Deliver, StrangerToClient, StrangerToServer}
 use Rattle.coap_world.specs.Legal.{NotBefore, MayCome, AllLegal, Legal}
 use Rattle.coap_world.specs.Record.{Given, given_as, Entry, OfClient, OfServer, Turn, given_by, given_in}
+use Rattle.coap_world.specs.declared.addresses.Addresses.{Addresses}
 
 -- what the one clock shows at the event of this number; behind the last one it stands still
 abbrev at_event : List Turn → ℕ → ℕ
@@ -33,16 +34,19 @@ here t past n le = ap (λ b. cond b t.event.at (at_event past n)) (le-leb (lengt
 before : (t : Turn) (past : List Turn) (n : ℕ) → n < length past → at_event (t ∷ past) n ≡ at_event past n
 before t past n less = ap (λ b. cond b t.event.at (at_event past n)) (not_le (length past) n less)
 
-till : (turns : List Turn) (at n : ℕ) → AllLegal turns → NotBefore turns at → at_event turns n ≤ at
-till [] at n legal last = omega arith
-till (t ∷ past) at n legal last = ⊎_elim
-    (λ less. let k = before t past n less in let r = till past t.event.at n legal.1 legal.0.later in
+till : (addresses : Addresses) (turns : List Turn) (at n : ℕ) → AllLegal addresses turns → NotBefore turns at
+    → at_event turns n ≤ at
+till addresses [] at n legal last = omega arith
+till addresses (t ∷ past) at n legal last = ⊎_elim
+    (λ less. let k = before t past n less in let r = till addresses past t.event.at n legal.1 legal.0.later in
     omega (arith, k, r, last))
     (λ le. let k = here t past n le in omega (arith, k, last)) (cases_lt n (length past))
 
-rises : (turns : List Turn) (i j : ℕ) → AllLegal turns → i ≤ j → at_event turns i ≤ at_event turns j
-rises [] i j legal le = omega arith
-rises (t ∷ past) i j legal le = by (rises past i j legal.1 le) (cases_lt i (length past)) (cases_lt j (length past))
+rises : (addresses : Addresses) (turns : List Turn) (i j : ℕ) → AllLegal addresses turns → i ≤ j
+    → at_event turns i ≤ at_event turns j
+rises addresses [] i j legal le = omega arith
+rises addresses (t ∷ past) i j legal le = by (rises addresses past i j legal.1 le) (cases_lt i (length past))
+    (cases_lt j (length past))
   where
     by : at_event past i ≤ at_event past j → (i < length past) ⊎ (length past ≤ i) → (j < length past) ⊎ (length past ≤ j)
         → at_event (t ∷ past) i ≤ at_event (t ∷ past) j
@@ -50,16 +54,17 @@ rises (t ∷ past) i j legal le = by (rises past i j legal.1 le) (cases_lt i (le
         let a = before t past i early in let b = before t past j soon in omega (arith, a, b, r)
     by r (inl early) (inr late) =
         let a = before t past i early in let b = here t past j late in
-        let k = till past t.event.at i legal.1 legal.0.later in omega (arith, a, b, k)
+        let k = till addresses past t.event.at i legal.1 legal.0.later in omega (arith, a, b, k)
     by r (inr behind) q =
         let a = here t past i behind in let b = here t past j (omega (arith, behind, le)) in omega (arith, a, b)
 
 abbrev both : List Turn → clocks.Clocks
 both turns = record { client = at_event turns; server = at_event turns }
 
-paced : (turns : List Turn) → AllLegal turns → layers.KeepsPace (at_event turns) (at_event turns)
-paced turns legal = record {
-  rises = λ i j le. rises turns i j legal le;
+paced : (addresses : Addresses) (turns : List Turn) → AllLegal addresses turns
+    → layers.KeepsPace (at_event turns) (at_event turns)
+paced addresses turns legal = record {
+  rises = λ i j le. rises addresses turns i j legal le;
   pace = λ i j passed le short is. omega (arith, is);
 }
 
@@ -70,32 +75,34 @@ from_end (Some p) at end g (inl h) = sym (ap (λ (x : Given). x.from) h)
 from_end (Some p) at end g (inr h) = absurd h
 from_end None at end g h = absurd h
 
-of_entry : (at : ℕ) (e : Entry) (g : Given) → Ever (λ h. h ≡ g) (given_by at e)
-    → (g.from ≡ client_end) ⊎ (g.from ≡ server_end)
-of_entry at (OfClient (C.NextOut o)) g h = inl (from_end o at client_end g h)
-of_entry at (OfServer (S.NextOut o)) g h = inr (from_end o at server_end g h)
-of_entry at _ g h = absurd h
+of_entry : (addresses : Addresses) (at : ℕ) (e : Entry) (g : Given) → Ever (λ h. h ≡ g) (given_by addresses at e)
+    → (g.from ≡ addresses.client) ⊎ (g.from ≡ addresses.server)
+of_entry addresses at (OfClient (C.NextOut o)) g h = inl (from_end o at addresses.client g h)
+of_entry addresses at (OfServer (S.NextOut o)) g h = inr (from_end o at addresses.server g h)
+of_entry addresses at _ g h = absurd h
 
-of_entries : (at : ℕ) (es : List Entry) (g : Given) → Ever (λ h. h ≡ g) (all_of (given_by at) es)
-    → (g.from ≡ client_end) ⊎ (g.from ≡ server_end)
-of_entries at [] g h = absurd h
-of_entries at (e ∷ es) g h = ⊎_elim (of_entry at e g) (of_entries at es g)
-    (Ever_append (λ x. x ≡ g) (given_by at e) (all_of (given_by at) es) h)
+of_entries : (addresses : Addresses) (at : ℕ) (es : List Entry) (g : Given)
+    → Ever (λ h. h ≡ g) (all_of (given_by addresses at) es)
+    → (g.from ≡ addresses.client) ⊎ (g.from ≡ addresses.server)
+of_entries addresses at [] g h = absurd h
+of_entries addresses at (e ∷ es) g h = ⊎_elim (of_entry addresses at e g) (of_entries addresses at es g)
+    (Ever_append (λ x. x ≡ g) (given_by addresses at e) (all_of (given_by addresses at) es) h)
 
-of_turns : (turns : List Turn) (g : Given) → Ever (λ h. h ≡ g) (all_of given_in turns)
-    → (g.from ≡ client_end) ⊎ (g.from ≡ server_end)
-of_turns [] g h = absurd h
-of_turns (t ∷ past) g h = ⊎_elim (of_entries t.event.at t.entries g) (of_turns past g)
-    (Ever_append (λ x. x ≡ g) (given_in t) (all_of given_in past) h)
+of_turns : (addresses : Addresses) (turns : List Turn) (g : Given)
+    → Ever (λ h. h ≡ g) (all_of (given_in addresses) turns)
+    → (g.from ≡ addresses.client) ⊎ (g.from ≡ addresses.server)
+of_turns addresses [] g h = absurd h
+of_turns addresses (t ∷ past) g h = ⊎_elim (of_entries addresses t.event.at t.entries g) (of_turns addresses past g)
+    (Ever_append (λ x. x ≡ g) (given_in addresses t) (all_of (given_in addresses) past) h)
 
-module _ (whole : List Turn) where
-  shown : (end : Endpoint) (n at : ℕ) → at_event whole n ≡ at → (end ≡ client_end) ⊎ (end ≡ server_end)
-      → clocks.Shows (both whole) n end at
+module _ (addresses : Addresses) (whole : List Turn) where
+  shown : (end : Endpoint) (n at : ℕ) → at_event whole n ≡ at → (end ≡ addresses.client) ⊎ (end ≡ addresses.server)
+      → clocks.Shows addresses (both whole) n end at
   shown end n at is (inl h) = inl (h, is)
   shown end n at is (inr h) = inr (h, is)
 
-  comes : (past : List Turn) (at : ℕ) (what : What) → at_event whole (length past) ≡ at → MayCome past at what
-      → clocks.MayCome (both whole) past at what
+  comes : (past : List Turn) (at : ℕ) (what : What) → at_event whole (length past) ≡ at → MayCome addresses past at what
+      → clocks.MayCome addresses (both whole) past at what
   comes past at (Deliver number) is m = (
     m.0,
     m.1,
@@ -103,7 +110,8 @@ module _ (whole : List Turn) where
     (
       at,
       shown m.0.from (length past) at is
-          (of_turns past m.0 (Ever_of_Sometime _ (λ h. h ≡ m.0) (λ p h k. inl k.0) (all_of given_in past) m.1)),
+          (of_turns addresses past m.0 (Ever_of_Sometime _ (λ h. h ≡ m.0) (λ p h k. inl k.0)
+          (all_of (given_in addresses) past) m.1)),
       m.3,
     ),
   )
@@ -118,8 +126,9 @@ module _ (whole : List Turn) where
   comes past at TickClient is m = is
   comes past at TickServer is m = is
 
-  each : (turns : List Turn) → ((n : ℕ) → n < length turns → at_event whole n ≡ at_event turns n) → AllLegal turns
-      → Always (clocks.IsLegal (both whole)) turns
+  each : (turns : List Turn) → ((n : ℕ) → n < length turns → at_event whole n ≡ at_event turns n)
+      → AllLegal addresses turns
+      → Always (clocks.IsLegal addresses (both whole)) turns
   each [] same legal = tt
   each (t ∷ past) same legal = (
     record {
@@ -138,9 +147,12 @@ pub by_one : (config : Config) (turns : List Turn) → Legal config turns
 by_one config turns legal = (
   at_event turns,
   record {
-    clocks = record { near = paced turns legal.events; far = paced turns legal.events };
+    clocks = record {
+      near = paced config.addresses turns legal.events;
+      far = paced config.addresses turns legal.events;
+    };
     range = legal.range;
-    events = each turns turns (λ n less. refl) legal.events;
+    events = each config.addresses turns turns (λ n less. refl) legal.events;
   },
 )
 
@@ -148,8 +160,11 @@ pub by_two : (config : Config) (turns : List Turn) → Legal config turns → (c
 by_two config turns legal = (
   both turns,
   record {
-    clocks = record { near = paced turns legal.events; far = paced turns legal.events };
+    clocks = record {
+      near = paced config.addresses turns legal.events;
+      far = paced config.addresses turns legal.events;
+    };
     range = legal.range;
-    events = each turns turns (λ n less. refl) legal.events;
+    events = each config.addresses turns turns (λ n less. refl) legal.events;
   },
 )

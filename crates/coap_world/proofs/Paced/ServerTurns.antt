@@ -12,7 +12,7 @@ use Rattle.coap_layer.specs.Words.{clock, waiting}
 use Rattle.coap_server.specs.Trace.{Call}
 use Rattle.coap_world.specs.Clocks.{Clocks, of_layers}
 use Rattle.coap_world.specs.Delivery.{FedToServer}
-use Rattle.coap_world.specs.Events.{client_end, server_end, Config}
+use Rattle.coap_world.specs.Events.{Config}
 use Rattle.coap_world.specs.Hops.{hops_in, SendsAt, SentIn}
 use Rattle.coap_world.specs.Record.{Entry, OfServer, server_trace, Given, given_by}
 use Rattle.coap_world.proofs.Delivery.AfterATurn.{on_far}
@@ -49,8 +49,9 @@ module _ (c : Clocks) (config : Config) (n : ℕ) where
     timely = all_timely (server_side config) t G all past still.server (all_at t outs calls at)
         (λ from bytes h. to_entries from bytes all h)
 
-    sent_now : IsGood config (all ++ past) → (g : Given) → Ever (λ h. h ≡ g) (all_of (given_by t) (map OfServer all))
-        → SentIn (map Far adds ++ hops_in config es) g
+    sent_now : IsGood config (all ++ past) → (g : Given) → Ever (λ h. h ≡ g)
+        (all_of (given_by config.addresses t) (map OfServer all))
+        → SentIn config.addresses (map Far adds ++ hops_in config es) g
     sent_now good g h =
         let k = taken_out (server_side config) t g all h in
         inr (
@@ -80,56 +81,62 @@ module _ (c : Clocks) (config : Config) (n : ℕ) where
             far_by = subst (λ l. clock l ≤ t) (sym (ap far_of hops ∙ far_far adds (hops_in config es)))
                 (clock_by t G adds (far_of (hops_in config es)) timely still.far_by);
           };
-          sent = λ g h. subst (λ hs. SentIn hs g) (sym hops) (sent_now here g h);
+          sent = λ g h. subst (λ hs. SentIn config.addresses hs g) (sym hops) (sent_now here g h);
         }
 
     pub goes : IsGood config (server_trace config (map OfServer all ++ es))
-        → ((bytes : List ℕ) → Ever (FedToServer client_end bytes) (map OfServer all)
-        → Ever (OnNear (GaveOut server_end bytes (c.client n))) (hops_in config es))
-        → Always (IsFair (of_layers c) client_end server_end) (hops_in config es)
+        → ((bytes : List ℕ) → Ever (FedToServer config.addresses.client bytes) (map OfServer all)
+        → Ever (OnNear (GaveOut config.addresses.server bytes (c.client n))) (hops_in config es))
+        → Always (IsFair (of_layers c) config.addresses.client config.addresses.server) (hops_in config es)
         → Goes c config n t (map OfServer all) es
     goes good feeds fair =
         record {
           leaves = leaves good;
-          fair = subst (Always (IsFair (of_layers c) client_end server_end)) (sym (hops_are (server_side config) all es))
-              (far_fair c n G (hops_in config es) fair still.near_by feeds adds timely);
+          fair = subst (Always (IsFair (of_layers c) config.addresses.client config.addresses.server))
+              (sym (hops_are (server_side config) all es))
+              (far_fair config.addresses c n G (hops_in config es) fair still.near_by feeds adds timely);
         }
 
     pub goes_any : IsGood config (server_trace config (map OfServer all ++ es))
-        → ((bytes : List ℕ) → Ever (FedToServer client_end bytes) (map OfServer all)
-        → Ever (OnNear (WasOut server_end bytes)) (hops_in config es))
-        → Always (any_time.IsFair client_end server_end) (hops_in config es)
-        → Leaves c config n t (map OfServer all) es × Always (any_time.IsFair client_end server_end) (hops_in config (map OfServer all ++ es))
+        → ((bytes : List ℕ) → Ever (FedToServer config.addresses.client bytes) (map OfServer all)
+        → Ever (OnNear (WasOut config.addresses.server bytes)) (hops_in config es))
+        → Always (any_time.IsFair config.addresses.client config.addresses.server) (hops_in config es)
+        → Leaves c config n t (map OfServer all) es × Always (any_time.IsFair config.addresses.client
+        config.addresses.server) (hops_in config (map OfServer all ++ es))
     goes_any good feeds fair = (
       leaves good,
-      subst (Always (any_time.IsFair client_end server_end)) (sym (hops_are (server_side config) all es))
-          (far_any t G (hops_in config es) fair feeds adds timely),
+      subst (Always (any_time.IsFair config.addresses.client config.addresses.server))
+          (sym (hops_are (server_side config) all es))
+          (far_any config.addresses t G (hops_in config es) fair feeds adds timely),
     )
 
   pub server_turn : (at : ℕ) (entries es : List Entry) → ServerTurn at entries → c.server n ≡ at → Still c config n es
       → IsGood config (server_trace config (entries ++ es))
-      → ((bytes : List ℕ) → Ever (FedToServer client_end bytes) entries
-      → Ever (OnNear (GaveOut server_end bytes (c.client n))) (hops_in config es))
-      → Always (IsFair (of_layers c) client_end server_end) (hops_in config es) → Goes c config n at entries es
+      → ((bytes : List ℕ) → Ever (FedToServer config.addresses.client bytes) entries
+      → Ever (OnNear (GaveOut config.addresses.server bytes (c.client n))) (hops_in config es))
+      → Always (IsFair (of_layers c) config.addresses.client config.addresses.server) (hops_in config es)
+      → Goes c config n at entries es
   server_turn at entries es turn shown still good feeds fair =
       let is = turn.on.is in
       subst (λ t. Goes c config n t entries es) shown (subst (λ x. Goes c config n (c.server n) x es) (sym is)
       (goes es turn.on.outs turn.calls (subst (λ t. Every (IsAt t) turn.calls) (sym shown) turn.at) still
       (subst (λ x. IsGood config (server_trace config (x ++ es))) is good)
-      (λ bytes h. feeds bytes (subst (Ever (FedToServer client_end bytes)) (sym is) h)) fair))
+      (λ bytes h. feeds bytes (subst (Ever (FedToServer config.addresses.client bytes)) (sym is) h)) fair))
 
   -- at any time
   abbrev pub GoesAny : ℕ → List Entry → List Entry → Type 0
   GoesAny at entries es = Leaves c config n at entries es
-      × Always (any_time.IsFair client_end server_end) (hops_in config (entries ++ es))
+      × Always (any_time.IsFair config.addresses.client config.addresses.server) (hops_in config (entries ++ es))
 
   pub any_turn : (at : ℕ) (entries es : List Entry) → ServerTurn at entries → c.server n ≡ at → Still c config n es
       → IsGood config (server_trace config (entries ++ es))
-      → ((bytes : List ℕ) → Ever (FedToServer client_end bytes) entries → Ever (OnNear (WasOut server_end bytes)) (hops_in config es))
-      → Always (any_time.IsFair client_end server_end) (hops_in config es) → GoesAny at entries es
+      → ((bytes : List ℕ) → Ever (FedToServer config.addresses.client bytes) entries
+      → Ever (OnNear (WasOut config.addresses.server bytes)) (hops_in config es))
+      → Always (any_time.IsFair config.addresses.client config.addresses.server) (hops_in config es)
+      → GoesAny at entries es
   any_turn at entries es turn shown still good feeds fair =
       let is = turn.on.is in
       subst (λ t. GoesAny t entries es) shown (subst (λ x. GoesAny (c.server n) x es) (sym is)
       (goes_any es turn.on.outs turn.calls (subst (λ t. Every (IsAt t) turn.calls) (sym shown) turn.at) still
       (subst (λ x. IsGood config (server_trace config (x ++ es))) is good)
-      (λ bytes h. feeds bytes (subst (Ever (FedToServer client_end bytes)) (sym is) h)) fair))
+      (λ bytes h. feeds bytes (subst (Ever (FedToServer config.addresses.client bytes)) (sym is) h)) fair))

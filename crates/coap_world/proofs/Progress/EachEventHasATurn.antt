@@ -17,7 +17,7 @@ use Rattle.coap_client.specs.Follows.GoesOn as client_goes_spec
 use Rattle.coap_server.specs.Follows.GoesOn as server_goes_spec
 use Rattle.coap_server.proofs.Facts.Laws as server_facts
 use Rattle.coap_client.proofs.Facts.EachCall as client_calls
-use Rattle.coap_world.specs.Events.{server_end, Config, What, Calls, Observes, Cancels, Forgets, Sets, Removes}
+use Rattle.coap_world.specs.Events.{Config, What, Calls, Observes, Cancels, Forgets, Sets, Removes}
 use Rattle.coap_world.specs.Events.{TickClient, TickServer, Deliver}
 use Rattle.coap_world.specs.Events.{StrangerToClient, StrangerToServer, Event}
 use Rattle.coap_world.specs.GoesOn.{turn_of, GoesOn, MayRun, HasRecord}
@@ -28,6 +28,7 @@ use Rattle.coap_world.specs.Record.{server_trace, OnClient, OnServer, DelayOf, P
 use Rattle.coap_world.specs.Record.{IsOne, AreTicks, FeedsClient, FeedsServer, Makes, ClientTick, ServerTick, RecordOf}
 use Rattle.coap_world.proofs.Delivery.OneEndATurn.{client_client, client_server, server_server, server_client}
 use Rattle.coap_world.proofs.Recording.PlainPaths.{few_plain, may_be}
+use Rattle.coap_world.specs.declared.addresses.Addresses.{Addresses}
 
 -- ticks, in the words of a record
 are_ticks : {X : Type 0} (IsTick : Bool → X → Type 0) (calls : List X) → UpToIdle IsTick calls
@@ -49,16 +50,17 @@ module _ (config : Config) (events : List Event) (turns : List Turn) (run : Reco
   abbrev servers : List S.Call
   servers = server_trace config all
 
-  client_goes_on : client_goes_spec.GoesOn server_end config.client_sizes config.client_setup clients
-  client_goes_on = client_calls.goes_on server_end config.client_sizes config.client_setup clients run.client
+  client_goes_on : client_goes_spec.GoesOn config.addresses.server config.client_sizes config.client_setup clients
+  client_goes_on = client_calls.goes_on config.addresses.server config.client_sizes config.client_setup clients
+      run.client
 
   server_goes_on : server_goes_spec.GoesOn config.limits config.server_szx config.server_setup servers
   server_goes_on = server_facts.goes config.limits config.server_szx config.server_setup servers run.server
 
   -- a turn that makes these entries
-  follows : (what : What) → CanCome turns what → (entries : List Entry)
-      → Makes turns at word what false entries
-      → ClientLaw server_end config.client_sizes config.client_setup (client_of (entries ++ all))
+  follows : (what : What) → CanCome config.addresses turns what → (entries : List Entry)
+      → Makes config.addresses turns at word what false entries
+      → ClientLaw config.addresses.server config.client_sizes config.client_setup (client_of (entries ++ all))
       → ServerLaw config.limits config.server_szx config.server_setup (server_trace config (entries ++ all))
       → HasTurn config events turns (event what)
   follows what may entries makes on_client on_server = record {
@@ -72,14 +74,14 @@ module _ (config : Config) (events : List Event) (turns : List Turn) (run : Reco
   }
 
   -- a turn of the client: its calls, all that it has out, and its reports
-  of_client : (what : What) → CanCome turns what → (calls : List C.Call)
-      → ClientLaw server_end config.client_sizes config.client_setup (calls ++ clients)
-      → ((entries : List Entry) → OnClient calls entries → Makes turns at word what false entries)
+  of_client : (what : What) → CanCome config.addresses turns what → (calls : List C.Call)
+      → ClientLaw config.addresses.server config.client_sizes config.client_setup (calls ++ clients)
+      → ((entries : List Entry) → OnClient calls entries → Makes config.addresses turns at word what false entries)
       → HasTurn config events turns (event what)
   of_client what may calls law makes =
-      let outs = (client_calls.comes_to_rest server_end config.client_sizes config.client_setup
+      let outs = (client_calls.comes_to_rest config.addresses.server config.client_sizes config.client_setup
       (calls ++ clients) law).outs in
-      let reports = (client_calls.comes_to_rest server_end config.client_sizes config.client_setup
+      let reports = (client_calls.comes_to_rest config.addresses.server config.client_sizes config.client_setup
       (all_taken C.NextOut outs.0 ++ (calls ++ clients)) outs.1).reports in
       let taken : List C.Call = C.NextOut None ∷ (map (λ p. C.NextOut (Some p)) outs.0 ++ calls) in
       let given : List C.Call = map (λ r. C.NextReport (Some r)) reports.0 in
@@ -91,15 +93,15 @@ module _ (config : Config) (events : List Event) (turns : List Turn) (run : Reco
       (append_assoc (map (λ p. C.NextOut (Some p)) outs.0) calls clients)) in
       follows what may (map OfClient list) (makes (map OfClient list)
       (record { outs = outs.0; reports = reports.0; is = refl }))
-      (subst (ClientLaw server_end config.client_sizes config.client_setup)
+      (subst (ClientLaw config.addresses.server config.client_sizes config.client_setup)
       (sym (client_client list all ∙ same)) reports.1)
       (subst (λ xs. ServerLaw config.limits config.server_szx config.server_setup (xs ++ begun_with config))
       (sym (server_client list all)) run.server)
 
   -- a turn of the server: its calls, and all that it has out
-  of_server : (what : What) → CanCome turns what → (calls : List S.Call)
+  of_server : (what : What) → CanCome config.addresses turns what → (calls : List S.Call)
       → ServerLaw config.limits config.server_szx config.server_setup (calls ++ servers)
-      → ((entries : List Entry) → OnServer calls entries → Makes turns at word what false entries)
+      → ((entries : List Entry) → OnServer calls entries → Makes config.addresses turns at word what false entries)
       → HasTurn config events turns (event what)
   of_server what may calls law makes =
       let outs = (server_facts.rests config.limits config.server_szx config.server_setup (calls ++ servers) law).outs in
@@ -109,30 +111,33 @@ module _ (config : Config) (events : List Event) (turns : List Turn) (run : Reco
       append_assoc list (server_of all) (begun_with config)
       ∙ ap (λ xs. S.NextOut None ∷ xs) (append_assoc given calls servers) in
       follows what may (map OfServer list) (makes (map OfServer list) (record { outs = outs.0; is = refl }))
-      (subst (ClientLaw server_end config.client_sizes config.client_setup) (sym (client_server list all)) run.client)
+      (subst (ClientLaw config.addresses.server config.client_sizes config.client_setup) (sym (client_server list all))
+      run.client)
       (subst (ServerLaw config.limits config.server_szx config.server_setup)
       (sym (ap (λ xs. xs ++ begun_with config) (server_server list all) ∙ same)) outs.1)
 
   -- a datagram
-  to_client : (what : What) → CanCome turns what → (from : Endpoint) (bytes : List ℕ)
+  to_client : (what : What) → CanCome config.addresses turns what → (from : Endpoint) (bytes : List ℕ)
       → ((calls : List C.Call) (entries : List Entry) → IsOne (FeedsClient at word from bytes) false calls
-      → OnClient calls entries → Makes turns at word what false entries) → HasTurn config events turns (event what)
+      → OnClient calls entries → Makes config.addresses turns at word what false entries)
+      → HasTurn config events turns (event what)
   to_client what may from bytes makes =
       let k = client_goes_on.feeds at from bytes word in
       let call : C.Call = C.Feeds at from bytes word k.0 k.1 k.2 k.3 k.4 k.5 in
       of_client what may (call ∷ []) k.6 (λ entries on. makes (call ∷ []) entries
       (call, (k.0, k.1, k.2, k.3, k.4, k.5, refl), refl) on)
 
-  to_server : (what : What) → CanCome turns what → (from : Endpoint) (bytes : List ℕ)
+  to_server : (what : What) → CanCome config.addresses turns what → (from : Endpoint) (bytes : List ℕ)
       → ((calls : List S.Call) (entries : List Entry) → IsOne (FeedsServer at word from bytes) false calls
-      → OnServer calls entries → Makes turns at word what false entries) → HasTurn config events turns (event what)
+      → OnServer calls entries → Makes config.addresses turns at word what false entries)
+      → HasTurn config events turns (event what)
   to_server what may from bytes makes =
       let k = server_goes_on.feeds at from bytes word in
       let call : S.Call = S.Feeds at from bytes word k.0 k.1 k.2 k.3 in
       of_server what may (call ∷ []) k.4 (λ entries on. makes (call ∷ []) entries
       (call, (k.0, k.1, k.2, k.3, refl), refl) on)
 
-  by_what : (what : What) → CanCome turns what → HasTurn config events turns (event what)
+  by_what : (what : What) → CanCome config.addresses turns what → HasTurn config events turns (event what)
   by_what (Calls r) may =
       let k = client_goes_on.calls at r in
       let call : C.Call = C.Calls at r k.0 in
@@ -161,7 +166,8 @@ module _ (config : Config) (events : List Event) (turns : List Turn) (run : Reco
       of_server (Removes path) may (call ∷ []) k.2
       (λ entries on. (call ∷ [], ((call, (k.0, k.1, refl), refl), refl), on))
   by_what TickClient may =
-      let k = (client_calls.comes_to_rest server_end config.client_sizes config.client_setup clients run.client).ticks at
+      let k = (client_calls.comes_to_rest config.addresses.server config.client_sizes config.client_setup clients
+      run.client).ticks at
       word in
       of_client TickClient may k.0 k.2 (λ entries on. (k.0, are_ticks (ClientTick at word) k.0 k.1, on))
   by_what TickServer may =
@@ -182,16 +188,17 @@ module _ (config : Config) (events : List Event) (turns : List Turn) (run : Reco
       ]
 
 pub has_turn : (config : Config) (events : List Event) (turns : List Turn) (event : Event) → RecordOf config events turns
-    → CanCome turns event.what → HasTurn config events turns event
+    → CanCome config.addresses turns event.what → HasTurn config events turns event
 has_turn config events turns event run may = by_what config events turns run event.at event.word event.what may
 
-can_come : (past : List Turn) (at : ℕ) (what : What) → MayCome past at what → CanCome past what
-can_come past at (Deliver number) m = (m.0, m.1, m.2)
-can_come past at _ m = tt
+can_come : (addresses : Addresses) (past : List Turn) (at : ℕ) (what : What) → MayCome addresses past at what
+    → CanCome addresses past what
+can_come addresses past at (Deliver number) m = (m.0, m.1, m.2)
+can_come addresses past at _ m = tt
 
 pub goes_on : (config : Config) → GoesOn config
 goes_on config events turns event run legal may =
-    let k = has_turn config events turns event run (can_come turns event.at event.what may.comes) in
+    let k = has_turn config events turns event run (can_come config.addresses turns event.at event.what may.comes) in
     record {
       entries = k.entries;
       made = k.made;

@@ -6,18 +6,19 @@ use Rattle.coap_client.specs.Law.{ClientLaw}
 use Rattle.coap_server.specs.Law.{ServerLaw}
 use Rattle.coap_client.proofs.Facts.Laws as client_facts
 use Rattle.coap_server.proofs.Facts.Laws as server_facts
-use Rattle.coap_world.specs.Events.{server_end, Config, Event, What, Cancels, Forgets, Sets, Removes}
+use Rattle.coap_world.specs.Events.{Config, Event, What, Cancels, Forgets, Sets, Removes}
 use Rattle.coap_world.specs.Events.{TickClient, TickServer, Deliver, StrangerToServer}
 use Rattle.coap_world.specs.Legal.{Legal}
 use Rattle.coap_world.specs.NoFault.{events_of, IsLost, NeverFaults, NoFault}
 use Rattle.coap_world.specs.Record.{Entry, OfClient, OfServer, Turn, RecordOf, entries_of, client_of, server_trace}
 use Rattle.coap_world.specs.Record.{OnClient, OnServer, Makes}
 use Rattle.coap_world.proofs.Progress.EachEventHasATurn.{has_turn, goes_on}
+use Rattle.coap_world.specs.declared.addresses.Addresses.{Addresses}
 
 -- what was before stands in the laws of both ends
 module _ (config : Config) where
   abbrev ForClient : List Entry → Type 0
-  ForClient t = ClientLaw server_end config.client_sizes config.client_setup (client_of t)
+  ForClient t = ClientLaw config.addresses.server config.client_sizes config.client_setup (client_of t)
 
   abbrev ForServer : List Entry → Type 0
   ForServer t = ServerLaw config.limits config.server_szx config.server_setup (server_trace config t)
@@ -25,7 +26,8 @@ module _ (config : Config) where
   client_behind : (later past : List Entry) → ForClient (later ++ past) → ForClient past
   client_behind [] past law = law
   client_behind (OfClient c ∷ later) past law = client_behind later past
-      (client_facts.back server_end config.client_sizes config.client_setup (c ∷ []) (client_of (later ++ past)) law)
+      (client_facts.back config.addresses.server config.client_sizes config.client_setup (c ∷ [])
+      (client_of (later ++ past)) law)
   client_behind (OfServer c ∷ later) past law = client_behind later past law
 
   server_behind : (later past : List Entry) → ForServer (later ++ past) → ForServer past
@@ -59,16 +61,17 @@ module _ (config : Config) where
   legal_before later past legal = record { range = legal.range; events = Always_back _ later past legal.events }
 
 -- an input that is refused memory has no call
-lost : (past : List Turn) (at word : ℕ) (what : What) (entries : List Entry) → Makes past at word what true entries
-    → IsLost past at word what entries
-lost past at word (Cancels number) entries m = let e = m.1.1 in cc e
-lost past at word (Forgets number) entries m = let e = m.1.1 in cc e
-lost past at word (Sets path format body) entries m = subst (λ cs. OnServer cs entries) m.1 m.2
-lost past at word (Removes path) entries m = let e = m.1.1 in cc e
-lost past at word TickClient entries m = m
-lost past at word TickServer entries m = m
-lost past at word (StrangerToServer from bytes) entries m = subst (λ cs. OnServer cs entries) m.1 m.2
-lost past at word (Deliver number) entries m = (
+lost : (addresses : Addresses) (past : List Turn) (at word : ℕ) (what : What) (entries : List Entry)
+    → Makes addresses past at word what true entries
+    → IsLost addresses past at word what entries
+lost addresses past at word (Cancels number) entries m = let e = m.1.1 in cc e
+lost addresses past at word (Forgets number) entries m = let e = m.1.1 in cc e
+lost addresses past at word (Sets path format body) entries m = subst (λ cs. OnServer cs entries) m.1 m.2
+lost addresses past at word (Removes path) entries m = let e = m.1.1 in cc e
+lost addresses past at word TickClient entries m = m
+lost addresses past at word TickServer entries m = m
+lost addresses past at word (StrangerToServer from bytes) entries m = subst (λ cs. OnServer cs entries) m.1 m.2
+lost addresses past at word (Deliver number) entries m = (
   m.0,
   m.1,
   elim m.2 [
@@ -76,16 +79,16 @@ lost past at word (Deliver number) entries m = (
     | inr d ↦ inr (d.0, subst (λ cs. OnClient cs entries) d.2 d.3)
   ],
 )
-lost past at word _ entries m = subst (λ cs. OnClient cs entries) m.1 m.2
+lost addresses past at word _ entries m = subst (λ cs. OnClient cs entries) m.1 m.2
 
-each_lost : (turns : List Turn)
-    → Always (λ past t. Makes past t.event.at t.event.word t.event.what t.refused t.entries) turns
-    → Always (λ past t. t.refused ≡ true → IsLost past t.event.at t.event.word t.event.what t.entries) turns
-each_lost [] made = tt
-each_lost (t ∷ past) made = (
-  λ is. lost past t.event.at t.event.word t.event.what t.entries
-      (subst (λ b. Makes past t.event.at t.event.word t.event.what b t.entries) is made.0),
-  each_lost past made.1,
+each_lost : (addresses : Addresses) (turns : List Turn)
+    → Always (λ past t. Makes addresses past t.event.at t.event.word t.event.what t.refused t.entries) turns
+    → Always (λ past t. t.refused ≡ true → IsLost addresses past t.event.at t.event.word t.event.what t.entries) turns
+each_lost addresses [] made = tt
+each_lost addresses (t ∷ past) made = (
+  λ is. lost addresses past t.event.at t.event.word t.event.what t.entries
+      (subst (λ b. Makes addresses past t.event.at t.event.word t.event.what b t.entries) is made.0),
+  each_lost addresses past made.1,
 )
 
 pub no_fault : (config : Config) (events : List Event) (turns : List Turn) → RecordOf config events turns
@@ -95,7 +98,7 @@ no_fault config events turns run legal = record {
       goes_on config (events_of past) past event
       (record_before config events later past (subst (RecordOf config events) is run))
       (legal_before config later past (subst (Legal config) is legal)) may;
-  refused_is_lost = each_lost turns run.made;
+  refused_is_lost = each_lost config.addresses turns run.made;
 }
 
 -- of any record
@@ -105,5 +108,5 @@ never_faults config events turns run = record {
   goes_on = λ later past is event may.
       has_turn config (events_of past) past event
       (record_before config events later past (subst (RecordOf config events) is run)) may;
-  refused_is_lost = each_lost turns run.made;
+  refused_is_lost = each_lost config.addresses turns run.made;
 }

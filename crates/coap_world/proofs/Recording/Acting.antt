@@ -7,6 +7,7 @@ use Rattle.coap_world.specs.Events.{Config}
 use Rattle.coap_world.specs.Record.{Entry, given_by}
 use Rattle.coap_world.specs.Run.Log.{Log, Line, lines_put, lines_upon}
 use Rattle.coap_world.specs.Run.Acts.{Moves, Acts, Fed, Passed, Ticked, Taken}
+use Rattle.coap_world.specs.declared.addresses.Addresses.{Addresses}
 
 pub all_of_append : {E F : Type 0} (f : E → List F) (s t : List E) → all_of f (s ++ t) ≡ all_of f s ++ all_of f t
 all_of_append f [] t = refl
@@ -56,9 +57,10 @@ module _ {X S : Type 0} (led : Config → List X → S → Type 0) where
           moves = λ config t h. moves config (so.0 ++ t) (so.2 config t h);
         }
 
-module _ {X S : Type 0} (led : Config → List X → S → Type 0) (of : X → Entry) (lines : Config → List X → X → List Line)
+module _ (addresses : Addresses) {X S : Type 0} (led : Config → List X → S → Type 0) (of : X → Entry) (lines : Config
+    → List X → X → List Line)
     (at : ℕ) where
-  pub acts_none : (a b : S) (l : Log) → b ≡ a → Acts led of lines at [] a l b l
+  pub acts_none : (a b : S) (l : Log) → b ≡ a → Acts addresses led of lines at [] a l b l
   acts_none a b l is =
       record {
         moves = λ config t h. subst (λ s. led config t s) (sym is) h;
@@ -66,15 +68,15 @@ module _ {X S : Type 0} (led : Config → List X → S → Type 0) (of : X → E
         lines = λ config t h. sym (append-nil l.lines);
       }
 
-  pub acts_join : (ys xs : List X) (a b c : S) (l m n : Log) → Acts led of lines at xs a l b m
-      → Acts led of lines at ys b m c n → Acts led of lines at (ys ++ xs) a l c n
+  pub acts_join : (ys xs : List X) (a b c : S) (l m n : Log) → Acts addresses led of lines at xs a l b m
+      → Acts addresses led of lines at ys b m c n → Acts addresses led of lines at (ys ++ xs) a l c n
   acts_join ys xs a b c l m n p q =
       record {
         moves = moves_join led ys xs a b c p.moves q.moves;
         given =
-            q.given ∙ ap (λ g. g ++ reverse (all_of (given_by at) (map of ys))) p.given
-            ∙ sym (told_join (given_by at) (map of ys) (map of xs) l.given)
-            ∙ ap (λ es. l.given ++ reverse (all_of (given_by at) es)) (sym (map-append of ys xs));
+            q.given ∙ ap (λ g. g ++ reverse (all_of (given_by addresses at) (map of ys))) p.given
+            ∙ sym (told_join (given_by addresses at) (map of ys) (map of xs) l.given)
+            ∙ ap (λ es. l.given ++ reverse (all_of (given_by addresses at) es)) (sym (map-append of ys xs));
         lines = λ config t h.
             q.lines config (xs ++ t) (p.moves config t h)
             ∙ ap (λ g. g ++ lines_upon (lines config) (xs ++ t) ys) (p.lines config t h)
@@ -84,9 +86,10 @@ module _ {X S : Type 0} (led : Config → List X → S → Type 0) (of : X → E
 
   -- one call, and what it tells
   pub one_acts :
-      (c : X) (told : List Line) (a b : S) (l m : Log) → all_of (given_by at) (of c ∷ []) ≡ [] → Moves led a (c ∷ []) b
+      (c : X) (told : List Line) (a b : S) (l m : Log) → all_of (given_by addresses at) (of c ∷ []) ≡ []
+      → Moves led a (c ∷ []) b
       → ((config : Config) (t : List X) → led config t a → told ≡ lines config t c)
-      → m ≡ lines_put told l → Acts led of lines at (c ∷ []) a l b m
+      → m ≡ lines_put told l → Acts addresses led of lines at (c ∷ []) a l b m
   one_acts c told a b l m none moves tells is =
       record {
         moves = moves;
@@ -96,9 +99,9 @@ module _ {X S : Type 0} (led : Config → List X → S → Type 0) (of : X → E
 
   -- calls of which the log tells nothing
   pub quiet_acts :
-      (calls : List X) (a b : S) (l : Log) → Moves led a calls b → all_of (given_by at) (map of calls) ≡ []
+      (calls : List X) (a b : S) (l : Log) → Moves led a calls b → all_of (given_by addresses at) (map of calls) ≡ []
       → ((config : Config) (t : List X) → lines_upon (lines config) t calls ≡ [])
-      → Acts led of lines at calls a l b l
+      → Acts addresses led of lines at calls a l b l
   quiet_acts calls a b l moves none still =
       record {
         moves = moves;
@@ -108,33 +111,35 @@ module _ {X S : Type 0} (led : Config → List X → S → Type 0) (of : X → E
 
   pub out_more :
       {A : Type 0} (call : Option A → X) (x : A) (a b c : S) (l m n : Log)
-      → (taken : List A) × Acts led of lines at (map (λ p. call (Some p)) taken) a l b m
-      → Acts led of lines at (call (Some x) ∷ []) b m c n
-      → (taken : List A) × Acts led of lines at (map (λ p. call (Some p)) taken) a l c n
+      → (taken : List A) × Acts addresses led of lines at (map (λ p. call (Some p)) taken) a l b m
+      → Acts addresses led of lines at (call (Some x) ∷ []) b m c n
+      → (taken : List A) × Acts addresses led of lines at (map (λ p. call (Some p)) taken) a l c n
   out_more call x a b c l m n (taken, acts) next =
       (x ∷ taken, acts_join (call (Some x) ∷ []) (map (λ p. call (Some p)) taken) a b c l m n acts next)
 
-  pub none_taken : (Is : X → Type 0) (a b : S) (l : Log) → b ≡ a → Taken led of lines at Is true a l b l
+  pub none_taken : (Is : X → Type 0) (a b : S) (l : Log) → b ≡ a → Taken addresses led of lines at Is true a l b l
   none_taken Is a b l is = record { calls = []; are = refl; acts = acts_none a b l is }
 
-  pub one_taken : (Is : X → Type 0) (c : X) (a b : S) (l m : Log) → Is c → Acts led of lines at (c ∷ []) a l b m
-      → Taken led of lines at Is false a l b m
+  pub one_taken : (Is : X → Type 0) (c : X) (a b : S) (l m : Log) → Is c
+      → Acts addresses led of lines at (c ∷ []) a l b m
+      → Taken addresses led of lines at Is false a l b m
   one_taken Is c a b l m is acts = record { calls = c ∷ []; are = (c, is, refl); acts = acts }
 
   module _ (IsTick : Bool → X → Type 0) where
     abbrev pub TicksSo : S → Log → S → Log → Type 0
-    TicksSo a l b m = (calls : List X) × Always (λ past c. IsTick true c) calls × Acts led of lines at calls a l b m
+    TicksSo a l b m = (calls : List X) × Always (λ past c. IsTick true c) calls
+        × Acts addresses led of lines at calls a l b m
 
     pub told_more :
         (a b c : S) (l m n : Log) (answer : Bool) → answer ≡ true → TicksSo a l b m
-        → (x : X) × IsTick answer x × Acts led of lines at (x ∷ []) b m c n → TicksSo a l c n
+        → (x : X) × IsTick answer x × Acts addresses led of lines at (x ∷ []) b m c n → TicksSo a l c n
     told_more a b c l m n answer is so (x, tick, acts) =
         (x ∷ so.0, (subst (λ v. IsTick v x) is tick, so.1), acts_join (x ∷ []) so.0 a b c l m n so.2 acts)
 
     pub told_last :
         (a b c : S) (l m n : Log) (answer : Bool) → answer ≡ false → TicksSo a l b m
-        → (x : X) × IsTick answer x × Acts led of lines at (x ∷ []) b m c n
-        → Ticked led of lines at IsTick false a l c n
+        → (x : X) × IsTick answer x × Acts addresses led of lines at (x ∷ []) b m c n
+        → Ticked addresses led of lines at IsTick false a l c n
     told_last a b c l m n answer is so (x, tick, acts) =
         record {
           calls = x ∷ so.0;

@@ -14,6 +14,7 @@ use Rattle.coap_server.specs.Follows.Serves.{Serving, serving}
 use Rattle.coap_server.proofs.Facts.Laws.{all_served, holds_changes}
 use Rattle.coap_world.specs.Run.Log.{Applies, Changes, applied_as, applied_lines, call_for, line_if}
 use Rattle.coap_world.specs.Run.Telling.{applied_told, made_told, version_after, version_told}
+use Rattle.coap_world.specs.declared.addresses.Addresses.{Addresses}
 
 -- what a server says that it applied
 abbrev pub applied_of : Option Serving → List S.Applied
@@ -108,7 +109,8 @@ not_zero v n is = by (v == 0) refl
     by true e = let z : v ≡ 0 = (Decides-eqb v 0).0 e in absurd (omega (arith, z, is))
     by false e = refl
 
-module _ (sender : List ℕ → Option ℕ) (n : ℕ) (path : List (List ℕ)) (held : Option Held) (v : ℕ) (a : ℕ → S.Applied)
+module _ (addresses : Addresses) (sender : List ℕ → Option ℕ) (n : ℕ) (path : List (List ℕ)) (held : Option Held)
+    (v : ℕ) (a : ℕ → S.Applied)
     (of : (k : ℕ) → (a k).version ≡ k) (there : (k : ℕ) → (a k).path ≡ path) where
   abbrev the_change : Change
   the_change = record { path = path; version = v; held = held }
@@ -117,39 +119,42 @@ module _ (sender : List ℕ → Option ℕ) (n : ℕ) (path : List (List ℕ)) (
       (applied same : Bool) → ((y : Change) → (if same then None else Some the_change) ≡ Some y → applied ≡ true)
       → ((y : Change) → (if same then None else Some the_change) ≡ Some y → y.version ≡ n + 1)
       → (holds : List (List ℕ) → Option Held) → holds path ≡ held
-      → (applied_told sender (if applied then a (if same then 0 else v) ∷ [] else []) holds
-      ≡ (if applied then Applies (call_for sender (a (if same then 0 else v))) (a (if same then 0 else v)) ∷ [] else [])
+      → (applied_told addresses sender (if applied then a (if same then 0 else v) ∷ [] else []) holds
+      ≡ (if applied then Applies (call_for addresses sender (a (if same then 0 else v))) (a (if same then 0 else v))
+      ∷ [] else [])
       ++ line_if Changes (if same then None else Some the_change))
       × (version_told (if applied then a (if same then 0 else v) ∷ [] else []) n
       ≡ counted (if same then None else Some the_change) + n)
   told_so true true right new holds is = (
-    ap (λ k. Applies (call_for sender (a 0)) (a 0) ∷ made_told (a 0).path k (holds (a 0).path)) (of 0),
+    ap (λ k. Applies (call_for addresses sender (a 0)) (a 0) ∷ made_told (a 0).path k (holds (a 0).path)) (of 0),
     ap (λ k. version_after k n) (of 0) ∙ (omega arith),
   )
   told_so true false right new holds is =
       let is_new : v ≡ n + 1 = new the_change refl in
       let no : (v == 0) ≡ false = not_zero v n is_new in (
-        ap (λ k. Applies (call_for sender (a v)) (a v) ∷ made_told (a v).path k (holds (a v).path)) (of v)
-            ∙ ap (λ p. Applies (call_for sender (a v)) (a v) ∷ made_told p v (holds p)) (there v)
-            ∙ ap (λ b. Applies (call_for sender (a v)) (a v) ∷
+        ap (λ k. Applies (call_for addresses sender (a v)) (a v) ∷ made_told (a v).path k (holds (a v).path)) (of v)
+            ∙ ap (λ p. Applies (call_for addresses sender (a v)) (a v) ∷ made_told p v (holds p)) (there v)
+            ∙ ap (λ b. Applies (call_for addresses sender (a v)) (a v) ∷
             (if b then [] else Changes (record { path = path; version = v; held = holds path }) ∷ [])) no
-            ∙ ap (λ o. Applies (call_for sender (a v)) (a v) ∷ Changes (record { path = path; version = v; held = o }) ∷
+            ∙ ap (λ o. Applies (call_for addresses sender (a v)) (a v) ∷ Changes
+            (record { path = path; version = v; held = o }) ∷
             []) is,
         ap (λ k. version_after k n) (of v) ∙ ap (λ b. if b then n else v) no ∙ is_new ∙ (omega arith),
       )
   told_so false true right new holds is = (refl, omega arith)
   told_so false false right new holds is = absurd (cc (right the_change refl))
 
-told_of :
+told_of : (addresses : Addresses)
     (sender : List ℕ → Option ℕ) (n : ℕ) (o : Option Serving)
     → ((x : Serving) (y : Change) → o ≡ Some x → changed_by o ≡ Some y → is_applied x.reply.code ≡ true)
     → ((y : Change) → changed_by o ≡ Some y → y.version ≡ n + 1)
     → (store : Content) → ((x : Serving) → o ≡ Some x → store ≡ x.left)
-    → (applied_told sender (applied_of o) store.holds ≡ applied_lines sender o ++ line_if Changes (changed_by o))
+    → (applied_told addresses sender (applied_of o) store.holds ≡ applied_lines addresses sender o
+    ++ line_if Changes (changed_by o))
     × (version_told (applied_of o) n ≡ counted (changed_by o) + n)
-told_of sender n None right new store is = (refl, zero_plus n)
-told_of sender n (Some x) right new store is =
-    told_so sender n x.question.path (x.left.holds x.question.path) x.left.tally.version
+told_of addresses sender n None right new store is = (refl, zero_plus n)
+told_of addresses sender n (Some x) right new store is =
+    told_so addresses sender n x.question.path (x.left.holds x.question.path) x.left.tally.version
     (λ k. record {
       from = x.asked.from;
       token = x.asked.token;
@@ -160,23 +165,25 @@ told_of sender n (Some x) right new store is =
     (is_applied x.reply.code) (x.left.tally.version == x.old.tally.version) (λ y h. right x y refl h) new store.holds
     (ap (λ (s : Content). s.holds x.question.path) (is x refl))
 
-module _ (limits : Limits) (szx : ℕ) (sender : List ℕ → Option ℕ) (t : List S.Call) (c : S.Call)
+module _ (addresses : Addresses) (limits : Limits) (szx : ℕ) (sender : List ℕ → Option ℕ) (t : List S.Call) (c : S.Call)
     (rows : ServerRows limits szx (c ∷ t)) (input : IsInput c) where
   abbrev pub s : S.Own
   s = own_of limits szx t
 
   pub told_input :
-      (applied_told sender (after s c).applied (after s c).store.holds ≡ applied_lines sender (serving s c)
+      (applied_told addresses sender (after s c).applied (after s c).store.holds
+      ≡ applied_lines addresses sender (serving s c)
       ++ line_if Changes (change s c))
       × (version_told (after s c).applied (changes limits szx t) ≡ changes limits szx (c ∷ t))
   told_input =
       let k = served_by s c input in
       let right = (all_served limits szx (c ∷ t) rows).0 in
       let holds = (holds_changes limits szx (c ∷ t) rows).0 in
-      let p = told_of sender (changes limits szx t) (serving s c) (λ x y h g. right.changes_by x y h (k.change ∙ g))
+      let p = told_of addresses sender (changes limits szx t) (serving s c)
+      (λ x y h g. right.changes_by x y h (k.change ∙ g))
       (λ y g. holds.version y (k.change ∙ g)) (after s c).store k.store in (
-        ap (λ l. applied_told sender l (after s c).store.holds) k.applied ∙ p.0
-            ∙ ap (λ o. applied_lines sender (serving s c) ++ line_if Changes o) (sym k.change),
+        ap (λ l. applied_told addresses sender l (after s c).store.holds) k.applied ∙ p.0
+            ∙ ap (λ o. applied_lines addresses sender (serving s c) ++ line_if Changes o) (sym k.change),
         ap (λ l. version_told l (changes limits szx t)) k.applied ∙ p.1
             ∙ ap (λ o. counted o + changes limits szx t) (sym k.change),
       )

@@ -1,6 +1,6 @@
 -- One call of the client, and what leads to it then: what it sent under each token is noted.
 use Rattle.std.proofs.Common.{◌≡◌, ℕ, Bool, true, false, cond, Option, Some, None, List, [], ◌∷◌, ◌++◌, refl, sym, ap}
-use Rattle.std.proofs.Common.{subst, ◌∙◌, Result, Ok, Err}
+use Rattle.std.proofs.Common.{subst, ◌∙◌, Result, Ok, Err, map}
 use Rattle.std.specs.BTreeMap.{is_at}
 use Rattle.std.specs.Cmp.Lexicographic.{slice_cmp, texts_ties}
 use Rattle.std.specs.Option.{option_map}
@@ -22,9 +22,8 @@ use Rattle.coap_client.specs.Steps.{after, requested}
 use Rattle.coap_client.specs.Trace as C
 use Rattle.coap_client.specs.Follows.Words.{sent_by, sends}
 use Rattle.coap_client.proofs.Facts.EachCall.{led_client}
-use Rattle.coap_world.specs.Events.{client_end, server_end}
 use Rattle.coap_world.specs.Record.{OfClient, ClientTick, FeedsClient, given_by}
-use Rattle.coap_world.specs.Run.Acts.{Moves, Acts, Fed, Taken}
+use Rattle.coap_world.specs.Run.Acts.{Moves, Acts, Fed, Taken, TakesAll}
 use Rattle.coap_world.specs.Run.Ends.{ClientLed}
 use Rattle.coap_world.specs.Run.Inputs.{IsCall, IsObservation, IsCancel, IsForgetting}
 use Rattle.coap_world.specs.Run.Log.{Log, Takes, Cancels, Forgets, Reports, client_lines, given_put, line_put}
@@ -32,7 +31,8 @@ use Rattle.coap_world.specs.Run.Senders.{noted, number_if, sender_in, sender_of,
 use Rattle.coap_world.specs.Run.Turning.{of_client}
 use Rattle.coap_world.specs.declared.running.ends.ClientEnd.{ClientEnd}
 use Rattle.coap_world.specs.declared.running.senders.Senders.{Senders}
-use Rattle.coap_world.proofs.Recording.Acting.{one_acts, one_fed, one_taken}
+use Rattle.coap_world.proofs.Recording.Acting.{acts_join, quiet_acts, one_acts, one_fed, one_taken}
+use Rattle.coap_world.specs.declared.addresses.Addresses.{Addresses}
 
 -- what a client says that it asked is what it sent
 asked_so : (e : Effect) (d : Deed) (token : Result (List ℕ) AskRefusal)
@@ -63,8 +63,9 @@ module _ {A : Type 0} where
       ≡ noted token mid.client.own.asked (sender_in mid.senders token)) → Moves ClientLed old (c ∷ []) new
   input_moves c old mid new input step same client_is notes config t h =
       record {
-        led = subst (client.Led server_end config.client_sizes config.client_setup (c ∷ t)) (sym client_is)
-            (led_client server_end config.client_sizes config.client_setup t c old.client mid.client h.led step);
+        led = subst (client.Led config.addresses.server config.client_sizes config.client_setup (c ∷ t)) (sym client_is)
+            (led_client config.addresses.server config.client_sizes config.client_setup t c old.client mid.client h.led
+            step);
         senders = λ token.
             notes token
             ∙ ap (λ (s : Senders A). noted token mid.client.own.asked (sender_in s token)) same
@@ -80,7 +81,8 @@ module _ {A : Type 0} where
       → new.senders ≡ old.senders → Moves ClientLed old (c ∷ []) new
   still_moves c old new none step same config t h =
       record {
-        led = led_client server_end config.client_sizes config.client_setup t c old.client new.client h.led step;
+        led = led_client config.addresses.server config.client_sizes config.client_setup t c old.client new.client h.led
+            step;
         senders = λ token.
             ap (λ (s : Senders A). sender_in s token) same
             ∙ h.senders token
@@ -88,29 +90,31 @@ module _ {A : Type 0} where
             (sym (none (own_of config.client_sizes t)));
       }
 
-  -- what an input tells
+-- what an input tells
+module _ (addresses : Addresses) {A : Type 0} where
   told_taken :
       (at : ℕ) (Is : C.Call → Type 0) (c : C.Call) (old new : ClientEnd A) (log left : Log) → Is c
       → ((s : Own) → sends s c ≡ None) → client.Step old.client c new.client → new.senders ≡ old.senders
       → left ≡ record { given = log.given; lines = log.lines ++ client_lines c }
-      → all_of (given_by at) (OfClient c ∷ []) ≡ []
-      → Taken ClientLed OfClient of_client at Is false old log new left
+      → all_of (given_by addresses at) (OfClient c ∷ []) ≡ []
+      → Taken addresses ClientLed OfClient of_client at Is false old log new left
   told_taken at Is c old new log left is none step same told quiet =
-      one_taken ClientLed OfClient of_client at Is c old new log left is
-      (one_acts ClientLed OfClient of_client at c (client_lines c) old new log left quiet
+      one_taken addresses ClientLed OfClient of_client at Is c old new log left is
+      (one_acts addresses ClientLed OfClient of_client at c (client_lines c) old new log left quiet
       (still_moves c old new none step same) (λ config t h. refl) told)
 
   pub client_called :
       (at : ℕ) (r : C.Request) (answer : Result ℕ CallRefusal) (old new : ClientEnd A) (log left : Log)
       → client.Step old.client (C.Calls at r answer) new.client → new.senders ≡ old.senders
-      → left ≡ line_put (Takes answer) log → Taken ClientLed OfClient of_client at (IsCall at r) false old log new left
+      → left ≡ line_put (Takes answer) log → Taken addresses ClientLed OfClient of_client at (IsCall at r) false old log
+      new left
   client_called at r answer old new log left step same is =
       told_taken at (IsCall at r) (C.Calls at r answer) old new log left (answer, refl) (λ s. refl) step same is refl
 
   pub client_observed :
       (at : ℕ) (path : List (List ℕ)) (answer : Result ℕ CallRefusal) (old new : ClientEnd A) (log left : Log)
       → client.Step old.client (C.Observes at path answer) new.client → new.senders ≡ old.senders
-      → left ≡ line_put (Takes answer) log → Taken ClientLed OfClient of_client at
+      → left ≡ line_put (Takes answer) log → Taken addresses ClientLed OfClient of_client at
       (IsObservation at path) false old log new left
   client_observed at path answer old new log left step same is =
       told_taken at (IsObservation at path) (C.Observes at path answer) old new log left (answer, refl)
@@ -119,7 +123,7 @@ module _ {A : Type 0} where
   pub client_cancelled :
       (at number : ℕ) (answer : Option CancelRefusal) (old new : ClientEnd A) (log left : Log)
       → client.Step old.client (C.Cancels at number answer) new.client → new.senders ≡ old.senders
-      → left ≡ line_put (Cancels answer) log → Taken ClientLed OfClient of_client at
+      → left ≡ line_put (Cancels answer) log → Taken addresses ClientLed OfClient of_client at
       (IsCancel at number) false old log new left
   client_cancelled at number answer old new log left step same is =
       told_taken at (IsCancel at number) (C.Cancels at number answer) old new log left (answer, refl)
@@ -128,7 +132,7 @@ module _ {A : Type 0} where
   pub client_forgot :
       (at number : ℕ) (answer : Bool) (old new : ClientEnd A) (log left : Log)
       → (kept : Bool) × client.Step old.client (C.Forgets number kept answer) new.client → new.senders ≡ old.senders
-      → left ≡ line_put (Forgets answer) log → Taken ClientLed OfClient of_client at
+      → left ≡ line_put (Forgets answer) log → Taken addresses ClientLed OfClient of_client at
       (IsForgetting number) false old log new left
   client_forgot at number answer old new log left (kept, step) same is =
       told_taken at (IsForgetting number) (C.Forgets number kept answer) old new log left (kept, answer, refl)
@@ -139,8 +143,8 @@ module _ {A : Type 0} where
   pub client_out :
       (at : ℕ) (p : Packet) (old new : ClientEnd A) (log left : Log)
       → client.Step old.client (C.NextOut (Some p)) new.client → new.senders ≡ old.senders
-      → left ≡ given_put (record { at = at; from = client_end; packet = p }) log
-      → Acts ClientLed OfClient of_client at (C.NextOut (Some p) ∷ []) old log new left
+      → left ≡ given_put (record { at = at; from = addresses.client; packet = p }) log
+      → Acts addresses ClientLed OfClient of_client at (C.NextOut (Some p) ∷ []) old log new left
   client_out at p old new log left step same is =
       record {
         moves = still_moves (C.NextOut (Some p)) old new (λ s. refl) step same;
@@ -151,14 +155,28 @@ module _ {A : Type 0} where
   pub client_report :
       (at : ℕ) (r : C.Reported) (old new : ClientEnd A) (log left : Log)
       → client.Step old.client (C.NextReport (Some r)) new.client → new.senders ≡ old.senders
-      → left ≡ line_put (Reports r) log → Acts ClientLed OfClient of_client at
+      → left ≡ line_put (Reports r) log → Acts addresses ClientLed OfClient of_client at
       (C.NextReport (Some r) ∷ []) old log new left
   client_report at r old new log left step same is =
-      one_acts ClientLed OfClient of_client at (C.NextReport (Some r)) (Reports r ∷ []) old new log left refl
+      one_acts addresses ClientLed OfClient of_client at (C.NextReport (Some r)) (Reports r ∷ []) old new log left refl
       (still_moves (C.NextReport (Some r)) old new (λ s. refl) step same) (λ config t h. refl) is
 
-  -- an input of which nothing is told
+  pub client_reports_end :
+      (at : ℕ) (a old new : ClientEnd A) (l log : Log) → (taken : List C.Reported)
+      × Acts addresses ClientLed OfClient of_client at (map (λ r. C.NextReport (Some r)) taken) a l old log
+      → client.Step old.client (C.NextReport None) new.client → new.senders ≡ old.senders
+      → TakesAll addresses ClientLed OfClient of_client at C.NextReport a l new log
+  client_reports_end at a old new l log (taken, acts) step same =
+      record {
+        taken = taken;
+        acts = acts_join addresses ClientLed OfClient of_client at (C.NextReport None ∷ [])
+            (map (λ r. C.NextReport (Some r)) taken) a old new l log log acts
+            (quiet_acts addresses ClientLed OfClient of_client at (C.NextReport None ∷ []) old new log
+            (still_moves (C.NextReport None) old new (λ s. refl) step same) refl (λ config t. refl));
+      }
 
+-- an input of which nothing is told
+module _ {A : Type 0} where
   pub client_fed :
       (at word : ℕ) (from : Endpoint) (bytes : List ℕ) (old mid new : ClientEnd A)
       → (up : _) × (settled : _) × (event : _) × (sent : _) × (token : _) × (kept : _)

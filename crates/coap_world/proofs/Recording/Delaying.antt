@@ -15,19 +15,23 @@ use Rattle.coap_server.specs.declared.limits.TheConstants.{MAX_DELAYS as max_del
 use Rattle.coap_server.specs.declared.server.parts.Delay.{Delay as PathDelay}
 use Rattle.coap_world.specs.Legal.{IsConfig, IsDelay}
 use Rattle.coap_world.specs.Run.Configs.{config_of}
+use Rattle.coap_world.specs.declared.addresses.Addresses.{Addresses}
 
 pub still_config :
-    {A X : Type 0} (client_setup : Setup) (client_sizes : Sizes) (server_setup : Setup) (server_szx : ℕ) (limits : Limits)
+    {A X : Type 0} (addresses : Addresses) (client_setup : Setup) (client_sizes : Sizes) (server_setup : Setup)
+    (server_szx : ℕ) (limits : Limits)
     (old new : List (PathDelay A))
     (plains : List (List (List ℕ))) (path : List (List ℕ)) (ms : ℕ) (r : Result Bool X)
-    → IsConfig (config_of client_setup client_sizes server_setup server_szx limits old plains) → IsPath path → ms < 2 ^ 64
+    → IsConfig (config_of addresses client_setup client_sizes server_setup server_szx limits old plains) → IsPath path
+    → ms < 2 ^ 64
     → IfOk r (λ given. (given ≡ may_delay path (delays_as old))
     × (delays_as new ≡ delays_with path ms given (delays_as old))) → OnErr r (new ≡ old)
-    → IsConfig (config_of client_setup client_sizes server_setup server_szx limits new plains)
-still_config cw cs sw ss limits old new plains path ms (Ok true) is p small given err =
+    → IsConfig (config_of addresses client_setup client_sizes server_setup server_szx limits new plains)
+still_config places cw cs sw ss limits old new plains path ms (Ok true) is p small given err =
     let room : length (others path (delays_as old)) < max_delays = ltb-true _ _ (sym given.0) in
     let long = length-append (others path (delays_as old)) (record { path = path; ms = ms } ∷ []) in
     record {
+      addresses = is.addresses;
       client_setup = is.client_setup;
       client_szx = is.client_szx;
       client_limit = is.client_limit;
@@ -45,9 +49,17 @@ still_config cw cs sw ss limits old new plains path ms (Ok true) is p small give
       plains = is.plains;
       few_plains = is.few_plains;
     }
-still_config cw cs sw ss limits old new plains path ms (Ok false) is p small given err =
-    subst (λ (ds : List T.Delay). IsConfig (record
-    { client_setup = cw; client_sizes = cs; server_setup = sw; server_szx = ss; limits = limits; delays = ds; plains = plains }))
+still_config places cw cs sw ss limits old new plains path ms (Ok false) is p small given err =
+    subst (λ (ds : List T.Delay). IsConfig (record {
+      addresses = places;
+      client_setup = cw;
+      client_sizes = cs;
+      server_setup = sw;
+      server_szx = ss;
+      limits = limits;
+      delays = ds;
+      plains = plains;
+    }))
     (sym given.1) is
-still_config cw cs sw ss limits old new plains path ms (Err e) is p small given err =
-    subst (λ ds. IsConfig (config_of cw cs sw ss limits ds plains)) (sym err) is
+still_config places cw cs sw ss limits old new plains path ms (Err e) is p small given err =
+    subst (λ ds. IsConfig (config_of places cw cs sw ss limits ds plains)) (sym err) is

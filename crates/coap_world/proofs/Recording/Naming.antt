@@ -21,7 +21,7 @@ use Rattle.coap_server.specs.Trace as S
 use Rattle.coap_server.specs.Follows.Serves.{Serving}
 use Rattle.coap_client.proofs.Facts.Laws as client_facts
 use Rattle.coap_server.proofs.Facts.Laws as server_facts
-use Rattle.coap_world.specs.Events.{client_end, server_end, Config}
+use Rattle.coap_world.specs.Events.{Config}
 use Rattle.coap_world.specs.Record.{Entry, OfClient, OfServer, client_of, server_trace}
 use Rattle.coap_world.specs.Run.Log.{call_if}
 use Rattle.coap_world.specs.Run.Named.{EachNamed, named}
@@ -51,7 +51,8 @@ module _ (config : Config) (all : List Entry) (whole : Lawful config all) where
   one_of :
       (x y : Sending) (k : ℕ) → WasSent config.client_sizes x (client_of all)
       → WasSent config.client_sizes y (client_of all) → call_of y.operation ≡ Some k → x.token ≡ y.token → x ≡ y
-  one_of x y k sent there of token = by (client_facts.tokens server_end config.client_sizes config.client_setup
+  one_of x y k sent there of token = by (client_facts.tokens config.addresses.server config.client_sizes
+      config.client_setup
       (client_of all) whole.client x y sent there token)
     where
       by : (x ≡ y) ⊎ (Deregisters x y ⊎ Deregisters y x) → x ≡ y
@@ -102,8 +103,8 @@ module _ (config : Config) (all : List Entry) (whole : Lawful config all) where
   -- the call to which it belongs is the one that is named
   module _ (past : List Entry) (c : S.Call) (after : After (client_of past)) (law : Lawful config (OfServer c ∷ past))
       (x : Serving) (here : ServesAt config x past (OfServer c))
-      (belongs : x.asked.from ≡ client_end → (number : ℕ) × SentFor config number x.asked.token all) where
-    is_sent : (m : ℕ) → SentFor config m x.asked.token all → x.asked.from ≡ client_end
+      (belongs : x.asked.from ≡ config.addresses.client → (number : ℕ) × SentFor config number x.asked.token all) where
+    is_sent : (m : ℕ) → SentFor config m x.asked.token all → x.asked.from ≡ config.addresses.client
         → sender_of config.client_sizes x.asked.token (client_of past) ≡ Some m
     is_sent m z from =
         let w : List Entry = OfServer c ∷ past in
@@ -117,11 +118,12 @@ module _ (config : Config) (all : List Entry) (whole : Lawful config all) where
         (client_of past) after k.sent
 
     named_by :
-        (b : Bool) → same_endpoint x.asked.from client_end ≡ b → (number : ℕ)
+        (b : Bool) → same_endpoint x.asked.from config.addresses.client ≡ b → (number : ℕ)
         → (call_if b (sender_of config.client_sizes x.asked.token (client_of past)) ≡ Some number)
-        ↔ ((x.asked.from ≡ client_end) × SentFor config number x.asked.token all)
+        ↔ ((x.asked.from ≡ config.addresses.client) × SentFor config number x.asked.token all)
     named_by true same number =
-        let from : x.asked.from ≡ client_end = (same_endpoint-decides x.asked.from client_end).0 same in
+        let from : x.asked.from ≡ config.addresses.client = (same_endpoint-decides x.asked.from
+        config.addresses.client).0 same in
         let m = belongs from in
         let there = is_sent m.0 m.1 from in (
           λ says. (
@@ -133,16 +135,16 @@ module _ (config : Config) (all : List Entry) (whole : Lawful config all) where
         )
     named_by false other number = (
       λ says. cc says,
-      λ h. absurd (let same : same_endpoint x.asked.from client_end
-          ≡ true = (same_endpoint-decides x.asked.from client_end).1 h.0 in cc (same, other)),
+      λ h. absurd (let same : same_endpoint x.asked.from config.addresses.client
+          ≡ true = (same_endpoint-decides x.asked.from config.addresses.client).1 h.0 in cc (same, other)),
     )
 
   named_in :
       (t : List Entry) → After (client_of t) → Lawful config t
       → Always (λ past e. (x : Serving) → ServesAt config x past e → is_applied x.reply.code ≡ true
-      → x.asked.from ≡ client_end → (number : ℕ) × SentFor config number x.asked.token all) t
+      → x.asked.from ≡ config.addresses.client → (number : ℕ) × SentFor config number x.asked.token all) t
       → Always (λ past e. (x : Serving) → ServesAt config x past e → is_applied x.reply.code ≡ true → (number : ℕ)
-      → (named config x past ≡ Some number) ↔ ((x.asked.from ≡ client_end)
+      → (named config x past ≡ Some number) ↔ ((x.asked.from ≡ config.addresses.client)
       × SentFor config number x.asked.token all)) t
   named_in [] after law belongs = tt
   named_in (OfClient c ∷ past) after law belongs = (
@@ -152,7 +154,7 @@ module _ (config : Config) (all : List Entry) (whole : Lawful config all) where
   )
   named_in (OfServer c ∷ past) after law belongs = (
     λ x here applied. named_by past c after law x here (belongs.0 x here applied)
-        (same_endpoint x.asked.from client_end) refl,
+        (same_endpoint x.asked.from config.addresses.client) refl,
     named_in past after (lawful_back config past (OfServer c) law) belongs.1,
   )
 

@@ -14,6 +14,7 @@ use Rattle.coap_server.specs.Trace as S
 use Rattle.coap_server.specs.declared.limits.TheConstants.{MAX_PLAINS as max_plains}
 use Rattle.coap_server.specs.declared.server.parts.Delay.{Delay as PathDelay}
 use Rattle.coap_world.specs.Legal.{IsConfig}
+use Rattle.coap_world.specs.declared.addresses.Addresses.{Addresses}
 use Rattle.coap_world.specs.Run.Configs.{config_of, gives, begins_with}
 
 -- one more path is plain, and may be
@@ -73,10 +74,12 @@ few_left ps left some within few = let long = length-drop left ps in omega (arit
 
 -- a path in range leaves the configuration in range
 
-module _ {A : Type 0} (cw : Setup) (cs : Sizes) (sw : Setup) (ss : ℕ) (limits : Limits) (ds : List (PathDelay A)) where
-  with_paths : (old new : List (List (List ℕ))) → IsConfig (config_of cw cs sw ss limits ds old) → All IsPath new
-      → length new ≤ max_plains → IsConfig (config_of cw cs sw ss limits ds new)
+module _ {A : Type 0} (places : Addresses) (cw : Setup) (cs : Sizes) (sw : Setup) (ss : ℕ) (limits : Limits)
+    (ds : List (PathDelay A)) where
+  with_paths : (old new : List (List (List ℕ))) → IsConfig (config_of places cw cs sw ss limits ds old) → All IsPath new
+      → length new ≤ max_plains → IsConfig (config_of places cw cs sw ss limits ds new)
   with_paths old new is all few = record {
+    addresses = is.addresses;
     client_setup = is.client_setup;
     client_szx = is.client_szx;
     client_limit = is.client_limit;
@@ -92,20 +95,20 @@ module _ {A : Type 0} (cw : Setup) (cs : Sizes) (sw : Setup) (ss : ℕ) (limits 
   }
 
   pub still_plain : {X : Type 0} (old new : List (List (List ℕ))) (path : List (List ℕ)) (r : Result Bool X)
-      → IsConfig (config_of cw cs sw ss limits ds old) → IsPath path
+      → IsConfig (config_of places cw cs sw ss limits ds old) → IsPath path
       → IfOk r (λ given. (given ≡ may_be_plain path old) × (new ≡ plains_with path given old)) → OnErr r (new ≡ old)
-      → IsConfig (config_of cw cs sw ss limits ds new)
+      → IsConfig (config_of places cw cs sw ss limits ds new)
   still_plain old new path (Ok true) is p given err = by (is_plain path old) given.0 given.1
     where
       by : (b : Bool) → true ≡ (b || nat_lt (length old) max_plains) → new ≡ cond b old (old ++ path ∷ [])
-          → IsConfig (config_of cw cs sw ss limits ds new)
-      by true room left = subst (λ ps. IsConfig (config_of cw cs sw ss limits ds ps)) (sym left) is
+          → IsConfig (config_of places cw cs sw ss limits ds new)
+      by true room left = subst (λ ps. IsConfig (config_of places cw cs sw ss limits ds ps)) (sym left) is
       by false room left =
           let few = ltb-true (length old) max_plains (sym room) in
           let long = length-append old (path ∷ []) in
-          subst (λ ps. IsConfig (config_of cw cs sw ss limits ds ps)) (sym left)
+          subst (λ ps. IsConfig (config_of places cw cs sw ss limits ds ps)) (sym left)
           (with_paths old (old ++ path ∷ []) is (All-push IsPath old path is.plains p) (omega (arith, few, long)))
   still_plain old new path (Ok false) is p given err =
-      subst (λ ps. IsConfig (config_of cw cs sw ss limits ds ps)) (sym given.1) is
+      subst (λ ps. IsConfig (config_of places cw cs sw ss limits ds ps)) (sym given.1) is
   still_plain old new path (Err e) is p given err =
-      subst (λ ps. IsConfig (config_of cw cs sw ss limits ds ps)) (sym err) is
+      subst (λ ps. IsConfig (config_of places cw cs sw ss limits ds ps)) (sym err) is

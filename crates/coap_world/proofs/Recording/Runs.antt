@@ -29,7 +29,8 @@ module _ {X : Type 0} (f : X → Event) (xs : List X) (n : ℕ) where
 
   pub first_wrong :
       (config : Config) (turns : List Turn) (x : X) → n < length xs → x ≡ get_or xs n x
-      → RecordOf config (reverse (map f (take n xs))) turns → Legal config turns → (MayHappen turns (f x) → ⊥)
+      → RecordOf config (reverse (map f (take n xs))) turns → Legal config turns
+      → (MayHappen config.addresses turns (f x) → ⊥)
       → IsFirstWrong config (map f xs) n
   first_wrong config turns x h is made legal wrong =
       record {

@@ -21,7 +21,7 @@ use Rattle.coap_server.specs.Follows.Serves.{serving}
 use Rattle.coap_server.proofs.Facts.Laws as server_facts
 use Rattle.coap_server.proofs.Facts.Laws.{version_is}
 use Rattle.coap_server.proofs.Facts.EachCall.{led_further, led_lawful}
-use Rattle.coap_world.specs.Events.{server_end, Config}
+use Rattle.coap_world.specs.Events.{Config}
 use Rattle.coap_world.specs.Record.{OfServer, ServerTick, FeedsServer, given_by}
 use Rattle.coap_world.specs.Run.Acts.{Moves, Acts, Taken, TakesAll}
 use Rattle.coap_world.specs.Run.Ends.{ServerLed}
@@ -32,8 +32,9 @@ use Rattle.coap_world.specs.Run.Telling.{IsFed, applied_told, change_told, versi
 use Rattle.coap_world.specs.declared.running.ends.ServerEnd.{ServerEnd}
 use Rattle.coap_world.proofs.Recording.Acting.{acts_join, none_taken, one_acts, one_taken, quiet_acts}
 use Rattle.coap_world.proofs.Recording.Applying.{IsInput, not_same, told_input, zero_plus}
+use Rattle.coap_world.specs.declared.addresses.Addresses.{Addresses}
 
-module _ {K A : Type 0} (holding : K → Content) where
+module _ (addresses : Addresses) {K A : Type 0} (holding : K → Content) where
   abbrev pub state : ServerEnd K A → server.State
   state e = state_of holding e.server
 
@@ -60,7 +61,8 @@ module _ {K A : Type 0} (holding : K → Content) where
 
   module _ (sender : List ℕ → Option ℕ) (at : ℕ) where
     abbrev pub ActsSo : List S.Call → ServerEnd K A → Log → ServerEnd K A → Log → Type 0
-    ActsSo calls old log new left = Acts (ServerLed holding) OfServer (server_lines sender) at calls old log new left
+    ActsSo calls old log new left = Acts addresses (ServerLed holding) OfServer (server_lines addresses sender) at calls
+        old log new left
 
     module _ (c : S.Call) (old mid new : ServerEnd K A) (input : IsInput c) (silent : answer_lines c ≡ [])
         (step : server.Step (state old) c (state mid)) (kept : mid.version ≡ old.version)
@@ -69,13 +71,13 @@ module _ {K A : Type 0} (holding : K → Content) where
       its_own : (state mid).own ≡ after (own_of config.limits config.server_szx t) c
       its_own = step.own_is ∙ ap (λ (s : S.Own). after s c) h.led.own_is
 
-      told_here : (applied_told sender (after (own_of config.limits config.server_szx t) c).applied
+      told_here : (applied_told addresses sender (after (own_of config.limits config.server_szx t) c).applied
           (after (own_of config.limits config.server_szx t) c).store.holds
-          ≡ applied_lines sender (serving (own_of config.limits config.server_szx t) c)
+          ≡ applied_lines addresses sender (serving (own_of config.limits config.server_szx t) c)
           ++ line_if Changes (change (own_of config.limits config.server_szx t) c))
           × (version_told (after (own_of config.limits config.server_szx t) c).applied
           (changes config.limits config.server_szx t) ≡ changes config.limits config.server_szx (c ∷ t))
-      told_here = told_input config.limits config.server_szx sender t c
+      told_here = told_input addresses config.limits config.server_szx sender t c
           (led_on config t c old mid new h step same).rows input
 
       input_led : ServerLed holding config (c ∷ t) new
@@ -89,24 +91,24 @@ module _ {K A : Type 0} (holding : K → Content) where
                 ∙ told_here.1;
           }
 
-      input_lines : applied_told sender mid.server.applied (holding mid.server.store).holds
-          ≡ server_lines sender config t c
+      input_lines : applied_told addresses sender mid.server.applied (holding mid.server.store).holds
+          ≡ server_lines addresses sender config t c
       input_lines =
-          ap (λ (o : S.Own). applied_told sender o.applied o.store.holds) its_own
+          ap (λ (o : S.Own). applied_told addresses sender o.applied o.store.holds) its_own
           ∙ told_here.0
-          ∙ ap (λ l. l ++ (applied_lines sender (serving (own_of config.limits config.server_szx t) c)
+          ∙ ap (λ l. l ++ (applied_lines addresses sender (serving (own_of config.limits config.server_szx t) c)
           ++ line_if Changes (change (own_of config.limits config.server_szx t) c))) (sym silent)
 
     -- a datagram or a tick, and then what it applied is told
     input_acts :
         (c : S.Call) (old mid new : ServerEnd K A) (log left : Log) → IsInput c → answer_lines c ≡ []
-        → all_of (given_by at) (OfServer c ∷ []) ≡ []
+        → all_of (given_by addresses at) (OfServer c ∷ []) ≡ []
         → server.Step (state old) c (state mid) → mid.version ≡ old.version → new.server ≡ mid.server
-        → left ≡ lines_put (applied_told sender mid.server.applied (holding mid.server.store).holds) log
+        → left ≡ lines_put (applied_told addresses sender mid.server.applied (holding mid.server.store).holds) log
         → new.version ≡ version_told mid.server.applied mid.version → ActsSo (c ∷ []) old log new left
     input_acts c old mid new log left input silent quiet step kept same told version =
-        one_acts (ServerLed holding) OfServer (server_lines sender) at c
-        (applied_told sender mid.server.applied (holding mid.server.store).holds) old new log left quiet
+        one_acts addresses (ServerLed holding) OfServer (server_lines addresses sender) at c
+        (applied_told addresses sender mid.server.applied (holding mid.server.store).holds) old new log left quiet
         (input_led c old mid new input silent step kept same version)
         (input_lines c old mid new input silent step kept same version) told
 
@@ -115,7 +117,7 @@ module _ {K A : Type 0} (holding : K → Content) where
         → (done : _) × (room : _) × (due : _) × (passed : _) × (h : _) × (id : _)
         × server.Step (state old) (S.Ticks at word done room due passed h id answer) (state mid)
         → mid.version ≡ old.version → new.server ≡ mid.server
-        → left ≡ lines_put (applied_told sender mid.server.applied (holding mid.server.store).holds) log
+        → left ≡ lines_put (applied_told addresses sender mid.server.applied (holding mid.server.store).holds) log
         → new.version ≡ version_told mid.server.applied mid.version
         → (c : S.Call) × ServerTick at word answer c × ActsSo (c ∷ []) old log new left
     server_ticked word answer old mid new log left (done, room, due, passed, h, id, step) kept same told version =
@@ -129,25 +131,25 @@ module _ {K A : Type 0} (holding : K → Content) where
         (word : ℕ) (time : ℕ) (from : Endpoint) (bytes : List ℕ) (old mid new : ServerEnd K A) (log left : Log)
         → IsFed holding (FeedsServer time word from bytes) false old mid
         → new.server ≡ mid.server → left ≡ lines_put
-        (applied_told sender mid.server.applied (holding mid.server.store).holds) log
+        (applied_told addresses sender mid.server.applied (holding mid.server.store).holds) log
         → new.version ≡ version_told mid.server.applied mid.version
-        → Taken (ServerLed holding) OfServer (server_lines sender) at
+        → Taken addresses (ServerLed holding) OfServer (server_lines addresses sender) at
         (FeedsServer time word from bytes) false old log new left
     server_told word time from bytes old mid new log left (c, (up, came, h, sent, is), step, kept) same told version =
         let d : S.Call = S.Feeds time from bytes word up came h sent in
         let right : server.Step (state old) d (state mid) =
         subst (λ x. server.Step (state old) x (state mid)) is step in
-        one_taken (ServerLed holding) OfServer (server_lines sender) at
+        one_taken addresses (ServerLed holding) OfServer (server_lines addresses sender) at
         (FeedsServer time word from bytes) d old new log left (up, came, h, sent, refl)
         (input_acts d old mid new log left tt refl refl right kept same told version)
 
     pub server_untold :
         (word : ℕ) (time : ℕ) (from : Endpoint) (bytes : List ℕ) (old new : ServerEnd K A) (log : Log)
         → IsFed holding (FeedsServer time word from bytes) true old new
-        → Taken (ServerLed holding) OfServer (server_lines sender) at
+        → Taken addresses (ServerLed holding) OfServer (server_lines addresses sender) at
         (FeedsServer time word from bytes) true old log new log
     server_untold word time from bytes old new log is =
-        none_taken (ServerLed holding) OfServer (server_lines sender) at
+        none_taken addresses (ServerLed holding) OfServer (server_lines addresses sender) at
         (FeedsServer time word from bytes) old new log is
 
     -- what the server gives
@@ -155,7 +157,7 @@ module _ {K A : Type 0} (holding : K → Content) where
     pub server_out :
         (p : Packet) (old new : ServerEnd K A) (log left : Log)
         → server.Step (state old) (S.NextOut (Some p)) (state new) → new.version ≡ old.version
-        → left ≡ given_put (record { at = at; from = server_end; packet = p }) log
+        → left ≡ given_put (record { at = at; from = addresses.server; packet = p }) log
         → ActsSo (S.NextOut (Some p) ∷ []) old log new left
     server_out p old new log left step same is =
         record {
@@ -168,20 +170,22 @@ module _ {K A : Type 0} (holding : K → Content) where
         (a old new : ServerEnd K A) (l log : Log) → (taken : List Packet)
         × ActsSo (map (λ p. S.NextOut (Some p)) taken) a l old log
         → server.Step (state old) (S.NextOut None) (state new) → new.version ≡ old.version
-        → TakesAll (ServerLed holding) OfServer (server_lines sender) at S.NextOut a l new log
+        → TakesAll addresses (ServerLed holding) OfServer (server_lines addresses sender) at S.NextOut a l new log
     server_outs_end a old new l log (taken, acts) step same =
         record {
           taken = taken;
-          acts = acts_join (ServerLed holding) OfServer (server_lines sender) at (S.NextOut None ∷ [])
+          acts = acts_join addresses (ServerLed holding) OfServer (server_lines addresses sender) at
+              (S.NextOut None ∷ [])
               (map (λ p. S.NextOut (Some p)) taken) a old new l log log acts
-              (quiet_acts (ServerLed holding) OfServer (server_lines sender) at (S.NextOut None ∷ []) old new log
+              (quiet_acts addresses (ServerLed holding) OfServer (server_lines addresses sender) at
+              (S.NextOut None ∷ []) old new log
               (still_moves (S.NextOut None) old new (λ config t h. refl) step same) refl (λ config t. refl));
         }
 
     -- Local changes: one that changes a path, and one that doesn't.
 
     module _ (path : List (List ℕ)) (c : S.Call) (old mid new : ServerEnd K A) (log said left : Log) (line : Line)
-        (quiet : all_of (given_by at) (OfServer c ∷ []) ≡ []) (answers : answer_lines c ≡ line ∷ [])
+        (quiet : all_of (given_by addresses at) (OfServer c ∷ []) ≡ []) (answers : answer_lines c ≡ line ∷ [])
         (serves : (s : S.Own) → serving s c ≡ None)
         (local : (s : S.Own) → change s c ≡ change_of path s.store (state mid).own.store)
         (step : server.Step (state old) c (state mid)) (says : said ≡ line_put line log) where
@@ -207,12 +211,13 @@ module _ {K A : Type 0} (holding : K → Content) where
 
       local_lines : (config : Config) (t : List S.Call) (o : Option Change)
           → change (own_of config.limits config.server_szx t) c ≡ o
-          → line ∷ line_if Changes o ≡ server_lines sender config t c
+          → line ∷ line_if Changes o ≡ server_lines addresses sender config t c
       local_lines config t o is =
           ap (λ l. line ∷ l) (ap (line_if Changes) (sym is)
-          ∙ ap (λ x. applied_lines sender x ++ line_if Changes (change (own_of config.limits config.server_szx t) c))
+          ∙ ap (λ x. applied_lines addresses sender x ++ line_if Changes
+          (change (own_of config.limits config.server_szx t) c))
           (sym (serves (own_of config.limits config.server_szx t))))
-          ∙ ap (λ l. l ++ (applied_lines sender (serving (own_of config.limits config.server_szx t) c)
+          ∙ ap (λ l. l ++ (applied_lines addresses sender (serving (own_of config.limits config.server_szx t) c)
           ++ line_if Changes (change (own_of config.limits config.server_szx t) c))) (sym answers)
 
       pub changes_here :
@@ -246,7 +251,8 @@ module _ {K A : Type 0} (holding : K → Content) where
           → left_store.tally.version ≡ (state old).own.store.tally.version → ActsSo (c ∷ []) old log new said
       same_here is kept same =
           subst (λ e. ActsSo (c ∷ []) old log e said) (sym is)
-          (one_acts (ServerLed holding) OfServer (server_lines sender) at c (line ∷ []) old mid log said quiet
+          (one_acts addresses (ServerLed holding) OfServer (server_lines addresses sender) at c (line ∷ []) old mid log
+          said quiet
           (still_moves c old mid (λ config t h. same_so same (own_of config.limits config.server_szx t) h.led.own_is)
           step kept)
           (λ config t h. local_lines config t None (same_so same
@@ -283,7 +289,7 @@ removes_same None w old left now path answer h not = ap (λ (s : Content). s.tal
 removes_same (Some held) (Some why) old left now path answer h not = ap (λ (s : Content). s.tally.version) h.1
 removes_same (Some held) None old left now path answer h not = absurd (not h.0)
 
-module _ {K A : Type 0} (holding : K → Content) (sender : List ℕ → Option ℕ) (at : ℕ) where
+module _ (addresses : Addresses) {K A : Type 0} (holding : K → Content) (sender : List ℕ → Option ℕ) (at : ℕ) where
   abbrev pub of : ServerEnd K A → server.State
   of e = state_of holding e.server
 
@@ -293,15 +299,17 @@ module _ {K A : Type 0} (holding : K → Content) (sender : List ℕ → Option 
       → server.Step (of old) (S.Sets at path format body answer (of mid).own.store) (of mid)
       → said ≡ line_put (Puts answer) log → new.server ≡ mid.server → new.version ≡ version
       → left ≡ lines_put (change_told path version ((of mid).own.store.holds path)) said
-      → Taken (ServerLed holding) OfServer (server_lines sender) at (IsSet at path format body) false old log new left
+      → Taken addresses (ServerLed holding) OfServer (server_lines addresses sender) at (IsSet at path format body)
+      false old log new left
   server_set path format body version answer old mid new log said left is step says same at_version told =
       let c : S.Call = S.Sets at path format body answer (of mid).own.store in
       let next = sets_next _ _ _ _ path format body version
       (subst (λ a. SetsBy (put_refusal (of old).own.store (max (of old).own.clock at) path (length body))
       (of old).own.store (max (of old).own.clock at) path format body a (of mid).own.store) is step.right) in
-      one_taken (ServerLed holding) OfServer (server_lines sender) at (IsSet at path format body) c old new log left
+      one_taken addresses (ServerLed holding) OfServer (server_lines addresses sender) at (IsSet at path format body) c
+      old new log left
       (answer, (of mid).own.store, refl)
-      (changes_here holding sender at path c old mid new log said left (Puts answer) refl refl (λ s. refl)
+      (changes_here addresses holding sender at path c old mid new log said left (Puts answer) refl refl (λ s. refl)
       (λ s. refl) step says version same at_version (λ config t h. next.0) next.1 told)
 
   pub server_not_set :
@@ -309,15 +317,17 @@ module _ {K A : Type 0} (holding : K → Content) (sender : List ℕ → Option 
       (old new : ServerEnd K A) (log said : Log) → answer ≡ Err why
       → server.Step (of old) (S.Sets at path format body answer (of new).own.store) (of new)
       → said ≡ line_put (Puts answer) log → new.version ≡ old.version
-      → Taken (ServerLed holding) OfServer (server_lines sender) at (IsSet at path format body) false old log new said
+      → Taken addresses (ServerLed holding) OfServer (server_lines addresses sender) at (IsSet at path format body)
+      false old log new said
   server_not_set path format body why answer old new log said is step says kept =
       let c : S.Call = S.Sets at path format body answer (of new).own.store in
       let same = sets_same _ _ _ _ path format body why
       (subst (λ a. SetsBy (put_refusal (of old).own.store (max (of old).own.clock at) path (length body))
       (of old).own.store (max (of old).own.clock at) path format body a (of new).own.store) is step.right) in
-      one_taken (ServerLed holding) OfServer (server_lines sender) at (IsSet at path format body) c old new log said
+      one_taken addresses (ServerLed holding) OfServer (server_lines addresses sender) at (IsSet at path format body) c
+      old new log said
       (answer, (of new).own.store, refl)
-      (same_here holding sender at path c old new new log said said (Puts answer) refl refl (λ s. refl)
+      (same_here addresses holding sender at path c old new new log said said (Puts answer) refl refl (λ s. refl)
       (λ s. refl) step says refl kept same)
 
   pub server_removed :
@@ -327,7 +337,8 @@ module _ {K A : Type 0} (holding : K → Content) (sender : List ℕ → Option 
       → said ≡ line_put (Removes answer) log → new.server ≡ mid.server → new.version ≡ version
       → (old.version + 1 < 2 ^ 64 → version ≡ old.version + 1)
       → left ≡ lines_put (change_told path version ((of mid).own.store.holds path)) said
-      → Taken (ServerLed holding) OfServer (server_lines sender) at (IsRemoval at path) false old log new left
+      → Taken addresses (ServerLed holding) OfServer (server_lines addresses sender) at (IsRemoval at path) false old
+      log new left
   server_removed path version answer old mid new log said left is step says same at_version counts told =
       let c : S.Call = S.Removes at path answer (of mid).own.store in
       let next = removes_next _ _ _ _ _ path (subst
@@ -337,8 +348,8 @@ module _ {K A : Type 0} (holding : K → Content) (sender : List ℕ → Option 
       let right : (config : Config) (t : List S.Call) → ServerLed holding config t old
       → version ≡ (of mid).own.store.tally.version =
       λ config t h.
-      let led = led_on holding config t c old mid mid h step refl in
-      let change_is = changed_so holding sender at path c old mid new log said left (Removes answer) refl refl
+      let led = led_on addresses holding config t c old mid mid h step refl in
+      let change_is = changed_so addresses holding sender at path c old mid new log said left (Removes answer) refl refl
       (λ s. refl) (λ s. refl) step says next (own_of config.limits config.server_szx t) h.led.own_is in
       let small = (server_facts.stamped config.limits config.server_szx config.server_setup (c ∷ t)
       (led_lawful config.limits config.server_szx config.server_setup (c ∷ t) (of mid) led)).0.version _ change_is in
@@ -346,9 +357,10 @@ module _ {K A : Type 0} (holding : K → Content) (sender : List ℕ → Option 
       ∙ sym (ap (λ (o : S.Own). o.store.tally.version) h.led.own_is
       ∙ version_is config.limits config.server_szx t h.led.rows) in
       counts (omega (arith, before, next, small)) ∙ ap (λ n. n + 1) before ∙ sym next in
-      one_taken (ServerLed holding) OfServer (server_lines sender) at (IsRemoval at path) c old new log left
+      one_taken addresses (ServerLed holding) OfServer (server_lines addresses sender) at (IsRemoval at path) c old new
+      log left
       (answer, (of mid).own.store, refl)
-      (changes_here holding sender at path c old mid new log said left (Removes answer) refl refl (λ s. refl)
+      (changes_here addresses holding sender at path c old mid new log said left (Removes answer) refl refl (λ s. refl)
       (λ s. refl) step says version same at_version right next told)
 
   pub server_not_removed :
@@ -356,32 +368,35 @@ module _ {K A : Type 0} (holding : K → Content) (sender : List ℕ → Option 
       → (answer ≡ Ok true → ⊥)
       → server.Step (of old) (S.Removes at path answer (of new).own.store) (of new)
       → said ≡ line_put (Removes answer) log → new.version ≡ old.version
-      → Taken (ServerLed holding) OfServer (server_lines sender) at (IsRemoval at path) false old log new said
+      → Taken addresses (ServerLed holding) OfServer (server_lines addresses sender) at (IsRemoval at path) false old
+      log new said
   server_not_removed path answer old new log said not step says kept =
       let c : S.Call = S.Removes at path answer (of new).own.store in
       let same = removes_same _ _ _ _ _ path answer step.right not in
-      one_taken (ServerLed holding) OfServer (server_lines sender) at (IsRemoval at path) c old new log said
+      one_taken addresses (ServerLed holding) OfServer (server_lines addresses sender) at (IsRemoval at path) c old new
+      log said
       (answer, (of new).own.store, refl)
-      (same_here holding sender at path c old new new log said said (Removes answer) refl refl (λ s. refl)
+      (same_here addresses holding sender at path c old new new log said said (Removes answer) refl refl (λ s. refl)
       (λ s. refl) step says refl kept same)
 
-module _ {K A : Type 0} (holding : K → Content) (sender : List ℕ → Option ℕ) (at word : ℕ) (from : Endpoint)
+module _ (addresses : Addresses) {K A : Type 0} (holding : K → Content) (sender : List ℕ → Option ℕ) (at word : ℕ)
+    (from : Endpoint)
     (bytes : List ℕ) where
   pub untold_if :
       (refused : Bool) (old new : ServerEnd K A) (log : Log) → refused ≡ true
       → IsFed holding (FeedsServer at word from bytes) refused old new
-      → Taken (ServerLed holding) OfServer (server_lines sender) at
+      → Taken addresses (ServerLed holding) OfServer (server_lines addresses sender) at
       (FeedsServer at word from bytes) refused old log new log
-  untold_if true old new log e is = server_untold holding sender at word at from bytes old new log is
+  untold_if true old new log e is = server_untold addresses holding sender at word at from bytes old new log is
   untold_if false old new log e is = cc e
 
   pub told_if :
       (refused : Bool) (old mid new : ServerEnd K A) (log left : Log) → refused ≡ false
       → IsFed holding (FeedsServer at word from bytes) refused old mid → new.server ≡ mid.server
-      → left ≡ lines_put (applied_told sender mid.server.applied (holding mid.server.store).holds) log
+      → left ≡ lines_put (applied_told addresses sender mid.server.applied (holding mid.server.store).holds) log
       → new.version ≡ version_told mid.server.applied mid.version
-      → Taken (ServerLed holding) OfServer (server_lines sender) at
+      → Taken addresses (ServerLed holding) OfServer (server_lines addresses sender) at
       (FeedsServer at word from bytes) refused old log new left
   told_if true old mid new log left e is same told version = cc e
   told_if false old mid new log left e is same told version =
-      server_told holding sender at word at from bytes old mid new log left is same told version
+      server_told addresses holding sender at word at from bytes old mid new log left is same told version

@@ -13,7 +13,7 @@ use Rattle.coap_client.specs.Follows.Words.{Taken, takes, WasTaken}
 use Rattle.coap_client.specs.Law.{ClientLaw, ClientRows, own_of}
 use Rattle.coap_client.specs.Trace as C
 use Rattle.coap_client.proofs.Facts.EachCall.{all_ends, calls_alone}
-use Rattle.coap_world.specs.Events.{server_end, Config}
+use Rattle.coap_world.specs.Events.{Config}
 use Rattle.coap_world.specs.Record.{Entry, Turn, entries_of, client_of}
 use Rattle.coap_world.specs.Reported.{further_in, most_ms, TakenSince, AreReported}
 use Rattle.coap_world.specs.Smooth.{TakesNoObservation}
@@ -54,8 +54,9 @@ module _ (config : Config) where
   quiet all k changes =
       let t = client_of all in
       quiet_by all t k.law.rows k.none_taken
-      (calls_alone server_end config.client_sizes config.client_setup t k.law k.none_taken) k.by_answers
-      (all_ends server_end config.client_sizes config.client_setup t k.law) k.all_sent (none_bad config all all k changes)
+      (calls_alone config.addresses.server config.client_sizes config.client_setup t k.law k.none_taken) k.by_answers
+      (all_ends config.addresses.server config.client_sizes config.client_setup t k.law) k.all_sent
+      (none_bad config all all k changes)
 
   quiet_before : (turn : Turn) (past : List Turn) → AreQuiet config (calls (turn ∷ past)) → AreQuiet config (calls past)
   quiet_before turn past q =

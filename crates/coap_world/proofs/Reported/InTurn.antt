@@ -12,7 +12,7 @@ use Rattle.coap_client.specs.Follows.Words.{Sending, sends, hears}
 use Rattle.coap_client.specs.Law.{own_of}
 use Rattle.coap_client.specs.Own.{Transfer, Operation, Calling, Own}
 use Rattle.coap_client.specs.Trace.{Request, Call}
-use Rattle.coap_world.specs.Events.{server_end, Config}
+use Rattle.coap_world.specs.Events.{Config}
 use Rattle.coap_world.specs.Reported.{is_further, further_in}
 use Rattle.coap_world.proofs.Reported.Leaves.{Plain, Leaves, same, begins, goes_on, is_over, Quietly, leaves}
 
@@ -58,7 +58,7 @@ module _ (config : Config) where
   sent_in (c ∷ later) before = one_sent (later ++ before) c + sent_in later before
 
   abbrev pub IsReported : ℕ → List Call → Type 0
-  IsReported number t = HasReport server_end config.client_sizes config.client_setup number t
+  IsReported number t = HasReport config.addresses.server config.client_sizes config.client_setup number t
 
   abbrev one_further : List Call → Call → ℕ
   one_further past c = cond (is_further config past c) 1 0

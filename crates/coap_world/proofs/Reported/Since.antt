@@ -18,7 +18,7 @@ use Rattle.coap_client.specs.Queue.{transfer_of}
 use Rattle.coap_client.specs.Steps.{reports}
 use Rattle.coap_client.specs.Trace as C
 use Rattle.coap_client.proofs.Facts.Exchanges.{open_runs}
-use Rattle.coap_world.specs.Events.{server_end, Config, What, TickClient}
+use Rattle.coap_world.specs.Events.{Config, What, TickClient}
 use Rattle.coap_world.specs.Record.{Entry, OfClient, OfServer, Turn, entries_of, client_of}
 use Rattle.coap_world.specs.Reported.{unfinished, further_in}
 use Rattle.coap_world.specs.Smooth.{max_age}
@@ -109,7 +109,8 @@ module _ (config : Config) where
   -- decided: whether it is reported here, and at all
   abbrev ReportedNow : ℕ → List C.Call → C.Call → Type 0
   ReportedNow number t c =
-      (x : C.Reported) × (x.number ≡ number) × IsFinal server_end config.client_sizes config.client_setup t c x
+      (x : C.Reported) × (x.number ≡ number) × IsFinal config.addresses.server config.client_sizes config.client_setup t
+      c x
 
   now_or_not : (number : ℕ) (t : List C.Call) (c : C.Call) (x : C.Reported)
       → reports (own_of config.client_sizes t) c ≡ Some x → (b : Bool) → C.is_value x.report ≡ b
@@ -242,7 +243,7 @@ module _ (config : Config) where
       all_by_now : Always (λ p (u : Turn). u.event.what ≡ TickClient → u.event.at ≤ turn.event.at) (turn ∷ past)
       all_by_now =
           let same : turn.event.at ≤ turn.event.at = omega arith in
-          plain (turn ∷ past) (until (turn ∷ past) s.legal turn.event.at same)
+          plain (turn ∷ past) (until config.addresses (turn ∷ past) s.legal turn.event.at same)
         where
           plain : (us : List Turn) → Always (λ p (u : Turn). u.event.at ≤ turn.event.at) us
               → Always (λ p (u : Turn). u.event.what ≡ TickClient → u.event.at ≤ turn.event.at) us
@@ -311,7 +312,8 @@ module _ (config : Config) where
       call = C.Calls turn.event.at x.request (Ok x.number)
 
       k : CallAlone x turn.event.at (client_of turn.entries)
-      k = taken_by x turn.event.at turn.event.word turn.entries past turn.refused turn.event.what s.made.0 taken
+      k = taken_by config.addresses x turn.event.at turn.event.word turn.entries past turn.refused turn.event.what
+          s.made.0 taken
 
       is : calls (turn ∷ past) ≡ k.later ++ (call ∷ before_it)
       is = client_join turn.entries (entries_of past)
@@ -336,7 +338,7 @@ module _ (config : Config) where
         few = few;
       })
 
-      law_before : ClientLaw server_end config.client_sizes config.client_setup before_it
+      law_before : ClientLaw config.addresses.server config.client_sizes config.client_setup before_it
       law_before = (before config turn past s).client
 
       -- an exchange was open before, or none was
@@ -361,7 +363,7 @@ module _ (config : Config) where
       all_by_then : Always (λ p (u : Turn). u.event.what ≡ TickClient → u.event.at ≤ turn.event.at) (turn ∷ past)
       all_by_then =
           let same : turn.event.at ≤ turn.event.at = omega arith in
-          plain (turn ∷ past) (until (turn ∷ past) s.legal turn.event.at same)
+          plain (turn ∷ past) (until config.addresses (turn ∷ past) s.legal turn.event.at same)
         where
           plain : (us : List Turn) → Always (λ p (u : Turn). u.event.at ≤ turn.event.at) us
               → Always (λ p (u : Turn). u.event.what ≡ TickClient → u.event.at ≤ turn.event.at) us
@@ -371,7 +373,8 @@ module _ (config : Config) where
       ran_then : IsOpen config.client_sizes before_it
           → 1 + length (own_of config.client_sizes before_it).queue ≤ others
       ran_then o =
-          let r = (open_runs server_end config.client_sizes config.client_setup before_it law_before).runs o.0 o.1 in
+          let r = (open_runs config.addresses.server config.client_sizes config.client_setup before_it law_before).runs
+          o.0 o.1 in
           let two : unfinished config before_it ≡ 1 + length (own_of config.client_sizes before_it).queue =
           ap (λ (q : Option Operation). length (option_to_list q ++ (own_of config.client_sizes before_it).queue)) r.operates
           ∙ with_one r.operation (own_of config.client_sizes before_it).queue in

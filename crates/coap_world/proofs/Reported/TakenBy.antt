@@ -15,6 +15,7 @@ use Rattle.coap_world.proofs.Delivery.EntriesInTime.{Every}
 use Rattle.coap_world.proofs.Delivery.OneEndATurn.{each_one, each_tick}
 use Rattle.coap_world.proofs.Delivery.ServerTurns.{turn_calls as server_turn_calls}
 use Rattle.coap_world.proofs.Reported.TickOpens.{IsTaking, behind}
+use Rattle.coap_world.specs.declared.addresses.Addresses.{Addresses}
 
 pub record CallAlone (x : Taken) (at : ℕ) (calls : List C.Call) : Type 0 where
   pub later : List C.Call
@@ -46,7 +47,7 @@ taking_none (C.NextOut answer ∷ cs) h = (refl, taking_none cs h.1)
 taking_none (C.NextReport answer ∷ cs) h = (refl, taking_none cs h.1)
 taking_none (_ ∷ cs) h = absurd h.0
 
-module _ (x : Taken) (at word : ℕ) (entries : List Entry) where
+module _ (addresses : Addresses) (x : Taken) (at word : ℕ) (entries : List Entry) where
   -- it is one of the calls of the turn
   among : (calls : List C.Call) (on : OnClient calls entries) → Ever (Takes x) (client_of entries)
       → (client_of entries ≡ (behind on.outs on.reports calls).later ++ calls) × Ever (Takes x) calls
@@ -86,7 +87,8 @@ module _ (x : Taken) (at word : ℕ) (entries : List Entry) where
       ]
 
   module _ (past : List Turn) (refused : Bool) where
-    pub taken_by : (what : What) → Makes past at word what refused entries → Ever (Takes x) (client_of entries)
+    pub taken_by : (what : What) → Makes addresses past at word what refused entries
+        → Ever (Takes x) (client_of entries)
         → CallAlone x at (client_of entries)
     taken_by (Calls r) m h =
         let a = among m.0 m.2 h in

@@ -15,7 +15,7 @@ use Rattle.coap_client.specs.Law.{ClientLaw, own_of}
 use Rattle.coap_client.specs.Trace.{Call, NextOut, NextReport, Reported}
 use Rattle.coap_client.proofs.Facts.Exchanges.{open_runs}
 use Rattle.coap_client.proofs.Facts.Laws.{back}
-use Rattle.coap_world.specs.Events.{server_end, Config, TickClient}
+use Rattle.coap_world.specs.Events.{Config, TickClient}
 use Rattle.coap_world.specs.Record.{Turn, Makes, OnClient, AreTicks, ClientTick, entries_of, client_of}
 use Rattle.coap_world.proofs.Delivery.ClientTurns.{turn_calls}
 use Rattle.coap_world.proofs.Delivery.OneEndATurn.{client_client}
@@ -71,13 +71,15 @@ module _ (config : Config)
     (answered : (server : Endpoint) (sizes : Sizes) (setup : Setup) (t : List Call) → ClientLaw server sizes setup t
     → AreAnswered server sizes setup t) where
   abbrev Law : List Call → Type 0
-  Law t = ClientLaw server_end config.client_sizes config.client_setup t
+  Law t = ClientLaw config.addresses.server config.client_sizes config.client_setup t
 
   -- what it waits for is an exchange: nothing is held back
   waits_open : (past : List Call) (c : Call) → Law (c ∷ past) → AreQuiet config (c ∷ past)
-      → WaitsFor server_end config.client_sizes config.client_setup past c → IsOpen config.client_sizes (c ∷ past)
+      → WaitsFor config.addresses.server config.client_sizes config.client_setup past c
+      → IsOpen config.client_sizes (c ∷ past)
   waits_open past c law quiet (inl n) =
-      let k = (open_runs server_end config.client_sizes config.client_setup (c ∷ past) law).is_open n.exchange n.running in
+      let k = (open_runs config.addresses.server config.client_sizes config.client_setup (c ∷ past) law).is_open
+      n.exchange n.running in
       (k.0, k.1)
   waits_open past c law quiet (inr h) =
       let none = (plain_of config (c ∷ past) quiet).hold in
@@ -99,24 +101,26 @@ module _ (config : Config)
     tick_opens at word (c ∷ earlier) ticks later taking law quiet untold =
         let t = ticks.0 in
         let here = Always_back _ later (c ∷ (earlier ++ old))
-        (answered server_end config.client_sizes config.client_setup (later ++ (c ∷ (earlier ++ old))) law) in
+        (answered config.addresses.server config.client_sizes config.client_setup (later ++ (c ∷ (earlier ++ old)))
+        law) in
         let waits = here.0 (at, word, t.0, t.1, t.2, t.3, t.4, t.5) x (there earlier)
         (λ told. untold (Sometime_back _ later (c ∷ (earlier ++ old)) (inr told))) in
         let k = waits_open (earlier ++ old) c
-        (back server_end config.client_sizes config.client_setup later (c ∷ (earlier ++ old)) law)
+        (back config.addresses.server config.client_sizes config.client_setup later (c ∷ (earlier ++ old)) law)
         (Always_back _ later (c ∷ (earlier ++ old)) quiet) waits in
         (k.0, still_open config.client_sizes k.0 later (c ∷ (earlier ++ old)) taking k.1)
 
   -- the turn of a tick
   pub turn_opens : (turn : Turn) (past : List Turn) → turn.event.what ≡ TickClient → turn.refused ≡ false
-      → Makes past turn.event.at turn.event.word turn.event.what turn.refused turn.entries
+      → Makes config.addresses past turn.event.at turn.event.word turn.event.what turn.refused turn.entries
       → (x : Taken) → WasTaken x (client_of (entries_of past)) → Law (client_of (entries_of (turn ∷ past)))
       → AreQuiet config (client_of (entries_of (turn ∷ past)))
       → (IsReported config x.number (client_of (entries_of (turn ∷ past))) → ⊥)
       → IsOpen config.client_sizes (client_of (entries_of (turn ∷ past)))
   turn_opens turn past what all made x was law quiet untold =
-      let m = subst (λ w. Makes past turn.event.at turn.event.word w false turn.entries) what
-      (subst (λ r. Makes past turn.event.at turn.event.word turn.event.what r turn.entries) all made) in
+      let m = subst (λ w. Makes config.addresses past turn.event.at turn.event.word w false turn.entries) what
+      (subst (λ r. Makes config.addresses past turn.event.at turn.event.word turn.event.what r turn.entries) all
+      made) in
       let on : OnClient m.0 turn.entries = m.2 in
       let b = behind on.outs on.reports m.0 in
       let old : List Call = client_of (entries_of past) in

@@ -19,7 +19,7 @@ use Rattle.coap_server.specs.Follows.Gives.{Carries, IsEmpty, CarriesResponse}
 use Rattle.coap_client.proofs.Facts.Laws as client_facts
 use Rattle.coap_server.proofs.Facts.Laws as server_facts
 use Rattle.coap_world.specs.Answers.{IsResponse, replies, continues, refuses, notifies, AnswersAt, AllAnswered}
-use Rattle.coap_world.specs.Events.{client_end, server_end, Config}
+use Rattle.coap_world.specs.Events.{Config}
 use Rattle.coap_world.specs.Hops.{hops_in, client_adds}
 use Rattle.coap_world.specs.Record.{Entry, OfClient, OfServer, client_of, server_trace, Setting, DelayOf, PlainOf}
 use Rattle.coap_world.specs.Record.{gives_it, settings}
@@ -56,10 +56,10 @@ module _ (config : Config) where
   in_entries p (OfServer c ∷ past) (inl h) = inl h
   in_entries p (OfServer c ∷ past) (inr h) = inr (in_entries p past h)
 
-  module _ (m : Message) (p : T.Packet) (reads : Reads p.bytes m) (to : p.to ≡ client_end) where
+  module _ (m : Message) (p : T.Packet) (reads : Reads p.bytes m) (to : p.to ≡ config.addresses.client) where
     -- what the datagram carries is what it spells
     response : (there : Endpoint) (token : List ℕ) (r : R.Response) → Carries p there token r
-        → IsResponse m there token r
+        → IsResponse config.addresses m there token r
     response there token r k =
         let is : m ≡ with_head k.kind k.id (content_with token r) =
         one_message p.bytes m (with_head k.kind k.id (content_with token r)) reads.spells k.spells
@@ -97,18 +97,19 @@ module _ (config : Config) where
 
   -- what the message layer of the client hands up here
   pub came_answered : (past : List Entry) (c : C.Call) → Lawful config (OfClient c ∷ past) → (m : Message)
-      → Ever (Hears server_end m) (client_adds config (client_of past) c) → Sometime (AnswersAt config m) past
+      → Ever (Hears config.addresses.server m) (client_adds config (client_of past) c)
+      → Sometime (AnswersAt config m) past
   came_answered past c law m heard =
       let e : Entry = OfClient c in
-      let layer = subst (Ever (Hears server_end m)) (sym (client_next config (client_of past) c))
-      (Ever_front (Hears server_end m) (client_adds config (client_of past) c)
+      let layer = subst (Ever (Hears config.addresses.server m)) (sym (client_next config (client_of past) c))
+      (Ever_front (Hears config.addresses.server m) (client_adds config (client_of past) c)
       (client_layer config (client_of past)) heard) in
-      let near = subst (Ever (Hears server_end m)) (sym (near_is config (e ∷ past))) layer in
-      let g = was_given config.client_setup config.server_setup client_end server_end m
+      let near = subst (Ever (Hears config.addresses.server m)) (sym (near_is config (e ∷ past))) layer in
+      let g = was_given config.client_setup config.server_setup config.addresses.client config.addresses.server m
       (hops_in config (e ∷ past)) law.channel near in
-      let p : T.Packet = record { to = client_end; bytes = g.bytes } in
-      let far = subst (Ever (SendsTo client_end g.bytes)) (far_is config (e ∷ past))
-      (far_ever (SendsTo client_end g.bytes) (hops_in config (e ∷ past)) g.sent) in
+      let p : T.Packet = record { to = config.addresses.client; bytes = g.bytes } in
+      let far = subst (Ever (SendsTo config.addresses.client g.bytes)) (far_is config (e ∷ past))
+      (far_ever (SendsTo config.addresses.client g.bytes) (hops_in config (e ∷ past)) g.sent) in
       elim (server_facts.gives config.limits config.server_szx config.server_setup
       (server_trace config past) law.server p far) [
         | inl none ↦ absurd (not_empty m p g.reads refl none)
@@ -119,7 +120,7 @@ module _ (config : Config) where
   answered : (past : List Entry) (c : C.Call) → Lawful config (OfClient c ∷ past) → (m : Message) → hears c ≡ Some m
       → Sometime (AnswersAt config m) past
   answered past c law m is = came_answered past c law m
-      ((client_facts.handed_up server_end config.client_sizes config.client_setup
+      ((client_facts.handed_up config.addresses.server config.client_sizes config.client_setup
       (client_of (OfClient c ∷ past)) law.client).0 m is)
 
   pub all_answered : (all : List Entry) → Lawful config all → AllAnswered config all

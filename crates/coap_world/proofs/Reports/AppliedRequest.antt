@@ -15,7 +15,7 @@ use Rattle.coap_server.specs.Trace as S
 use Rattle.coap_client.proofs.Facts.Laws as client_facts
 use Rattle.coap_server.proofs.Facts.Laws as server_facts
 use Rattle.coap_world.specs.CameFrom.{request_of}
-use Rattle.coap_world.specs.Events.{client_end, server_end, Config}
+use Rattle.coap_world.specs.Events.{Config}
 use Rattle.coap_world.specs.Hops.{hops_in}
 use Rattle.coap_world.specs.Legal.{IsRequest}
 use Rattle.coap_world.specs.Record.{Entry, OfClient, OfServer, client_of, server_trace}
@@ -58,7 +58,8 @@ module _ (config : Config) (number : ℕ) (all : List Entry) (small : config.cli
 
     pub same_asked : (a b : Asked) (v w : Verdict) → Comes a v → Comes b w → a.token ≡ k.token → b.token ≡ k.token
         → a ≡ b
-    same_asked a b v w o p i j = o.asked ∙ (ap (asked_of client_end) (same_message a b v w o p i j) ∙ sym p.asked)
+    same_asked a b v w o p i j = o.asked ∙ (ap (asked_of config.addresses.client) (same_message a b v w o p i j)
+        ∙ sym p.asked)
 
     pub same_verdict : (a b : Asked) (v w : Verdict) → Comes a v → Comes b w → a.token ≡ k.token → b.token ≡ k.token
         → v ≡ w
@@ -66,7 +67,7 @@ module _ (config : Config) (number : ℕ) (all : List Entry) (small : config.cli
         ∙ (ap (verdict_on config.server_szx) (same_message a b v w o p i j) ∙ p.verdict)
 
     -- it is handed up once
-    pub handed_few : (a : Asked) → a.from ≡ client_end → a.token ≡ k.token
+    pub handed_few : (a : Asked) → a.from ≡ config.addresses.client → a.token ≡ k.token
         → times_handed config.limits config.server_szx a (server_trace config all) ≤ 1
     handed_few a from token =
         let t : List S.Call = server_trace config all in
@@ -74,9 +75,9 @@ module _ (config : Config) (number : ℕ) (all : List Entry) (small : config.cli
         λ p q i j m n pm qn pi qi tp tq. one_con config number all small whole in_range k sent of p q i j m n
         pm qn pi qi (tp ∙ token) (tq ∙ token) in
         let nons = subst NoNons (sym (near_is config all))
-        (client_facts.nons server_end config.client_sizes config.client_setup (client_of all)) in
+        (client_facts.nons config.addresses.server config.client_sizes config.client_setup (client_of all)) in
         let few = once_counted a (hops_in config all)
-        (up_once config.client_setup config.server_setup client_end server_end a from
+        (up_once config.client_setup config.server_setup config.addresses.client config.addresses.server a from
         (hops_in config all) whole.channel nons cons) in
         let same = ap (ups a) (far_is config all) in
         let counted = counted_in config.limits config.server_szx a config.server_setup t
@@ -88,7 +89,7 @@ module _ (config : Config) (number : ℕ) (all : List Entry) (small : config.cli
     pub request : Serving
     pub place : List Entry
     pub known : Knows place request
-    pub from : request.asked.from ≡ client_end
+    pub from : request.asked.from ≡ config.addresses.client
     pub verdict : Verdict
     pub final : Final verdict
     pub comes : Comes request.asked verdict

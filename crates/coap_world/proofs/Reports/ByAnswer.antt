@@ -19,7 +19,7 @@ use Rattle.coap_client.specs.Trace.{Report, Request, Call}
 use Rattle.coap_client.proofs.Facts.EachCall.{all_ends, calls_alone}
 use Rattle.coap_client.proofs.Facts.Exchanges.{are_by_answers}
 use Rattle.coap_client.proofs.Facts.Laws as client_facts
-use Rattle.coap_world.specs.Events.{server_end, Config}
+use Rattle.coap_world.specs.Events.{Config}
 
 -- what was sent last was sent
 pub was_sent : (sizes : Sizes) (x : Sending) (t : List Call) → last_sent sizes t ≡ Some x → WasSent sizes x t
@@ -34,14 +34,14 @@ was_sent sizes x (c ∷ t) is = by (sends (own_of sizes t) c) refl is (λ last. 
 
 module _ (config : Config) where
   pub record Answering (t : List Call) : Type 0 where
-    pub law : ClientLaw server_end config.client_sizes config.client_setup t
+    pub law : ClientLaw config.addresses.server config.client_sizes config.client_setup t
     pub by_answers : Always (λ past c. ends_as c ≡ None) t
     pub all_sent : Always (λ past c. (u : Unsent) → unsent (own_of config.client_sizes past) c ≡ Some u → ⊥) t
     pub none_taken : NoneIsTaken t
 
   pub answering_back : (t : List Call) (c : Call) → Answering (c ∷ t) → Answering t
   answering_back t c k = record {
-    law = client_facts.back server_end config.client_sizes config.client_setup (c ∷ []) t k.law;
+    law = client_facts.back config.addresses.server config.client_sizes config.client_setup (c ∷ []) t k.law;
     by_answers = k.by_answers.1;
     all_sent = k.all_sent.1;
     none_taken = k.none_taken.1;
@@ -51,13 +51,13 @@ module _ (config : Config) where
     not_so : (number : ℕ) (report : Report) → reports (own_of config.client_sizes t) c ≡ of number report
         → Rattle.coap_client.specs.Follows.CallsAlone.is_of_observation report ≡ false
     not_so number report made =
-        (calls_alone server_end config.client_sizes config.client_setup (c ∷ t) k.law k.none_taken).0.tells
+        (calls_alone config.addresses.server config.client_sizes config.client_setup (c ∷ t) k.law k.none_taken).0.tells
         (record { number = number; report = report }) made
 
     none_ends : (number : ℕ) (report : Report) → reports (own_of config.client_sizes t) c ≡ of number report
         → Rattle.coap_client.specs.Follows.Ends.is_end report ≡ true → ⊥
     none_ends number report made is =
-        let ends = (all_ends server_end config.client_sizes config.client_setup (c ∷ t) k.law).0.only
+        let ends = (all_ends config.addresses.server config.client_sizes config.client_setup (c ∷ t) k.law).0.only
         (record { number = number; report = report }) made is in
         let both : None ≡ Some report = sym k.by_answers.0 ∙ ends in cc both
 
@@ -71,7 +71,8 @@ module _ (config : Config) where
     by_answer number R.Reset made = absurd (none_ends number R.Reset made refl)
     by_answer number R.NoResponse made = absurd (none_ends number R.NoResponse made refl)
     by_answer number R.NoIds made =
-        let u = (all_ends server_end config.client_sizes config.client_setup (c ∷ t) k.law).0.no_ids number made in
+        let u = (all_ends config.addresses.server config.client_sizes config.client_setup (c ∷ t) k.law).0.no_ids number
+        made in
         absurd (k.all_sent.0 u.0 u.1)
     by_answer number _ made = refl
 
@@ -93,7 +94,8 @@ module _ (config : Config) where
         → HeardSo number report
     heard_so number report made =
         let h : IsByAnswer config.client_sizes number report t c =
-        (are_by_answers server_end config.client_sizes config.client_setup (c ∷ t) k.law).0 number report made
+        (are_by_answers config.addresses.server config.client_sizes config.client_setup (c ∷ t) k.law).0 number report
+        made
         (by_answer number report made) in
         record {
           message = h.message;

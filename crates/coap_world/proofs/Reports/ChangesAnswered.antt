@@ -23,7 +23,7 @@ use Rattle.coap_client.specs.declared.refusals.CallRefusal.{CallRefusal}
 use Rattle.coap_client.specs.declared.refusals.CallRefusal.TheVariants.{QueueFull, BodyTooLarge, BadPath}
 use Rattle.coap_client.proofs.Facts.EachCall.{all_taken}
 use Rattle.coap_client.proofs.Facts.Laws as client_facts
-use Rattle.coap_world.specs.Events.{server_end, Config}
+use Rattle.coap_world.specs.Events.{Config}
 use Rattle.coap_world.specs.Legal.{IsConfig, IsRequest}
 use Rattle.coap_world.specs.Record.{Entry, OfClient, OfServer, client_of}
 use Rattle.coap_world.specs.SmoothAnswers.{ChangesAnswered, ComesTo}
@@ -119,7 +119,8 @@ module _ (config : Config) (range : IsConfig config) (all : List Entry) (whole :
         let g = of_call_at config.client_sizes (client_of w)
         (client_facts.of_calls config.client_sizes (client_of w)) h.sending number h.sent h.of in
         let same : r ≡ g.request = one_request number r g.request (client_of w)
-        (client_facts.numbers server_end config.client_sizes config.client_setup (client_of w) earlier.client) called g.taken in
+        (client_facts.numbers config.addresses.server config.client_sizes config.client_setup (client_of w)
+        earlier.client) called g.taken in
         let method : g.request.method ≢ Get = subst (λ (z : R.Request). z.method ≢ Get) same other in
         let calling : Calling number h.request h.transfer ≡ Calling number (record g.request { body = [] }) g.transfer =
         sym h.operation ∙ g.operation in
@@ -138,14 +139,15 @@ module _ (config : Config) (range : IsConfig config) (all : List Entry) (whole :
         let low = range.client_szx in
         let most = range.client_limit.1 in
         let limit = taken_short config.client_sizes (client_of w)
-        (all_taken server_end config.client_sizes config.client_setup (client_of w) earlier.client)
+        (all_taken config.addresses.server config.client_sizes config.client_setup (client_of w) earlier.client)
         (record { number = number; request = g.request }) g.taken in
         let body : length u.body ≤ length g.request.body = subst (λ (b : List ℕ). length u.body ≤ length b) sends.body_is
         (omega arith) in
         none_bad config number all range.client_szx whole in_range h.message h.sending (before.0 h.sending h.sent) h.token
         h.request u (h.operation ∙ ap (Calling number h.request) e) r taken (changes_of r.method other)
         (omega (arith, body, limit, most))
-        (heard_understood server_end config.client_sizes config.client_setup (client_of w) c law.client h.message h.heard)
+        (heard_understood config.addresses.server config.client_sizes config.client_setup (client_of w) c law.client
+        h.message h.heard)
         w before earlier range.server_szx sends.num (omega (arith, szx, low)) answered
         in
         record {

@@ -10,6 +10,7 @@ use Rattle.coap_world.specs.Legal.{InRange, AllLegal}
 use Rattle.coap_world.proofs.Requests.CallsInRange.{AreInRange, ranges}
 use Rattle.coap_world.specs.Record.{Entry, OfClient, OfServer, Turn, OnClient, OnServer, IsOne, AreTicks, Makes}
 use Rattle.coap_world.specs.Record.{ServerTick, entries_of}
+use Rattle.coap_world.specs.declared.addresses.Addresses.{Addresses}
 
 abbrev pub FormatIn : S.Call → Type 0
 FormatIn (S.Sets now path format body answer left) = IfSome format (λ f. f < 65536)
@@ -67,8 +68,8 @@ ticks_in at word true calls h = each_tick at word true calls h
 ticks_in at word false [] h = tt
 ticks_in at word false (c ∷ calls) h = (tick_in at word false c h.0, each_tick at word true calls h.1)
 
-module _ (past : List Turn) (at word : ℕ) (refused : Bool) (entries : List Entry) where
-  in_turn : (what : What) → Makes past at word what refused entries → InRange what → FormatsIn entries
+module _ (addresses : Addresses) (past : List Turn) (at word : ℕ) (refused : Bool) (entries : List Entry) where
+  in_turn : (what : What) → Makes addresses past at word what refused entries → InRange what → FormatsIn entries
   in_turn (Sets path format body) m range = on_server m.0 entries m.2
       (one_in _ refused m.0 (λ c h. subst FormatIn (sym h.2) range.1) m.1)
   in_turn (Removes path) m range = on_server m.0 entries m.2
@@ -87,15 +88,17 @@ behind [] more h k = k
 behind (OfClient c ∷ t) more h k = behind t more h k
 behind (OfServer c ∷ t) more h k = (h.0, behind t more h.1 k)
 
-pub formats_in_of : (turns : List Turn) → Always
-    (λ past t. Makes past t.event.at t.event.word t.event.what t.refused t.entries) turns → AreInRange turns
+pub formats_in_of : (addresses : Addresses) (turns : List Turn) → Always
+    (λ past t. Makes addresses past t.event.at t.event.word t.event.what t.refused t.entries) turns → AreInRange turns
     → FormatsIn (entries_of turns)
-formats_in_of [] made range = tt
-formats_in_of (t ∷ past) made range =
-    behind t.entries (entries_of past) (in_turn past t.event.at t.event.word t.refused t.entries t.event.what made.0
-    range.0) (formats_in_of past made.1 range.1)
+formats_in_of addresses [] made range = tt
+formats_in_of addresses (t ∷ past) made range =
+    behind t.entries (entries_of past) (in_turn addresses past t.event.at t.event.word t.refused t.entries t.event.what
+    made.0
+    range.0) (formats_in_of addresses past made.1 range.1)
 
-pub formats_in : (turns : List Turn) → Always
-    (λ past t. Makes past t.event.at t.event.word t.event.what t.refused t.entries) turns → AllLegal turns
+pub formats_in : (addresses : Addresses) (turns : List Turn) → Always
+    (λ past t. Makes addresses past t.event.at t.event.word t.event.what t.refused t.entries) turns
+    → AllLegal addresses turns
     → FormatsIn (entries_of turns)
-formats_in turns made legal = formats_in_of turns made (ranges turns legal)
+formats_in addresses turns made legal = formats_in_of addresses turns made (ranges addresses turns legal)

@@ -32,7 +32,7 @@ use Rattle.coap_server.specs.Uploads.{last_block}
 use Rattle.coap_server.proofs.Facts.Laws as server_facts
 use Rattle.coap_world.specs.Answers.{AnswersAt, IsAnswer, replies, continues, refuses, notifies}
 use Rattle.coap_world.specs.CameFrom.{CameFrom, request_of}
-use Rattle.coap_world.specs.Events.{client_end, Config}
+use Rattle.coap_world.specs.Events.{Config}
 use Rattle.coap_world.specs.Legal.{IsRequest}
 use Rattle.coap_world.specs.Record.{Entry, OfClient, OfServer, client_of, server_trace}
 use Rattle.coap_world.specs.Words.{ServesAt, holds_at}
@@ -82,7 +82,8 @@ module _ (config : Config) (low : config.server_szx ≤ 6) (number : ℕ) (all :
       size : y.question.szx ≡ config.server_szx
 
     served : (w : List Entry) (c : S.Call) → Later (OfServer c ∷ w) → Lawful config (OfServer c ∷ w) → (y : Serving)
-        → ServesAt config y w (OfServer c) → y.asked.from ≡ client_end → y.asked.token ≡ m.token → Served w c y
+        → ServesAt config y w (OfServer c) → y.asked.from ≡ config.addresses.client → y.asked.token ≡ m.token
+        → Served w c y
     served w c later law y here from under =
         let b = brought_served config number all small whole in_range w c later law y here from in
         let same = same_sending b.origin.sending b.origin.sent

@@ -32,7 +32,7 @@ use Rattle.coap_client.proofs.Facts.Exchanges.{are_unchanged, hears_of_open}
 use Rattle.coap_client.proofs.Facts.Laws as client_facts
 use Rattle.coap_server.proofs.Facts.Laws as server_facts
 use Rattle.coap_world.specs.Answers.{AnswersAt}
-use Rattle.coap_world.specs.Events.{server_end, Config}
+use Rattle.coap_world.specs.Events.{Config}
 use Rattle.coap_world.specs.Legal.{IsConfig, IsRequest}
 use Rattle.coap_world.specs.Record.{Entry, OfClient, OfServer, client_of, server_trace}
 use Rattle.coap_world.specs.SmoothAnswers.{GetsHeld, HoldsSince, IsPlainGet, TakesAt}
@@ -101,7 +101,8 @@ module _ (config : Config) (range : IsConfig config) (all : List Entry) (whole :
   -- the call is taken once
   not_again : (e : Entry) (t : List Entry) → Lawful config (e ∷ t) → TakesAt config x e → WasTaken x (client_of t) → ⊥
   not_again (OfClient c) t law here before =
-      (client_facts.numbers server_end config.client_sizes config.client_setup (c ∷ client_of t) law.client).0 x.number
+      (client_facts.numbers config.addresses.server config.client_sizes config.client_setup (c ∷ client_of t)
+      law.client).0 x.number
       (given_by x c here) (ever_given x (client_of t) before)
   not_again (OfServer c) t law here before = here
 
@@ -120,7 +121,8 @@ module _ (config : Config) (range : IsConfig config) (all : List Entry) (whole :
       let g = of_call_at config.client_sizes (client_of t)
       (client_facts.of_calls config.client_sizes (client_of t)) s x.number sent of in
       let is = one_request x.number g.request x.request (client_of all)
-      (client_facts.numbers server_end config.client_sizes config.client_setup (client_of all) whole.client)
+      (client_facts.numbers config.addresses.server config.client_sizes config.client_setup (client_of all)
+      whole.client)
       (later.2 (record { number = x.number; request = g.request }) g.taken) was in
       subst (λ (r : C.Request). WasTaken (record { number = x.number; request = r }) (client_of t)) is g.taken
 
@@ -138,8 +140,9 @@ module _ (config : Config) (range : IsConfig config) (all : List Entry) (whole :
       → (own_of config.client_sizes (client_of t)).running ≡ Some (Calling x.number r (Fetches f)) → hears c ≡ Some m
       → Asks t f m
   asks_so t c later law r f m runs heard =
-      let open_one : IsOfOpen server_end config.client_sizes config.client_setup (client_of t) m =
-      (hears_of_open server_end config.client_sizes config.client_setup (c ∷ client_of t) law.client).0 m heard in
+      let open_one : IsOfOpen config.addresses.server config.client_sizes config.client_setup (client_of t) m =
+      (hears_of_open config.addresses.server config.client_sizes config.client_setup (c ∷ client_of t) law.client).0 m
+      heard in
       let k = open_one.runs in
       let s : Sending = k.sending in
       let both : Some k.operation ≡ Some (Calling x.number r (Fetches f)) = sym k.operates ∙ runs in
@@ -151,7 +154,8 @@ module _ (config : Config) (range : IsConfig config) (all : List Entry) (whole :
       let g = of_call_at config.client_sizes (client_of t)
       (client_facts.of_calls config.client_sizes (client_of t)) s x.number sent of in
       let is : g.request ≡ x.request = one_request x.number g.request x.request (client_of all)
-      (client_facts.numbers server_end config.client_sizes config.client_setup (client_of all) whole.client)
+      (client_facts.numbers config.addresses.server config.client_sizes config.client_setup (client_of all)
+      whole.client)
       ((back (OfClient c) t later).2 (record { number = x.number; request = g.request }) g.taken) was in
       let ops : Calling x.number (record g.request { body = [] }) g.transfer ≡ Calling x.number r (Fetches f) =
       sym g.operation ∙ operation in
@@ -209,10 +213,12 @@ module _ (config : Config) (range : IsConfig config) (all : List Entry) (whole :
   is_short : length held.body ≤ config.client_sizes.limit
   is_short = omega (arith, short, limits)
 
-  unchanged : (t : List C.Call) → Rattle.coap_client.specs.Law.ClientLaw server_end config.client_sizes config.client_setup t
+  unchanged : (t : List C.Call) → Rattle.coap_client.specs.Law.ClientLaw config.addresses.server config.client_sizes
+      config.client_setup t
       → HearsReplies config.client_sizes held config.server_szx x.number t
       → IsUnchanged config.client_sizes held config.server_szx x.number t
-  unchanged t law all_say = are_unchanged server_end config.client_sizes config.client_setup t law held config.server_szx
+  unchanged t law all_say = are_unchanged config.addresses.server config.client_sizes config.client_setup t law held
+      config.server_szx
       x.number is_short all_say
 
   says_here : (t : List Entry) (c : C.Call) → Later (OfClient c ∷ t) → Lawful config (OfClient c ∷ t) → Since t
@@ -226,7 +232,8 @@ module _ (config : Config) (range : IsConfig config) (all : List Entry) (whole :
       let fetches = (unchanged (client_of t) earlier.client before).fetches r f runs in
       let may = may_ask held config.server_szx f range.server_szx short_all fetches in
       answer_in f m may t k (from.0 k.sending k.sent)
-      (heard_understood server_end config.client_sizes config.client_setup (client_of t) c law.client m heard) t from earlier
+      (heard_understood config.addresses.server config.client_sizes config.client_setup (client_of t) c law.client m
+      heard) t from earlier
       (there since (taken_then t from k.sending k.sent k.of))
       ((all_answered config (OfClient c ∷ t) law).0 m heard)
     where
@@ -257,7 +264,8 @@ module _ (config : Config) (range : IsConfig config) (all : List Entry) (whole :
       let g = of_call_at config.client_sizes (client_of t)
       (client_facts.of_calls config.client_sizes (client_of t)) h.sending x.number h.sent h.of in
       let is : g.request ≡ x.request = one_request x.number g.request x.request (client_of all)
-      (client_facts.numbers server_end config.client_sizes config.client_setup (client_of all) whole.client)
+      (client_facts.numbers config.addresses.server config.client_sizes config.client_setup (client_of all)
+      whole.client)
       (from.2 (record { number = x.number; request = g.request }) g.taken) was in
       let ops : Calling x.number h.request h.transfer ≡ Calling x.number (record g.request { body = [] }) g.transfer =
       sym h.operation ∙ g.operation in

@@ -23,7 +23,7 @@ use Rattle.coap_server.specs.Trace as S
 use Rattle.coap_server.specs.Uploads.{ruling_of}
 use Rattle.coap_server.proofs.Facts.Laws as server_facts
 use Rattle.coap_world.specs.CameFrom.{request_of, CameFrom, CamesFrom}
-use Rattle.coap_world.specs.Events.{client_end, Config}
+use Rattle.coap_world.specs.Events.{Config}
 use Rattle.coap_world.specs.Legal.{IsRequest}
 use Rattle.coap_world.specs.Record.{Entry, OfClient, OfServer, client_of, server_trace}
 use Rattle.coap_world.specs.Serves.{BroughtAt}
@@ -73,7 +73,7 @@ module _ (config : Config) (number : ℕ) (all : List Entry) (small : config.cli
     pub sent : SentAll sending
     pub begun_there : Begun config number all small whole in_range con all
     pub spells : Spells con.bytes (request_of con.id sending)
-    pub asked : a ≡ asked_of client_end (request_of con.id sending)
+    pub asked : a ≡ asked_of config.addresses.client (request_of con.id sending)
     pub verdict : verdict_on config.server_szx (request_of con.id sending) ≡ v
 
   pub origin_of : (w : List Entry) (e : Entry) → LaterAll (e ∷ w) → (a : Asked) (v : Verdict) → CameFrom config w e a v
@@ -109,7 +109,7 @@ module _ (config : Config) (number : ℕ) (all : List Entry) (small : config.cli
       )
 
   brought_here : (w : List Entry) (c : S.Call) (a : Asked) (q : Question) → LaterAll (OfServer c ∷ w)
-      → CamesFrom config (OfServer c ∷ w) → a.from ≡ client_end → BroughtAt config a q w (OfServer c)
+      → CamesFrom config (OfServer c ∷ w) → a.from ≡ config.addresses.client → BroughtAt config a q w (OfServer c)
       → Brought a q (OfServer c ∷ w)
   brought_here w c a q later came from h =
       let k = came.0 a h.verdict h.comes from in
@@ -132,7 +132,8 @@ module _ (config : Config) (number : ℕ) (all : List Entry) (small : config.cli
         took = λ p b is. inl (took_here w c a q h.verdict h.asks p b is);
       }
 
-  pub brought_by : (a : Asked) (q : Question) (t : List Entry) → LaterAll t → CamesFrom config t → a.from ≡ client_end
+  pub brought_by : (a : Asked) (q : Question) (t : List Entry) → LaterAll t → CamesFrom config t → a.from
+      ≡ config.addresses.client
       → Sometime (BroughtAt config a q) t → Brought a q t
   brought_by a q [] later came from h = absurd h
   brought_by a q (OfClient c ∷ w) later came from (inl h) = absurd h
@@ -150,7 +151,7 @@ module _ (config : Config) (number : ℕ) (all : List Entry) (small : config.cli
 
   -- of what is served here
   pub brought_served : (w : List Entry) (c : S.Call) → LaterAll (OfServer c ∷ w) → Lawful config (OfServer c ∷ w)
-      → (x : Serving) → ServesAt config x w (OfServer c) → x.asked.from ≡ client_end
+      → (x : Serving) → ServesAt config x w (OfServer c) → x.asked.from ≡ config.addresses.client
       → Brought x.asked x.question (OfServer c ∷ w)
   brought_served w c later law x here from =
       let t : List Entry = OfServer c ∷ w in

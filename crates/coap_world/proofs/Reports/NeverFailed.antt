@@ -31,7 +31,7 @@ use Rattle.coap_server.proofs.Facts.Laws as server_facts
 use Rattle.coap_server.proofs.Facts.EachCall.{szx_is, comes_here}
 use Rattle.coap_world.specs.Answers.{IsAnswer, replies, continues, refuses, notifies, AnswersAt}
 use Rattle.coap_world.specs.CameFrom.{request_of}
-use Rattle.coap_world.specs.Events.{server_end, Config}
+use Rattle.coap_world.specs.Events.{Config}
 use Rattle.coap_world.specs.Legal.{IsRequest}
 use Rattle.coap_world.specs.Record.{Entry, OfClient, OfServer, client_of, server_trace}
 use Rattle.coap_world.specs.Words.{ReportsAt}
@@ -133,7 +133,8 @@ module _ (config : Config) (number : ℕ) (all : List Entry) (small : config.cli
       → FailsSo code (OfClient c ∷ w)
   fails_here code w c law made =
       let t : List Entry = OfClient c ∷ w in
-      let r = (reports_codes server_end config.client_sizes config.client_setup (client_of t) law.client).0.failed number
+      let r = (reports_codes config.addresses.server config.client_sizes config.client_setup (client_of t)
+      law.client).0.failed number
       code made in
       record {
         message = r.message;
@@ -322,10 +323,12 @@ module _ (config : Config) (number : ℕ) (all : List Entry) (small : config.cli
   fails_not : (code : ℕ) → FailsSo code all → Applied config number all small whole in_range all → ⊥
   fails_not code f a =
       let y : Sending = a.known.sending in
-      let same : y ≡ f.sending = same_last config.client_sizes server_end config.client_setup number code f.sending y f.of
+      let same : y ≡ f.sending = same_last config.client_sizes config.addresses.server config.client_setup number code
+      f.sending y f.of
       a.known.of_call a.known.last (client_of all)
-      (client_facts.order server_end config.client_sizes config.client_setup (client_of all) whole.client)
-      (client_facts.none_after server_end config.client_sizes config.client_setup (client_of all) whole.client) f.there
+      (client_facts.order config.addresses.server config.client_sizes config.client_setup (client_of all) whole.client)
+      (client_facts.none_after config.addresses.server config.client_sizes config.client_setup (client_of all)
+      whole.client) f.there
       a.known.sent
       in
       let token : a.request.asked.token ≡ f.message.token = ap (λ (z : Asked). z.token) a.known.asked

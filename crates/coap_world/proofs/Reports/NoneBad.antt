@@ -35,7 +35,7 @@ use Rattle.coap_server.proofs.Facts.EachCall.{refusals_are_errors}
 use Rattle.coap_server.proofs.Facts.Laws as server_facts
 use Rattle.coap_world.specs.Answers.{IsAnswer, replies, continues, refuses, notifies, AnswersAt}
 use Rattle.coap_world.specs.CameFrom.{request_of}
-use Rattle.coap_world.specs.Events.{client_end, server_end, Config}
+use Rattle.coap_world.specs.Events.{Config}
 use Rattle.coap_world.specs.Legal.{IsRequest}
 use Rattle.coap_world.specs.Record.{Entry, OfClient, OfServer, client_of, server_trace}
 use Rattle.coap_world.specs.Words.{ServesAt}
@@ -108,13 +108,14 @@ module _ (config : Config) (number : ℕ) (all : List Entry) (small : config.cli
         → Changes r.method
     same_method w later r h =
         let is = one_request number taken r (client_of all)
-        (client_facts.numbers server_end config.client_sizes config.client_setup (client_of all) whole.client) was
+        (client_facts.numbers config.addresses.server config.client_sizes config.client_setup (client_of all)
+        whole.client) was
         (later.2 (record { number = number; request = r }) h) in
         subst (λ (z : C.Request). Changes z.method) is change
 
     -- what is served of it is the last block
     served_last : (w : List Entry) (c : S.Call) → Later (OfServer c ∷ w) → Lawful config (OfServer c ∷ w) → (y : Serving)
-        → ServesAt config y w (OfServer c) → y.asked.from ≡ client_end → y.asked.token ≡ m.token
+        → ServesAt config y w (OfServer c) → y.asked.from ≡ config.addresses.client → y.asked.token ≡ m.token
         → more_follows u ≡ true → ⊥
     served_last w c later law y here from under more =
         let b = brought_served config number all small whole in_range w c later law y here from in
@@ -155,7 +156,7 @@ module _ (config : Config) (number : ℕ) (all : List Entry) (small : config.cli
         → y.part.more ≡ true
         → Rattle.coap_server.specs.Follows.Gives.size_in
         (own_of config.limits config.server_szx (server_trace config w)) c ≡ Some size
-        → y.asked.from ≡ client_end → y.asked.token ≡ m.token
+        → y.asked.from ≡ config.addresses.client → y.asked.token ≡ m.token
         → (b : Block) × (b ≡ record { num = y.part.num; more = true; szx = size }) × Continues u b
     fits w c later law y size is more asks from under =
         let before = later_back config number all small whole in_range (OfServer c) w later in

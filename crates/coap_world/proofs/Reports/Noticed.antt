@@ -6,7 +6,7 @@ use Rattle.coap_client.specs.Follows.Notified.{notes}
 use Rattle.coap_client.specs.Trace as C
 use Rattle.coap_client.proofs.Facts.EachCall.{are_noted}
 use Rattle.coap_world.specs.Answers.{AnswersAt}
-use Rattle.coap_world.specs.Events.{server_end, Config}
+use Rattle.coap_world.specs.Events.{Config}
 use Rattle.coap_world.specs.Record.{Entry, OfClient, OfServer, client_of}
 use Rattle.coap_world.proofs.Reports.Answered.{came_answered}
 use Rattle.coap_world.proofs.Requests.OfACall.{Lawful, lawful_back}
@@ -16,7 +16,8 @@ module _ (config : Config) where
   pub noticed : (past : List Entry) (c : C.Call) → Lawful config (OfClient c ∷ past) → (m : Message) → notes c ≡ Some m
       → Sometime (AnswersAt config m) past
   noticed past c law m is = came_answered config past c law m
-      ((are_noted server_end config.client_sizes config.client_setup (client_of (OfClient c ∷ past)) law.client).0 m is)
+      ((are_noted config.addresses.server config.client_sizes config.client_setup (client_of (OfClient c ∷ past))
+      law.client).0 m is)
 
   pub all_noticed : (all : List Entry) → Lawful config all → AllNoticed config all
   all_noticed [] law = tt

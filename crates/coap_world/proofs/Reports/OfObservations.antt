@@ -11,7 +11,7 @@ use Rattle.coap_client.specs.Trace as C
 use Rattle.coap_client.specs.Follows.Words.{Sending}
 use Rattle.coap_client.proofs.Facts.Laws as client_facts
 use Rattle.coap_client.proofs.Facts.EachCall.{are_of_observations}
-use Rattle.coap_world.specs.Events.{server_end, Config}
+use Rattle.coap_world.specs.Events.{Config}
 use Rattle.coap_world.specs.Record.{Entry, client_of}
 use Rattle.coap_world.proofs.Requests.OfACall.{Lawful}
 use Rattle.coap_world.specs.Held.{WasObserved}
@@ -60,7 +60,8 @@ module _ (config : Config) where
       → WasSent config.client_sizes x (client_of w) → observation_for x.operation ≡ Some number → OfObservation number x w
   of_observation number x w law sent is =
       let k = of_at config.client_sizes (client_of w)
-      (are_of_observations config.client_sizes server_end config.client_setup (client_of w) law.client) x number sent
+      (are_of_observations config.client_sizes config.addresses.server config.client_setup (client_of w) law.client) x
+      number sent
       is in
       record { path = k.path; observed = k.taken; asks = k.asks }
 
@@ -69,7 +70,7 @@ module _ (config : Config) where
       → WasSent config.client_sizes x (client_of all) → WasSent config.client_sizes y (client_of all)
       → observation_for y.operation ≡ Some number → x.token ≡ y.token → observation_for x.operation ≡ Some number
   one_of_observation all law x y number sent there is token =
-      by (client_facts.tokens server_end config.client_sizes config.client_setup
+      by (client_facts.tokens config.addresses.server config.client_sizes config.client_setup
       (client_of all) law.client x y sent there token)
     where
       by : (x ≡ y) ⊎ (Deregisters x y ⊎ Deregisters y x) → observation_for x.operation ≡ Some number

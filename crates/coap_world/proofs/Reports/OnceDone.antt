@@ -11,7 +11,7 @@ use Rattle.coap_server.specs.Serving.{is_applied}
 use Rattle.coap_server.specs.Trace as S
 use Rattle.coap_client.proofs.Facts.Laws as client_facts
 use Rattle.coap_world.specs.Answers.{IsAnswer, replies, continues, refuses, notifies, AnswersAt}
-use Rattle.coap_world.specs.Events.{server_end, Config}
+use Rattle.coap_world.specs.Events.{Config}
 use Rattle.coap_world.specs.Legal.{IsRequest}
 use Rattle.coap_world.specs.Record.{Entry, OfClient, OfServer, client_of, server_trace}
 use Rattle.coap_world.specs.Words.{ReportsAt}
@@ -78,7 +78,8 @@ module _ (config : Config) (number : ℕ) (all : List Entry) (small : config.cli
         → Sometime (AppliesSince config number all) w
     done_here w c later law made =
         let t : List Entry = OfClient c ∷ w in
-        let r = (reports_codes server_end config.client_sizes config.client_setup (client_of t) law.client).0.done number
+        let r = (reports_codes config.addresses.server config.client_sizes config.client_setup (client_of t)
+        law.client).0.done number
         code made in
         let before = later_back config number all small whole in_range (OfClient c) w later in
         applies_in r.message r.heard.sending (before.0 r.heard.sending r.heard.sent) r.heard.of_call r.heard.token

@@ -2,7 +2,7 @@
 use Rattle.std.proofs.Common.{List}
 use Rattle.coap_client.proofs.Facts.Laws as client_facts
 use Rattle.coap_server.proofs.Facts.Laws as server_facts
-use Rattle.coap_world.specs.Events.{server_end, Config, Event}
+use Rattle.coap_world.specs.Events.{Config, Event}
 use Rattle.coap_world.specs.Clocks.{Clocks, Legal}
 use Rattle.coap_world.specs.Legal as one
 use Rattle.coap_world.proofs.Paced.OneClock.{by_two}
@@ -43,19 +43,21 @@ module _ (k : Clocks) (config : Config) (events : List Event) (turns : List Turn
   -- what is reported was held
 
   pub bodies : EachHeld config (entries_of turns)
-  bodies = each_held config legal.range.server_szx (entries_of turns) law (formats_in_of turns run.made (ranges_by k turns legal.events))
+  bodies = each_held config legal.range.server_szx (entries_of turns) law
+      (formats_in_of config.addresses turns run.made (ranges_by config.addresses k turns legal.events))
 
   pub valid : EachValid config (entries_of turns)
   valid = each_valid config (entries_of turns) law
 
   pub values : EachValue config (entries_of turns)
-  values = each_value config legal.range.server_szx (entries_of turns) law (formats_in_of turns run.made (ranges_by k turns legal.events))
+  values = each_value config legal.range.server_szx (entries_of turns) law
+      (formats_in_of config.addresses turns run.made (ranges_by config.addresses k turns legal.events))
 
   -- the values of an observation rise
 
   pub rising : ValuesRise config (entries_of turns)
   rising = all_rise config legal.range.server_szx legal.range.limit (entries_of turns) law
-      (formats_in_of turns run.made (ranges_by k turns legal.events))
+      (formats_in_of config.addresses turns run.made (ranges_by config.addresses k turns legal.events))
 
   pub named : HeldAreNamed config (entries_of turns)
   named = all_named config (entries_of turns) law
@@ -67,18 +69,18 @@ module _ (k : Clocks) (config : Config) (events : List Event) (turns : List Turn
 
   pub whole : AppliedWhole config (entries_of turns)
   whole = applied_whole config (entries_of turns) legal.range.client_szx law
-      (λ x h. in_range_of x turns run.made (ranges_by k turns legal.events) h)
+      (λ x h. in_range_of config.addresses x turns run.made (ranges_by config.addresses k turns legal.events) h)
 
   pub at_most_once : AtMostOnce config (entries_of turns)
   at_most_once = once_by k config events turns run legal
 
   pub done : OnceDone config (entries_of turns)
   done = once_done config (entries_of turns) legal.range.client_szx law
-      (λ x h. in_range_of x turns run.made (ranges_by k turns legal.events) h)
+      (λ x h. in_range_of config.addresses x turns run.made (ranges_by config.addresses k turns legal.events) h)
 
   pub failed : NeverFailed config (entries_of turns)
   failed = never_failed config (entries_of turns) legal.range.client_szx law
-      (λ x h. in_range_of x turns run.made (ranges_by k turns legal.events) h)
+      (λ x h. in_range_of config.addresses x turns run.made (ranges_by config.addresses k turns legal.events) h)
 
   pub holds : HoldsChanges config (entries_of turns)
   holds = changes_held config (entries_of turns) run.server
@@ -111,19 +113,20 @@ module _ (k : Clocks) (config : Config) (events : List Event) (turns : List Turn
         first_answered = server_facts.answered config.limits config.server_szx config.server_setup s run.server;
         answered = all_answered config (entries_of turns) law;
         noticed = all_noticed config (entries_of turns) law;
-        calls_taken = all_taken server_end config.client_sizes config.client_setup c run.client;
-        in_order = client_facts.order server_end config.client_sizes config.client_setup c run.client;
-        codes_reported = reports_codes server_end config.client_sizes config.client_setup c run.client;
-        ends_reported = all_ends server_end config.client_sizes config.client_setup c run.client;
-        one_number = client_facts.numbers server_end config.client_sizes config.client_setup c run.client;
-        one_report = client_facts.once server_end config.client_sizes config.client_setup c run.client;
-        none_after = client_facts.none_after server_end config.client_sizes config.client_setup c run.client;
+        calls_taken = all_taken config.addresses.server config.client_sizes config.client_setup c run.client;
+        in_order = client_facts.order config.addresses.server config.client_sizes config.client_setup c run.client;
+        codes_reported = reports_codes config.addresses.server config.client_sizes config.client_setup c run.client;
+        ends_reported = all_ends config.addresses.server config.client_sizes config.client_setup c run.client;
+        one_number = client_facts.numbers config.addresses.server config.client_sizes config.client_setup c run.client;
+        one_report = client_facts.once config.addresses.server config.client_sizes config.client_setup c run.client;
+        none_after = client_facts.none_after config.addresses.server config.client_sizes config.client_setup c
+            run.client;
         all_given = all_given config turns run.made run.client.rows;
       }
 
   pub exchanges_bounded_by : AreBounded config (entries_of turns)
   exchanges_bounded_by = bounded config legal.range.server_szx legal.range.client_limit.0 (entries_of turns) law
-      (formats_in_of turns run.made (ranges_by k turns legal.events))
+      (formats_in_of config.addresses turns run.made (ranges_by config.addresses k turns legal.events))
 
 -- by one clock
 module _ (config : Config) (events : List Event) (turns : List Turn) (run : RecordOf config events turns)

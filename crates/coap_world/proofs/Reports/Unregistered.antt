@@ -6,7 +6,7 @@ use Rattle.coap_server.specs.Follows.Observes.{WasMade}
 use Rattle.coap_server.specs.Follows.Serves.{Serving}
 use Rattle.coap_server.specs.Observers.{observes}
 use Rattle.coap_server.specs.Trace as S
-use Rattle.coap_world.specs.Events.{client_end, Config}
+use Rattle.coap_world.specs.Events.{Config}
 use Rattle.coap_world.specs.Legal.{IsRequest}
 use Rattle.coap_world.specs.Record.{Entry, OfClient, OfServer, client_of, server_trace, settings}
 use Rattle.coap_world.specs.Words.{ServesAt}
@@ -22,11 +22,12 @@ module _ (config : Config) (number : ℕ) (all : List Entry) (small : config.cli
   -- what is served under this token has no Observe 0
   abbrev pub NoneRegisters : Type 0
   NoneRegisters = (w : List Entry) (c : S.Call) → Later (OfServer c ∷ w) → Lawful config (OfServer c ∷ w) → (x : Serving)
-      → ServesAt config x w (OfServer c) → x.asked.from ≡ client_end → x.asked.token ≡ token
+      → ServesAt config x w (OfServer c) → x.asked.from ≡ config.addresses.client → x.asked.token ≡ token
       → observes 0 x.question ≡ true → ⊥
 
   -- so no observer has it
-  pub none_made : NoneRegisters → (o : Observer) (w : List Entry) → Later w → Lawful config w → o.to ≡ client_end
+  pub none_made : NoneRegisters → (o : Observer) (w : List Entry) → Later w → Lawful config w → o.to
+      ≡ config.addresses.client
       → o.token ≡ token → WasMade config.limits config.server_szx (server_trace config w) o → ⊥
   none_made none o [] later law to same h = none_begun config o (settings config) h
   none_made none o (OfClient c ∷ w) later law to same h =

@@ -8,7 +8,7 @@ use Rattle.coap_client.specs.Trace as C
 use Rattle.coap_client.specs.Trace.{Valid}
 use Rattle.coap_client.specs.Follows.Valid.{IsValidated}
 use Rattle.coap_client.proofs.Facts.Laws as client_facts
-use Rattle.coap_world.specs.Events.{server_end, Config}
+use Rattle.coap_world.specs.Events.{Config}
 use Rattle.coap_world.specs.Record.{Entry, OfClient, OfServer, client_of}
 use Rattle.coap_world.specs.Words.{ReportsAt, last_at}
 use Rattle.coap_world.proofs.Reports.Answered.{all_answered}
@@ -56,11 +56,12 @@ module _ (config : Config) where
       go (OfClient c ∷ past) law = (
         λ made. (
             let before = lawful_back config past (OfClient c) law in
-            let f = (client_facts.valid server_end config.client_sizes config.client_setup
+            let f = (client_facts.valid config.addresses.server config.client_sizes config.client_setup
             (c ∷ client_of past) law.client).0 number tag made in
             each_within config (NamedAt config f.message) (ValidSince config number tag) past
             (valid_here number tag past before c f) past before (within_self config past)
-            (named_in config f.message f.code (heard_understood server_end config.client_sizes config.client_setup
+            (named_in config f.message f.code (heard_understood config.addresses.server config.client_sizes
+            config.client_setup
             (client_of past) c law.client f.message f.heard.heard) past before
             ((all_answered config (OfClient c ∷ past) law).0 f.message f.heard.heard))),
         go past (lawful_back config past (OfClient c) law),

@@ -29,7 +29,7 @@ use Rattle.coap_server.specs.Checks.{Verdict, Asks}
 use Rattle.coap_client.proofs.Facts.Laws as client_facts
 use Rattle.coap_server.proofs.Facts.Laws as server_facts
 use Rattle.coap_world.specs.CameFrom.{request_of, ComesAt, CameFrom, CamesFrom}
-use Rattle.coap_world.specs.Events.{client_end, server_end, Config}
+use Rattle.coap_world.specs.Events.{Config}
 use Rattle.coap_world.specs.Legal.{IsRequest}
 use Rattle.coap_world.specs.Record.{Entry, client_of}
 use Rattle.coap_world.proofs.Requests.LastRequests.{no_fetch, sends_body, small_value}
@@ -45,7 +45,8 @@ record CameSo (config : Config) (a : Asked) (v : Verdict) (w : List Entry) : Typ
   came : CameFrom config past entry a v
   sent : WasSent config.client_sizes came.sending (client_of w)
 
-came_so : (config : Config) (a : Asked) (v : Verdict) (w : List Entry) → CamesFrom config w → a.from ≡ client_end
+came_so : (config : Config) (a : Asked) (v : Verdict) (w : List Entry) → CamesFrom config w → a.from
+    ≡ config.addresses.client
     → Sometime (ComesAt config a v) w → CameSo config a v w
 came_so config a v [] came from h = absurd h
 came_so config a v (e ∷ w) came from (inl h) = let k =
@@ -92,7 +93,7 @@ single_is sizes _ body h = absurd h
 module _ (config : Config) (number : ℕ) (all : List Entry) (small : config.client_sizes.szx ≤ 6) (whole : Lawful config all)
     (in_range : (x : Taken) → WasTaken x (client_of all) → IsRequest x.request) (w : List Entry)
     (later : Later config number all small whole in_range w) (law : Lawful config w) (x : Serving)
-    (from : x.asked.from ≡ client_end) (k : Known config number all small whole in_range w x)
+    (from : x.asked.from ≡ config.addresses.client) (k : Known config number all small whole in_range w x)
     (h : Sometime (ComesAt config x.asked (Asks x.question)) w) where
   abbrev came : CameSo config x.asked (Asks x.question) w
   came = came_so config x.asked (Asks x.question) w law.came from h
@@ -144,7 +145,8 @@ module _ (config : Config) (number : ℕ) (all : List Entry) (small : config.cli
           (subst (CarriesBody config.client_sizes k.request.method k.request.body) e k.carries) in
           let few = fits (size_of u.szx) (length u.body) short in
           let begins = begins_at config.client_sizes (client_of all)
-          (client_facts.pieces server_end config.client_sizes config.client_setup (client_of all) whole.client)
+          (client_facts.pieces config.addresses.server config.client_sizes config.client_setup (client_of all)
+          whole.client)
           k.sending number u k.sent
           (ap carried k.operation ∙ ap (λ t. carried (Calling number (record k.request { body = [] }) t)) e)
           in

@@ -20,7 +20,7 @@ use Rattle.coap_client.proofs.Facts.Laws as client_facts
 use Rattle.coap_server.proofs.Facts.Laws as server_facts
 use Rattle.coap_world.specs.Applied.{AtMostOnce}
 use Rattle.coap_world.specs.CameFrom.{request_of}
-use Rattle.coap_world.specs.Events.{client_end, server_end, Config}
+use Rattle.coap_world.specs.Events.{Config}
 use Rattle.coap_world.specs.Hops.{hops_in}
 use Rattle.coap_world.specs.Legal.{IsRequest}
 use Rattle.coap_world.specs.Record.{Entry, OfClient, OfServer, client_of, server_trace}
@@ -42,22 +42,23 @@ module _ (config : Config) (number : ℕ) (all : List Entry) (small : config.cli
   -- one CON has the token of a request of a call: no cancel of an observation has it, nor a registration
   not_registers : (k : Sending) → Sent config number all small whole in_range k all → call_of k.operation ≡ Some number
       → (con other : Open) (m : Message) → Spells con.bytes m → con.id ≡ m.id → m.token ≡ k.token
-      → Ends server_end config.client_sizes (client_of all) con other → ⊥
+      → Ends config.addresses.server config.client_sizes (client_of all) con other → ⊥
   not_registers k sent of con other m spells id token e =
       let same = one_sending config number all small whole in_range e.first k e.first_sent sent of
-      (sym (ap (λ (z : Message). z.token) (same_request con m e.first e.begins spells id)) ∙ token) in
+      (sym (ap (λ (z : Message). z.token) (same_request config.addresses con m e.first e.begins spells id)) ∙ token) in
       no_call e.first e.second number (ap (λ (z : Sending). call_of z.operation) same ∙ of) e.deregisters
 
   pub one_con : (k : Sending) → Sent config number all small whole in_range k all → call_of k.operation ≡ Some number
       → OneConBy k.token (near_of (hops_in config all))
   one_con k sent of a b i j x y sa sb ia ib ta tb =
       let near = near_is config all in
-      by (client_facts.one_con server_end config.client_sizes config.client_setup (client_of all) whole.client a b
+      by (client_facts.one_con config.addresses.server config.client_sizes config.client_setup (client_of all)
+      whole.client a b
       (subst (Ever (λ e. begun e ≡ Some a)) near i) (subst (Ever (λ e. begun e ≡ Some b)) near j) x y sa sb
       (ta ∙ sym tb))
     where
-      by : (a ≡ b) ⊎ (Ends server_end config.client_sizes (client_of all) a b
-          ⊎ Ends server_end config.client_sizes (client_of all) b a) → a ≡ b
+      by : (a ≡ b) ⊎ (Ends config.addresses.server config.client_sizes (client_of all) a b
+          ⊎ Ends config.addresses.server config.client_sizes (client_of all) b a) → a ≡ b
       by (inl same) = same
       by (inr (inl e)) = absurd (not_registers k sent of a b x sa ia ta e)
       by (inr (inr e)) = absurd (not_registers k sent of b a y sb ib tb e)
@@ -65,15 +66,16 @@ module _ (config : Config) (number : ℕ) (all : List Entry) (small : config.cli
   -- so two are one request: only the last of a call can be applied
   same_asked_by : (v w : List Entry) (x y : Serving) → Knows v x → Knows w y → x.asked ≡ y.asked
   same_asked_by v w x y k l =
-      let s : k.sending ≡ l.sending = client_facts.one_last server_end config.client_sizes config.client_setup
+      let s : k.sending ≡ l.sending = client_facts.one_last config.addresses.server config.client_sizes
+      config.client_setup
       (client_of all) whole.client k.sending l.sending number k.sent l.sent k.of_call l.of_call k.last l.last in
       let c : k.con ≡ l.con =
       one_con l.sending l.sent l.of_call k.con l.con k.begun_there l.begun_there (request_of k.con.id k.sending)
       (request_of l.con.id l.sending) k.spells l.spells refl refl
       (ap (λ (z : Sending). z.token) s) refl
       in
-      k.asked ∙ (ap (λ (z : Open). asked_of client_end (request_of z.id k.sending)) c
-      ∙ (ap (λ z. asked_of client_end (request_of l.con.id z)) s ∙ sym l.asked))
+      k.asked ∙ (ap (λ (z : Open). asked_of config.addresses.client (request_of z.id k.sending)) c
+      ∙ (ap (λ z. asked_of config.addresses.client (request_of l.con.id z)) s ∙ sym l.asked))
 
   served_now : (past : List Entry) (c : S.Call) (x : Serving) (b : Asked) → x.asked ≡ b
       → serving (own_of config.limits config.server_szx (server_trace config past)) c ≡ Some x
@@ -120,9 +122,9 @@ module _ (config : Config) (number : ℕ) (all : List Entry) (small : config.cli
       one_con k.sending k.sent k.of_call p q (later.1 p i) (later.1 q j) m n pm qn pi qi (tp ∙ token) (tq ∙ token)
       in
       let nons = subst NoNons (sym (near_is config (e ∷ past)))
-      (client_facts.nons server_end config.client_sizes config.client_setup (client_of past)) in
+      (client_facts.nons config.addresses.server config.client_sizes config.client_setup (client_of past)) in
       let few = once_counted x.asked (hops_in config (e ∷ past))
-      (up_once config.client_setup config.server_setup client_end server_end x.asked a.from
+      (up_once config.client_setup config.server_setup config.addresses.client config.addresses.server x.asked a.from
       (hops_in config (e ∷ past)) law.channel nons cons) in
       let same = ap (ups x.asked) (far_is config (e ∷ past)) in
       omega (arith, before, fewer, counted, few, same)

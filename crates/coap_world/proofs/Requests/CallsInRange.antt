@@ -15,6 +15,7 @@ use Rattle.coap_world.specs.Clocks.{Clocks, IsLegal}
 use Rattle.coap_world.specs.Record.{Entry, OfClient, OfServer, Turn, OnClient, OnServer, Makes, ClientTick, client_of}
 use Rattle.coap_world.specs.Record.{entries_of}
 use Rattle.coap_world.proofs.Delivery.GivenOutBefore.{of_map, none_in, one_call, tick_of}
+use Rattle.coap_world.specs.declared.addresses.Addresses.{Addresses}
 
 -- the client takes this operation here
 abbrev Takes : Taken → Entry → Type 0
@@ -77,57 +78,62 @@ taken_request now r (Ok n) op h = ap (λ (x : Taken). x.request)
     (let e : ◌≡◌ {A = Taken} (record { number = n; request = r }) op = cc h in e)
 taken_request now r (Err why) op h = absurd (cc h)
 
-module _ (past : List Turn) (at word : ℕ) (refused : Bool) (entries : List Entry) (op : Taken) where
-  in_turn : (what : What) → Makes past at word what refused entries → InRange what → Ever (Takes op) entries
-      → IsRequest op.request
-  in_turn (Calls r) m range h =
-      let k = one_call _ _ refused m.0 m.1 (in_calls op m.0 entries m.2 h) in
-      subst IsRequest (taken_request at r k.1.0 op (subst (Takes_by op) k.1.1 k.2)) range
-  in_turn (Observes path) m range h = let k = one_call _ _ refused m.0 m.1 (in_calls op m.0 entries m.2 h) in absurd
-      (cc (ap takes k.1.1, k.2))
-  in_turn (Cancels number) m range h = let k =
-      one_call _ _ false m.0 m.1.0 (in_calls op m.0 entries m.2 h) in absurd (cc (ap takes k.1.1, k.2))
-  in_turn (Forgets number) m range h = let k =
-      one_call _ _ false m.0 m.1.0 (in_calls op m.0 entries m.2 h) in absurd (cc (ap takes k.1.2, k.2))
-  in_turn TickClient m range h = let k = tick_of (ClientTick at word) _ refused m.0 m.1
-      (in_calls op m.0 entries m.2 h) in absurd (cc (ap takes k.2.5, k.3))
-  in_turn (StrangerToClient from b) m range h = let k =
-      one_call _ _ refused m.0 m.1 (in_calls op m.0 entries m.2 h) in absurd (cc (ap takes k.1.6, k.2))
-  in_turn (Deliver number) m range h = elim m.2 [
-    | inl d ↦ absurd (never_there op d.1 entries d.3 h)
-    | inr d ↦ (let k = one_call _ _ refused d.1 d.2 (in_calls op d.1 entries d.3 h) in absurd
-        (cc (ap takes k.1.6, k.2)))
-  ]
-  in_turn _ m range h = absurd (never_there op m.0 entries m.2 h)
+module _ (addresses : Addresses) (past : List Turn) (at word : ℕ) (refused : Bool) (entries : List Entry) (op : Taken)
+  where
+    in_turn : (what : What) → Makes addresses past at word what refused entries → InRange what → Ever (Takes op) entries
+        → IsRequest op.request
+    in_turn (Calls r) m range h =
+        let k = one_call _ _ refused m.0 m.1 (in_calls op m.0 entries m.2 h) in
+        subst IsRequest (taken_request at r k.1.0 op (subst (Takes_by op) k.1.1 k.2)) range
+    in_turn (Observes path) m range h = let k = one_call _ _ refused m.0 m.1 (in_calls op m.0 entries m.2 h) in absurd
+        (cc (ap takes k.1.1, k.2))
+    in_turn (Cancels number) m range h = let k =
+        one_call _ _ false m.0 m.1.0 (in_calls op m.0 entries m.2 h) in absurd (cc (ap takes k.1.1, k.2))
+    in_turn (Forgets number) m range h = let k =
+        one_call _ _ false m.0 m.1.0 (in_calls op m.0 entries m.2 h) in absurd (cc (ap takes k.1.2, k.2))
+    in_turn TickClient m range h = let k = tick_of (ClientTick at word) _ refused m.0 m.1
+        (in_calls op m.0 entries m.2 h) in absurd (cc (ap takes k.2.5, k.3))
+    in_turn (StrangerToClient from b) m range h = let k =
+        one_call _ _ refused m.0 m.1 (in_calls op m.0 entries m.2 h) in absurd (cc (ap takes k.1.6, k.2))
+    in_turn (Deliver number) m range h = elim m.2 [
+      | inl d ↦ absurd (never_there op d.1 entries d.3 h)
+      | inr d ↦ (let k = one_call _ _ refused d.1 d.2 (in_calls op d.1 entries d.3 h) in absurd
+          (cc (ap takes k.1.6, k.2)))
+    ]
+    in_turn _ m range h = absurd (never_there op m.0 entries m.2 h)
 
 -- each number is in range
 abbrev pub AreInRange : List Turn → Type 0
 AreInRange turns = Always (λ past (t : Turn). InRange t.event.what) turns
 
-taken_in : (op : Taken) (turns : List Turn) → Always
-    (λ past t. Makes past t.event.at t.event.word t.event.what t.refused t.entries) turns → AreInRange turns
+taken_in : (addresses : Addresses) (op : Taken) (turns : List Turn) → Always
+    (λ past t. Makes addresses past t.event.at t.event.word t.event.what t.refused t.entries) turns → AreInRange turns
     → Ever (Takes op) (entries_of turns) → IsRequest op.request
-taken_in op [] made range h = absurd h
-taken_in op (t ∷ past) made range h = elim (Ever_append (Takes op) t.entries (entries_of past) h) [
-  | inl k ↦ in_turn past t.event.at t.event.word t.refused t.entries op t.event.what made.0 range.0 k
-  | inr k ↦ taken_in op past made.1 range.1 k
+taken_in addresses op [] made range h = absurd h
+taken_in addresses op (t ∷ past) made range h = elim (Ever_append (Takes op) t.entries (entries_of past) h) [
+  | inl k ↦ in_turn addresses past t.event.at t.event.word t.refused t.entries op t.event.what made.0 range.0 k
+  | inr k ↦ taken_in addresses op past made.1 range.1 k
 ]
 
-pub in_range_of : (op : Taken) (turns : List Turn)
-    → Always (λ past t. Makes past t.event.at t.event.word t.event.what t.refused t.entries) turns → AreInRange turns
+pub in_range_of : (addresses : Addresses) (op : Taken) (turns : List Turn)
+    → Always (λ past t. Makes addresses past t.event.at t.event.word t.event.what t.refused t.entries) turns
+    → AreInRange turns
     → WasTaken op (client_of (entries_of turns)) → IsRequest op.request
-in_range_of op turns made range h = taken_in op turns made range (in_entries op (entries_of turns) h)
+in_range_of addresses op turns made range h = taken_in addresses op turns made range
+    (in_entries op (entries_of turns) h)
 
 -- by one clock, and by two
-pub ranges : (turns : List Turn) → AllLegal turns → AreInRange turns
-ranges [] legal = tt
-ranges (t ∷ past) legal = (legal.0.range, ranges past legal.1)
+pub ranges : (addresses : Addresses) (turns : List Turn) → AllLegal addresses turns → AreInRange turns
+ranges addresses [] legal = tt
+ranges addresses (t ∷ past) legal = (legal.0.range, ranges addresses past legal.1)
 
-pub ranges_by : (c : Clocks) (turns : List Turn) → Always (IsLegal c) turns → AreInRange turns
-ranges_by c [] legal = tt
-ranges_by c (t ∷ past) legal = (legal.0.range, ranges_by c past legal.1)
+pub ranges_by : (addresses : Addresses) (c : Clocks) (turns : List Turn) → Always (IsLegal addresses c) turns
+    → AreInRange turns
+ranges_by addresses c [] legal = tt
+ranges_by addresses c (t ∷ past) legal = (legal.0.range, ranges_by addresses c past legal.1)
 
-pub in_range : (op : Taken) (turns : List Turn)
-    → Always (λ past t. Makes past t.event.at t.event.word t.event.what t.refused t.entries) turns → AllLegal turns
+pub in_range : (addresses : Addresses) (op : Taken) (turns : List Turn)
+    → Always (λ past t. Makes addresses past t.event.at t.event.word t.event.what t.refused t.entries) turns
+    → AllLegal addresses turns
     → WasTaken op (client_of (entries_of turns)) → IsRequest op.request
-in_range op turns made legal h = in_range_of op turns made (ranges turns legal) h
+in_range addresses op turns made legal h = in_range_of addresses op turns made (ranges addresses turns legal) h

@@ -23,7 +23,7 @@ use Rattle.coap_client.specs.Follows.Words.{Sending}
 use Rattle.coap_server.specs.Follows.Brings.{HandsUp, Comes}
 use Rattle.coap_server.specs.Checks.{Verdict, verdict_on}
 use Rattle.coap_world.specs.CameFrom.{request_of, IsChannel, CameFrom, CamesFrom, ComesIn}
-use Rattle.coap_world.specs.Events.{client_end, server_end, Config}
+use Rattle.coap_world.specs.Events.{Config}
 use Rattle.coap_world.specs.Hops.{hops_at, hops_in, server_adds}
 use Rattle.coap_world.specs.Record.{Entry, OfClient, OfServer, client_of, server_trace}
 use Rattle.coap_world.proofs.Delivery.HopsAreEntries.{near_far, near_is, server_next}
@@ -31,6 +31,7 @@ use Rattle.coap_layer.specs.Trace as T
 use Rattle.coap_layer.specs.declared.setup.Setup.{Setup}
 use Rattle.coap_server.specs.Trace as S
 use Rattle.coap_client.proofs.Facts.Laws as client_facts
+use Rattle.coap_world.specs.declared.addresses.Addresses.{Addresses}
 
 -- a request of this is handed up
 pub record UpOf (V : Message → Type 0) (a : Asked) (e : T.Entry) : Type 0 where
@@ -172,9 +173,9 @@ same_front (x ∷ xs) (y ∷ ys) zs h =
     ap (λ z. z ∷ xs) head ∙ ap (λ l. y ∷ l) (same_front xs ys zs tail)
 
 -- a CON of a request has one message
-pub same_request : (con : Open) (m : Message) (x : Sending) → IsRequestOf server_end con x
+pub same_request : (addresses : Addresses) (con : Open) (m : Message) (x : Sending) → IsRequestOf addresses.server con x
     → Spells con.bytes m → con.id ≡ m.id → m ≡ request_of con.id x
-same_request con m x r s id =
+same_request addresses con m x r s id =
     let low = s.id in
     let small : con.id < 65536 = omega (arith, low, id) in
     one_message con.bytes m (request_of con.id x) s
@@ -182,7 +183,7 @@ same_request con m x r s id =
 
 module _ (config : Config) where
   abbrev pub FromClient : List Entry → Type 0
-  FromClient t = ClientLaw server_end config.client_sizes config.client_setup (client_of t)
+  FromClient t = ClientLaw config.addresses.server config.client_sizes config.client_setup (client_of t)
 
   -- what a call of the server hands up is in the entries that it adds
   pub handed_there : (past : List S.Call) (c : S.Call) (a : Asked) (v : Verdict)
@@ -196,9 +197,10 @@ module _ (config : Config) where
 
   pub came_here : (clocks : Clocks) (past : List Entry) (c : S.Call) → IsChannel clocks config (OfServer c ∷ past)
       → FromClient past → (a : Asked) (v : Verdict)
-      → Comes config.limits config.server_szx config.server_setup (server_trace config past) c a v → a.from ≡ client_end
+      → Comes config.limits config.server_szx config.server_setup (server_trace config past) c a v → a.from
+      ≡ config.addresses.client
       → (k : CameFrom config past (OfServer c) a v)
-      × Ever (OnFar (HandsUpAs clocks client_end k.con)) (hops_at config past (OfServer c))
+      × Ever (OnFar (HandsUpAs clocks config.addresses.client k.con)) (hops_at config past (OfServer c))
   came_here clocks past c law own a v up from =
       let adds : List T.Entry = server_adds config (server_trace config past) c in
       let ups = Ever_map (HandsUp config.server_szx a v) (UpOf (Says v) a)
@@ -212,15 +214,18 @@ module _ (config : Config) where
       }) adds
       (handed_there (server_trace config past) c a v up)
       in
-      let nons_past = client_facts.nons server_end config.client_sizes config.client_setup (client_of past) in
+      let nons_past = client_facts.nons config.addresses.server config.client_sizes config.client_setup
+      (client_of past) in
       let none = subst NoNons (sym (near_far adds (hops_in config past) ∙ near_is config past)) nons_past in
-      let k = find_at clocks config.client_setup config.server_setup client_end server_end (Says v) a from adds
+      let k = find_at clocks config.client_setup config.server_setup config.addresses.client config.addresses.server
+      (Says v) a from adds
       (hops_in config past) law none ups in
       let f = k.0 in
       let there = subst (Ever (λ b. begun b ≡ Some f.con)) (near_far adds (hops_in config past)) f.begun_before in
-      let r = client_facts.begins server_end config.client_sizes config.client_setup (client_of past) own f.con
+      let r = client_facts.begins config.addresses.server config.client_sizes config.client_setup (client_of past) own
+      f.con
       (subst (Ever (λ b. begun b ≡ Some f.con)) (near_is config past) there) in
-      let same = same_request f.con f.message r.0 r.2 f.spells f.id in (
+      let same = same_request config.addresses f.con f.message r.0 r.2 f.spells f.id in (
         record {
           sending = r.0;
           sent = r.1;
@@ -228,7 +233,7 @@ module _ (config : Config) where
           begun_before = there;
           is = r.2;
           spells = subst (Spells f.con.bytes) same f.spells;
-          asked = f.asked ∙ ap (asked_of client_end) same;
+          asked = f.asked ∙ ap (asked_of config.addresses.client) same;
           verdict = subst (Says v) same f.verdict;
         },
         k.1,
@@ -239,13 +244,16 @@ module _ (config : Config) where
   comes_in clocks [] law own = tt
   comes_in clocks (OfClient c ∷ past) law own = (
     λ a v comes from. absurd comes,
-    comes_in clocks past (channel_back clocks config.client_setup config.server_setup client_end server_end
+    comes_in clocks past (channel_back clocks config.client_setup config.server_setup config.addresses.client
+        config.addresses.server
         (hops_at config past (OfClient c)) (hops_in config past) law)
-        (client_facts.back server_end config.client_sizes config.client_setup (c ∷ []) (client_of past) own),
+        (client_facts.back config.addresses.server config.client_sizes config.client_setup (c ∷ []) (client_of past)
+        own),
   )
   comes_in clocks (OfServer c ∷ past) law own = (
     λ a v comes from. came_here clocks past c law own a v comes from,
-    comes_in clocks past (channel_back clocks config.client_setup config.server_setup client_end server_end
+    comes_in clocks past (channel_back clocks config.client_setup config.server_setup config.addresses.client
+        config.addresses.server
         (hops_at config past (OfServer c)) (hops_in config past) law) own,
   )
 

@@ -33,7 +33,7 @@ use Rattle.coap_client.proofs.Facts.Laws as client_facts
 use Rattle.coap_server.proofs.Facts.Laws as server_facts
 use Rattle.coap_world.specs.CameFrom.{request_of, IsChannel, CamesFrom, ComesIn}
 use Rattle.coap_layer.specs.Clocks.{Clocks}
-use Rattle.coap_world.specs.Events.{client_end, server_end, Config}
+use Rattle.coap_world.specs.Events.{Config}
 use Rattle.coap_world.specs.Hops.{hops_at, hops_in}
 use Rattle.coap_world.specs.Legal.{IsRequest}
 use Rattle.coap_world.specs.Record.{Entry, OfClient, OfServer, client_of, server_trace}
@@ -91,15 +91,16 @@ taken_later x past (OfServer c) h = h
 pub record Lawful (config : Config) (t : List Entry) : Type 0 where
   pub clocks : Clocks
   pub channel : IsChannel clocks config t
-  pub client : ClientLaw server_end config.client_sizes config.client_setup (client_of t)
+  pub client : ClientLaw config.addresses.server config.client_sizes config.client_setup (client_of t)
   pub server : ServerLaw config.limits config.server_szx config.server_setup (server_trace config t)
   pub comes : ComesIn config clocks t
   pub came : CamesFrom config t
 
 pub client_back : (config : Config) (past : List Entry) (e : Entry) → Lawful config (e ∷ past)
-    → ClientLaw server_end config.client_sizes config.client_setup (client_of past)
+    → ClientLaw config.addresses.server config.client_sizes config.client_setup (client_of past)
 client_back config past (OfClient c) law =
-    client_facts.back server_end config.client_sizes config.client_setup (c ∷ []) (client_of past) law.client
+    client_facts.back config.addresses.server config.client_sizes config.client_setup (c ∷ []) (client_of past)
+    law.client
 client_back config past (OfServer c) law = law.client
 
 pub server_back : (config : Config) (past : List Entry) (e : Entry) → Lawful config (e ∷ past)
@@ -113,7 +114,8 @@ abbrev pub lawful_back : (config : Config) (past : List Entry) (e : Entry) → L
 lawful_back config past e law =
     record {
       clocks = law.clocks;
-      channel = channel_back law.clocks config.client_setup config.server_setup client_end server_end
+      channel = channel_back law.clocks config.client_setup config.server_setup config.addresses.client
+          config.addresses.server
           (hops_at config past e) (hops_in config past) law.channel;
       client = client_back config past e law;
       server = server_back config past e law;
@@ -148,7 +150,7 @@ module _ (config : Config) (number : ℕ) (all : List Entry) (small : config.cli
     pub sent : Sent sending all
     pub begun_there : Begun con all
     pub spells : Spells con.bytes (request_of con.id sending)
-    pub asked : x.asked ≡ asked_of client_end (request_of con.id sending)
+    pub asked : x.asked ≡ asked_of config.addresses.client (request_of con.id sending)
     pub of_call : call_of sending.operation ≡ Some number
     pub last : is_last sending.operation ≡ true
     pub request : C.Request
@@ -166,7 +168,8 @@ module _ (config : Config) (number : ℕ) (all : List Entry) (small : config.cli
   -- a token of the call is of that request alone
   pub one_sending : (x y : Sending) → Sent x all → Sent y all → call_of y.operation ≡ Some number → x.token ≡ y.token
       → x ≡ y
-  one_sending x y sent there of token = by (client_facts.tokens server_end config.client_sizes config.client_setup
+  one_sending x y sent there of token = by (client_facts.tokens config.addresses.server config.client_sizes
+      config.client_setup
       (client_of all) whole.client x y sent there token)
     where
       by : (x ≡ y) ⊎ (Deregisters x y ⊎ Deregisters y x) → x ≡ y

@@ -36,7 +36,7 @@ module _ (c : Clocks) (config : Config) (events : List Event) (turns : List Turn
 
   pub once_by : AtMostOnce config (entries_of turns)
   once_by = at_most_once config (entries_of turns) legal.range.client_szx lawful_by
-      (λ x h. in_range_of x turns run.made (ranges_by c turns legal.events) h)
+      (λ x h. in_range_of config.addresses x turns run.made (ranges_by config.addresses c turns legal.events) h)
 
   pub belongs_by : EachBelongs config (entries_of turns)
   belongs_by = each_belongs config (entries_of turns) lawful_by

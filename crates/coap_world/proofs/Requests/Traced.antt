@@ -12,7 +12,7 @@ use Rattle.coap_server.specs.Follows.Brings.{AsksBy, Brings, HandsUp}
 use Rattle.coap_server.specs.Checks.{Verdict}
 use Rattle.coap_server.specs.Trace as S
 use Rattle.coap_world.specs.CameFrom.{CameFrom, CamesFrom}
-use Rattle.coap_world.specs.Events.{client_end, Config}
+use Rattle.coap_world.specs.Events.{Config}
 use Rattle.coap_world.specs.Hops.{hops_at, hops_in}
 use Rattle.coap_world.specs.Serves.{BroughtAt}
 use Rattle.coap_world.specs.Record.{Entry, OfClient, OfServer, client_of, server_trace}
@@ -76,7 +76,7 @@ module _ (config : Config) where
             (hops_in config w) k.begun_before;
       }
 
-  pub traced : (a : Asked) (q : Question) (w : List Entry) → CamesFrom config w → a.from ≡ client_end
+  pub traced : (a : Asked) (q : Question) (w : List Entry) → CamesFrom config w → a.from ≡ config.addresses.client
       → Sometime (BroughtAt config a q) w → Traced a q w
   traced a q [] came from h = absurd h
   traced a q (OfClient c ∷ w) came from (inl h) = absurd h

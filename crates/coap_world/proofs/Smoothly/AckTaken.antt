@@ -37,7 +37,7 @@ use Rattle.coap_client.specs.Requests.{message_of}
 use Rattle.coap_client.specs.Trace as C
 use Rattle.coap_client.proofs.Facts.Laws.{back, layer_next}
 use Rattle.coap_client.proofs.Facts.Exchanges.{failed_quiet}
-use Rattle.coap_world.specs.Events.{server_end, Config}
+use Rattle.coap_world.specs.Events.{Config}
 use Rattle.coap_world.specs.Hops.{client_asks, client_asked, client_adds}
 use Rattle.coap_world.proofs.Delivery.HopsAreEntries.{client_asked_next}
 use Rattle.coap_world.proofs.Smoothly.ExchangeOpen.{OpenOf, Runs, runs_of, Lonely, Waited, lonely}
@@ -202,10 +202,10 @@ pub record TakesEmpty (con : Open) (past : List L.Entry) (e : L.Entry) : Type 0 
 
 module _ (config : Config) where
   abbrev Law : List C.Call → Type 0
-  Law t = ClientLaw server_end config.client_sizes config.client_setup t
+  Law t = ClientLaw config.addresses.server config.client_sizes config.client_setup t
 
   abbrev layer : List C.Call → List L.Entry
-  layer t = layer_of server_end config.client_sizes config.client_setup t
+  layer t = layer_of config.addresses.server config.client_sizes config.client_setup t
 
   -- .. of the CON that began so
   pub record AckIn (request : Open) (t : List C.Call) : Type 0 where
@@ -215,7 +215,7 @@ module _ (config : Config) where
 
   pub lifted : (request : Open) (c : C.Call) (t : List C.Call) → AckIn request t → AckIn request (c ∷ t)
   lifted request c t k =
-      let next = layer_next server_end config.client_sizes config.client_setup t c in
+      let next = layer_next config.addresses.server config.client_sizes config.client_setup t c in
       record {
         con = k.con;
         is = k.is;
@@ -224,15 +224,15 @@ module _ (config : Config) where
 
   -- the arrival is the oldest of what the call adds
   taken_here : (request : Open) (at : ℕ) (x : Sending) (c : C.Call) (t : List C.Call) → Law (c ∷ t) → (y : Exchange)
-      → ((z : Open) → IsOpen (layer t) z → z ≡ request) → request.to ≡ server_end
-      → Lonely server_end config.client_sizes config.client_setup at x y t
-      → IsAckFed server_end config.client_sizes config.client_setup y c → AckIn request (c ∷ t)
+      → ((z : Open) → IsOpen (layer t) z → z ≡ request) → request.to ≡ config.addresses.server
+      → Lonely config.addresses.server config.client_sizes config.client_setup at x y t
+      → IsAckFed config.addresses.server config.client_sizes config.client_setup y c → AckIn request (c ∷ t)
   taken_here request at x c t law y only to k f =
       let con : Open = k.con in
       let stays : IsOpen (layer t) (as_begun con) =
       subst (Ever (λ z. as_begun z ≡ as_begun con)) (sym k.only) (inl refl) in
       let same : as_begun con ≡ request = only (as_begun con) stays in
-      let there : con.to ≡ server_end = ap (λ (z : Open). z.to) same ∙ to in
+      let there : con.to ≡ config.addresses.server = ap (λ (z : Open). z.to) same ∙ to in
       let fed : C.Call = C.Feeds f.now f.from f.bytes f.w (L.Becomes (L.Acked f.id)) f.settled f.event f.sent f.token f.kept
       in
       let b = client_feeds config t f.now f.from f.bytes f.w (L.Becomes (L.Acked f.id)) f.settled f.event f.sent f.token
@@ -249,7 +249,7 @@ module _ (config : Config) where
       (L.Becomes (L.Acked f.id)) b ++ e ∷ [] =
       ap (client_adds config t) f.is ∙ parts first (client_asks config t fed) (L.Receive f.from f.bytes)
       (L.Becomes (L.Acked f.id)) b in
-      let next = layer_next server_end config.client_sizes config.client_setup t c in
+      let next = layer_next config.addresses.server config.client_sizes config.client_setup t c in
       let id : f.id ≡ con.id = f.id_is ∙ sym k.id in
       let empty : e.answer ≡ L.Becomes (L.Acked con.id) = answer ∙ ap (λ n. L.Becomes (L.Acked n)) id in
       let takes : TakesEmpty con (layer t) e =
@@ -271,21 +271,23 @@ module _ (config : Config) where
             (L.Becomes (L.Acked f.id)) b) (e ∷ layer t) (inl takes));
       }
 
-  pub ack_in : (request : Open) → request.to ≡ server_end → (at : ℕ) (x : Sending) (t : List C.Call) → Law t
-      → (o : OpenOf server_end config.client_sizes config.client_setup at x t)
-      → Alone server_end config.client_sizes config.client_setup request at x t o
-      → (r : Runs server_end config.client_sizes config.client_setup at x t)
-      → Waited server_end config.client_sizes config.client_setup r.exchange t → AckIn request t
+  pub ack_in : (request : Open) → request.to ≡ config.addresses.server → (at : ℕ) (x : Sending) (t : List C.Call)
+      → Law t
+      → (o : OpenOf config.addresses.server config.client_sizes config.client_setup at x t)
+      → Alone config.addresses.server config.client_sizes config.client_setup request at x t o
+      → (r : Runs config.addresses.server config.client_sizes config.client_setup at x t)
+      → Waited config.addresses.server config.client_sizes config.client_setup r.exchange t → AckIn request t
   ack_in request to at x [] law o a r w = absurd o
   ack_in request to at x (c ∷ t) law (inl o) a r w = absurd (w.acked
-      (fresh server_end config.client_sizes config.client_setup t c law x o.0 r.exchange r.runs))
+      (fresh config.addresses.server config.client_sizes config.client_setup t c law x o.0 r.exchange r.runs))
   ack_in request to at x (c ∷ t) law (inr o) a r w =
-      let old = back server_end config.client_sizes config.client_setup (c ∷ []) t law in
-      let q = runs_of server_end config.client_sizes config.client_setup at x t old o.3 in
+      let old = back config.addresses.server config.client_sizes config.client_setup (c ∷ []) t law in
+      let q = runs_of config.addresses.server config.client_sizes config.client_setup at x t old o.3 in
       ⊎_elim
       (λ k. taken_here request at x c t law q.exchange
-      (alone_now server_end config.client_sizes config.client_setup request at x t o.3 a.1) to k
-      (ack_fed server_end config.client_sizes config.client_setup t q.exchange r.exchange q.runs k.unheard w.acked c law
+      (alone_now config.addresses.server config.client_sizes config.client_setup request at x t o.3 a.1) to k
+      (ack_fed config.addresses.server config.client_sizes config.client_setup t q.exchange r.exchange q.runs k.unheard
+      w.acked c law
       o.0 r.runs))
       (λ k. lifted request c t (ack_in request to at x t old o.3 a.1 q k))
-      (lonely server_end config.client_sizes config.client_setup at x t old q)
+      (lonely config.addresses.server config.client_sizes config.client_setup at x t old q)

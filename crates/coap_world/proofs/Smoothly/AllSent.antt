@@ -10,7 +10,7 @@ use Rattle.coap_client.specs.Follows.Tokens.{OwnTokens}
 use Rattle.coap_client.specs.Law.{ClientLaw}
 use Rattle.coap_client.specs.Trace as C
 use Rattle.coap_world.specs.EndsSmoothly.{SentByAnswers}
-use Rattle.coap_world.specs.Events.{server_end, Config, Event}
+use Rattle.coap_world.specs.Events.{Config, Event}
 use Rattle.coap_world.specs.Legal.{Legal}
 use Rattle.coap_world.specs.Record.{Turn, RecordOf, entries_of, client_of}
 use Rattle.coap_world.specs.Smooth as W
@@ -54,9 +54,9 @@ module _ (config : Config) (u : ℕ) where
 
 pub all_sent : (config : Config) (events : List Event) (turns : List Turn) → RecordOf config events turns
     → Legal config turns → Smooth config turns → NoneObserved turns
-    → ((t : List C.Call) → ClientLaw server_end config.client_sizes config.client_setup t
+    → ((t : List C.Call) → ClientLaw config.addresses.server config.client_sizes config.client_setup t
     → OwnTokens config.client_sizes t)
-    → ((t : List C.Call) → ClientLaw server_end config.client_sizes config.client_setup t
+    → ((t : List C.Call) → ClientLaw config.addresses.server config.client_sizes config.client_setup t
     → CallsAlone config.client_sizes t)
     → SentWhereAnswered config.client_sizes (client_of (entries_of turns)) → SentByAnswers config turns
 all_sent config events turns run legal smooth none own alone sent by_answers =

@@ -8,7 +8,7 @@ use Rattle.coap_block.specs.Sizes.{Sizes}
 use Rattle.coap_client.specs.Follows.Replied.{RepliesToCons}
 use Rattle.coap_client.specs.Law.{ClientLaw}
 use Rattle.coap_client.specs.Trace as C
-use Rattle.coap_world.specs.Events.{client_end, server_end, Config, Event}
+use Rattle.coap_world.specs.Events.{Config, Event}
 use Rattle.coap_world.specs.Hops.{hops_of, across}
 use Rattle.coap_world.specs.Record.{Entry, OfClient, OfServer, Turn, entries_of, client_of, server_of, RecordOf}
 use Rattle.coap_world.specs.Legal.{Legal}
@@ -17,7 +17,7 @@ use Rattle.coap_world.specs.TakenInTime.{TakenInTime, AllTakenInTime}
 use Rattle.coap_world.proofs.Delivery.ChannelAcross.{channel_across}
 use Rattle.coap_world.proofs.Delivery.HopsAreAChannel as joined
 use Rattle.coap_world.proofs.Smoothly.FewArrive.{few_arrive}
-use Rattle.coap_world.proofs.Smoothly.Standing.{Stands, stands, before, record_of}
+use Rattle.coap_world.proofs.Smoothly.Standing.{Stands, stands, before, legal_of, record_of}
 use Rattle.coap_world.proofs.Smoothly.TakenInTime.{taken_in_time}
 
 -- what the laws beneath say
@@ -80,17 +80,19 @@ module _ (config : Config) (beneath : Beneath) where
   pub taken_here : (turn : Turn) (past : List Turn) → Goes config (turn ∷ past) → TakenInTime config past turn
   taken_here turn past g =
       let old = goes_before config turn past g in
-      let channel = joined.channel config _ past (record_of config past old.stands) old.stands.legal in
-      let back = channel_across config.client_setup config.server_setup client_end server_end
+      let channel = joined.channel config _ past (record_of config past old.stands) (legal_of config past old.stands) in
+      let back = channel_across config.client_setup config.server_setup config.addresses.client config.addresses.server
       (hops_of config past) channel in
       taken_in_time config past turn g.stands (few_arrive config past old.stands old.few_client old.few_server)
-      (beneath.within config.client_setup config.server_setup client_end server_end (hops_of config past)
+      (beneath.within config.client_setup config.server_setup config.addresses.client config.addresses.server
+      (hops_of config past)
       channel)
-      (beneath.within config.server_setup config.client_setup server_end client_end
+      (beneath.within config.server_setup config.client_setup config.addresses.server config.addresses.client
       (across (hops_of config past)) back)
-      (beneath.ended config.server_setup config.client_setup server_end client_end
+      (beneath.ended config.server_setup config.client_setup config.addresses.server config.addresses.client
       (across (hops_of config past)) back)
-      (beneath.replies server_end config.client_sizes config.client_setup (client_of (entries_of past)) old.stands.client)
+      (beneath.replies config.addresses.server config.client_sizes config.client_setup (client_of (entries_of past))
+      old.stands.client)
 
   pub all_taken : (turns : List Turn) → Goes config turns → AllTakenInTime config turns
   all_taken [] g = tt

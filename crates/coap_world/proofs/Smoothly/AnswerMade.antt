@@ -34,7 +34,7 @@ use Rattle.coap_server.proofs.Facts.EachCall.{comes_here, szx_is}
 use Rattle.coap_server.proofs.Facts.Laws as server_facts
 use Rattle.coap_world.specs.Answers.{IsAnswer, replies, continues, refuses, notifies}
 use Rattle.coap_world.specs.CameFrom.{CameFrom}
-use Rattle.coap_world.specs.Events.{client_end, Config}
+use Rattle.coap_world.specs.Events.{Config}
 use Rattle.coap_world.specs.Hops.{hops_at, hops_in}
 use Rattle.coap_world.specs.Record.{Entry, OfServer, client_of, server_trace}
 use Rattle.coap_world.specs.Smooth.{TakesNoObservation}
@@ -112,7 +112,7 @@ module _ (config : Config) where
   -- the request of the client that is responded to here
   pub record MadeFor (token : List ℕ) (past : List Entry) (c : S.Call) : Type 0 where
     pub asked : Asked
-    pub from : asked.from ≡ client_end
+    pub from : asked.from ≡ config.addresses.client
     pub same : asked.token ≡ token
     pub answers : AnswersIt config.limits config.server_szx (trace past) c asked
     pub origin : Origin config asked (OfServer c ∷ past)
@@ -132,7 +132,7 @@ module _ (config : Config) where
   -- a request that is handed up and doesn't ask is responded to at once
   module _ (past : List Entry) (c : S.Call) (law : Lawful config (OfServer c ∷ past)) (now : ℕ) (from : Endpoint)
       (bytes : List ℕ) (w : ℕ) (up : L.Answer) (p : Asked × Message) (h : S.Handling) (below : L.Answer)
-      (is : c ≡ S.Feeds now from bytes w up (Some p) h below) (client : p.0.from ≡ client_end)
+      (is : c ≡ S.Feeds now from bytes w up (Some p) h below) (client : p.0.from ≡ config.addresses.client)
       (none : (q : Question) → AsksBy config.limits config.server_szx (trace past) c p.0 q
       (verdict_on config.server_szx p.1) → ⊥) where
     abbrev t : List S.Call
@@ -185,7 +185,7 @@ module _ (config : Config) where
 
   refused : (token : List ℕ) (past : List Entry) (c : S.Call) → Lawful config (OfServer c ∷ past) → (a : Asked) (code : ℕ)
       → hands c ≡ Some a → refusal_in (own_of config.limits config.server_szx (trace past)) c ≡ Some code
-      → a.from ≡ client_end → a.token ≡ token → MadeFor token past c
+      → a.from ≡ config.addresses.client → a.token ≡ token → MadeFor token past c
   refused token past (S.Feeds now from bytes w up (Some p) h below) law a code hands_it refuses_it client same =
       let c : S.Call = S.Feeds now from bytes w up (Some p) h below in
       let s : S.Own = own_of config.limits config.server_szx (trace past) in
@@ -216,7 +216,7 @@ module _ (config : Config) where
 
   continued : (token : List ℕ) (past : List Entry) (c : S.Call) → Lawful config (OfServer c ∷ past) → (x : Took)
       → takes_block (own_of config.limits config.server_szx (trace past)) c ≡ Some x → x.part.more ≡ true
-      → x.asked.from ≡ client_end → x.asked.token ≡ token → MadeFor token past c
+      → x.asked.from ≡ config.addresses.client → x.asked.token ≡ token → MadeFor token past c
   continued token past (S.Feeds now from bytes w up (Some p) h below) law x takes more client same =
       let c : S.Call = S.Feeds now from bytes w up (Some p) h below in
       let s : S.Own = own_of config.limits config.server_szx (trace past) in
@@ -230,7 +230,8 @@ module _ (config : Config) where
   continued token past _ law x takes more client same = absurd (cc takes)
 
   pub served_origin : (past : List Entry) (c : S.Call) → Lawful config (OfServer c ∷ past) → (x : Serving)
-      → serving (own_of config.limits config.server_szx (trace past)) c ≡ Some x → x.asked.from ≡ client_end
+      → serving (own_of config.limits config.server_szx (trace past)) c ≡ Some x → x.asked.from
+      ≡ config.addresses.client
       → Origin config x.asked (OfServer c ∷ past)
   served_origin past c law x here from =
       let es : List Entry = OfServer c ∷ past in

@@ -25,7 +25,7 @@ use Rattle.coap_client.specs.Follows.Words.{Sending}
 use Rattle.coap_client.specs.Law.{ClientLaw, layer_of}
 use Rattle.coap_client.specs.Trace as C
 use Rattle.coap_client.proofs.Facts.Laws as client_facts
-use Rattle.coap_world.specs.Events.{server_end, Config}
+use Rattle.coap_world.specs.Events.{Config}
 use Rattle.coap_world.specs.Hops.{client_adds, server_adds, hops_at}
 use Rattle.coap_world.specs.Record.{Entry, OfClient, OfServer, client_of, server_trace}
 use Rattle.coap_world.proofs.Delivery.HopsAreEntries.{client_layer, client_next}
@@ -48,16 +48,16 @@ pub record IsAckWith (request : Open) (x : Sending) (bytes : List ℕ) (m : Mess
 module _ (config : Config) (request : Open) (x : Sending) (bytes : List ℕ) (m : Message)
     (ack : IsAckWith request x bytes m) where
   abbrev Law : List C.Call → Type 0
-  Law t = ClientLaw server_end config.client_sizes config.client_setup t
+  Law t = ClientLaw config.addresses.server config.client_sizes config.client_setup t
 
   abbrev layer : List C.Call → List L.Entry
-  layer t = layer_of server_end config.client_sizes config.client_setup t
+  layer t = layer_of config.addresses.server config.client_sizes config.client_setup t
 
   -- it comes here, behind a request with its token, and is taken if its CON is outstanding
   pub record AckComes (t : List C.Call) (c : C.Call) : Type 0 where
     pub up : L.Answer
-    pub fed : ClientFed server_end bytes up c
-    pub taken : Outstanding (layer t) server_end m.id → up ≡ L.Becomes (L.Response m)
+    pub fed : ClientFed config.addresses.server bytes up c
+    pub taken : Outstanding (layer t) config.addresses.server m.id → up ≡ L.Becomes (L.Response m)
     pub sending : Sending
     pub sent : WasSent config.client_sizes sending t
     pub same : sending.token ≡ x.token
@@ -68,29 +68,33 @@ module _ (config : Config) (request : Open) (x : Sending) (bytes : List ℕ) (m 
   sent_in (c ∷ t) (inr h) = let k = sent_in t h in (k.0, inr k.1, k.2)
 
   -- the CON that is outstanding is that
-  outstanding_is : (at : ℕ) (t : List C.Call) (o : OpenOf server_end config.client_sizes config.client_setup at x t)
-      → Alone server_end config.client_sizes config.client_setup request at x t o → request.to ≡ server_end
-      → (r : Runs server_end config.client_sizes config.client_setup at x t)
-      → Lonely server_end config.client_sizes config.client_setup at x r.exchange t
-      → Outstanding (layer t) server_end m.id
+  outstanding_is : (at : ℕ) (t : List C.Call) (o : OpenOf config.addresses.server config.client_sizes
+      config.client_setup at x t)
+      → Alone config.addresses.server config.client_sizes config.client_setup request at x t o → request.to
+      ≡ config.addresses.server
+      → (r : Runs config.addresses.server config.client_sizes config.client_setup at x t)
+      → Lonely config.addresses.server config.client_sizes config.client_setup at x r.exchange t
+      → Outstanding (layer t) config.addresses.server m.id
   outstanding_is at t o alone to r k =
       let con : Open = k.con in
       let stays : IsOpen (layer t) (as_begun con) =
       subst (Ever (λ z. as_begun z ≡ as_begun con)) (sym k.only) (inl refl) in
       let same : as_begun con ≡ request =
-      alone_now server_end config.client_sizes config.client_setup request at x t o alone (as_begun con) stays in
-      let there : con.to ≡ server_end = ap (λ (z : Open). z.to) same ∙ to in
+      alone_now config.addresses.server config.client_sizes config.client_setup request at x t o alone (as_begun con)
+      stays in
+      let there : con.to ≡ config.addresses.server = ap (λ (z : Open). z.to) same ∙ to in
       let id : con.id ≡ m.id = ap (λ (z : Open). z.id) same ∙ sym ack.id in
-      let place : same_endpoint con.to server_end ≡ true =
-      ap (λ p. same_endpoint p server_end) there ∙ same_endpoint_self server_end in
+      let place : same_endpoint con.to config.addresses.server ≡ true =
+      ap (λ p. same_endpoint p config.addresses.server) there ∙ same_endpoint_self config.addresses.server in
       let number : (con.id == m.id) ≡ true = (unsigned_Decides con.id m.id).1 id in
-      let is : is_to server_end m.id con ≡ true = cc (place, number) in
-      subst (Ever (λ c. is_to server_end m.id c ≡ true)) (sym k.only) (inl is)
+      let is : is_to config.addresses.server m.id con ≡ true = cc (place, number) in
+      subst (Ever (λ c. is_to config.addresses.server m.id c ≡ true)) (sym k.only) (inl is)
 
-  pub acked_before : (at : ℕ) (t : List C.Call) → Law t → AnswersAreHeard server_end config.client_sizes config.client_setup t
-      → OwnTokens config.client_sizes t → IsPlain x → request.to ≡ server_end
-      → (o : OpenOf server_end config.client_sizes config.client_setup at x t)
-      → Alone server_end config.client_sizes config.client_setup request at x t o
+  pub acked_before : (at : ℕ) (t : List C.Call) → Law t → AnswersAreHeard config.addresses.server config.client_sizes
+      config.client_setup t
+      → OwnTokens config.client_sizes t → IsPlain x → request.to ≡ config.addresses.server
+      → (o : OpenOf config.addresses.server config.client_sizes config.client_setup at x t)
+      → Alone config.addresses.server config.client_sizes config.client_setup request at x t o
       → Sometime AckComes t → AckIn config request t
   acked_before at [] law heard own plain to o alone h = absurd h
   acked_before at (c ∷ t) law heard own plain to (inl o) alone (inl k) =
@@ -100,27 +104,29 @@ module _ (config : Config) (request : Open) (x : Sending) (bytes : List ℕ) (m 
       let d = own.0 x z.0 o.0 z.1 z.2 in absurd (plain.no_cancel d.number d.cancels)
   acked_before at (c ∷ t) law heard own plain to (inr o) alone (inr h) =
       lifted config request c t
-      (acked_before at t (client_facts.back server_end config.client_sizes config.client_setup (c ∷ []) t law) heard.1 own.1
+      (acked_before at t (client_facts.back config.addresses.server config.client_sizes config.client_setup (c ∷ []) t
+      law) heard.1 own.1
       plain to o.3 alone.1 h)
   acked_before at (c ∷ t) law heard own plain to (inr o) alone (inl k) =
-      let old = client_facts.back server_end config.client_sizes config.client_setup (c ∷ []) t law in
-      let r = runs_of server_end config.client_sizes config.client_setup at x t old o.3 in
+      let old = client_facts.back config.addresses.server config.client_sizes config.client_setup (c ∷ []) t law in
+      let r = runs_of config.addresses.server config.client_sizes config.client_setup at x t old o.3 in
       ⊎_elim
-      (λ (z : Lonely server_end config.client_sizes config.client_setup at x r.exchange t). absurd (up r z))
-      (λ (z : Waited server_end config.client_sizes config.client_setup r.exchange t).
+      (λ (z : Lonely config.addresses.server config.client_sizes config.client_setup at x r.exchange t). absurd
+      (up r z))
+      (λ (z : Waited config.addresses.server config.client_sizes config.client_setup r.exchange t).
       lifted config request c t (ack_in config request to at x t old o.3 alone.1 r z))
-      (lonely server_end config.client_sizes config.client_setup at x t old r)
+      (lonely config.addresses.server config.client_sizes config.client_setup at x t old r)
     where
-      up : (r : Runs server_end config.client_sizes config.client_setup at x t)
-          → Lonely server_end config.client_sizes config.client_setup at x r.exchange t → ⊥
+      up : (r : Runs config.addresses.server config.client_sizes config.client_setup at x t)
+          → Lonely config.addresses.server config.client_sizes config.client_setup at x r.exchange t → ⊥
       up r z =
           let f = k.fed in
           let there = outstanding_is at t o.3 alone.1 to r z in
           let response = k.taken there in
-          let comes : ComesUp server_end config.client_sizes config.client_setup x t c =
+          let comes : ComesUp config.addresses.server config.client_sizes config.client_setup x t c =
           record {
             now = f.now;
-            from = server_end;
+            from = config.addresses.server;
             bytes = bytes;
             w = f.word;
             message = m;
@@ -129,20 +135,22 @@ module _ (config : Config) (request : Open) (x : Sending) (bytes : List ℕ) (m 
             sent = f.sent;
             token = f.token;
             kept = f.kept;
-            is = f.is ∙ ap (λ u. C.Feeds f.now server_end bytes f.word u f.settled f.event f.sent f.token f.kept) response;
-            sound = record { there = same_endpoint_self server_end; understood = ack.understood };
+            is = f.is ∙ ap (λ u. C.Feeds f.now config.addresses.server bytes f.word u f.settled f.event f.sent f.token
+                f.kept) response;
+            sound = record { there = same_endpoint_self config.addresses.server; understood = ack.understood };
             same = ack.token;
             kind = inr (ack.kind, there);
             asked = k.sending;
             asked_before = k.sent;
             asked_same = k.same ∙ sym ack.token;
           } in
-          never_answered server_end config.client_sizes config.client_setup at x (c ∷ t) law heard own plain (inr o)
+          never_answered config.addresses.server config.client_sizes config.client_setup at x (c ∷ t) law heard own
+          plain (inr o)
           (inl comes)
 
   -- .. where it arrives
   abbrev Arrives : ℕ → ℕ → L.Entry → Type 0
-  Arrives most since = ArrivesWithin most server_end bytes since
+  Arrives most since = ArrivesWithin most config.addresses.server bytes since
 
   module _ (most since : ℕ) (sending : Sending) (same : sending.token ≡ x.token)
       (acks : (t : List C.Call) → Law t → AllTakeAcks (layer t)) where
@@ -154,7 +162,8 @@ module _ (config : Config) (request : Open) (x : Sending) (bytes : List ℕ) (m 
         → Ever (OnNear (Arrives most since)) (map Near (client_adds config t c)) → AckComes t c
     comes_here t c law sent h =
         let y = near_found (Arrives most since) (client_adds config t c) h in
-        let at = at_client config t c (law.exchanges.left, law.exchanges.layer) server_end bytes y.0 y.1 y.2.call in
+        let at = at_client config t c (law.exchanges.left, law.exchanges.layer) config.addresses.server bytes y.0 y.1
+        y.2.call in
         let parts : client_layer config (c ∷ t) ≡ at.later ++ (y.0 ∷ client_layer config t) =
         client_next config t c ∙ ap (λ l. l ++ client_layer config t) at.adds
         ∙ append_assoc at.later (y.0 ∷ []) (client_layer config t) in
@@ -163,7 +172,7 @@ module _ (config : Config) (request : Open) (x : Sending) (bytes : List ℕ) (m 
         record {
           up = y.0.answer;
           fed = at.fed;
-          taken = λ there. takes.carrying server_end bytes m y.2.call ack.spells ack.kind ack.class there;
+          taken = λ there. takes.carrying config.addresses.server bytes m y.2.call ack.spells ack.kind ack.class there;
           sending = sending;
           sent = sent;
           same = same;

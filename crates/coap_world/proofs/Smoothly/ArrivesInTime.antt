@@ -11,7 +11,7 @@ use Rattle.coap_layer.specs.Taking.{ArrivesWithin}
 use Rattle.coap_layer.specs.Trace as L
 use Rattle.coap_client.specs.Trace as C
 use Rattle.coap_server.specs.Trace as S
-use Rattle.coap_world.specs.Events.{client_end, server_end, Config, Deliver}
+use Rattle.coap_world.specs.Events.{Config, Deliver}
 use Rattle.coap_world.specs.Hops.{client_adds, server_adds, hops_at, hops_of, across}
 use Rattle.coap_world.specs.InTime.{ArriveInTime, AllInTime}
 use Rattle.coap_world.specs.Received.{ReceivesAt}
@@ -22,9 +22,10 @@ use Rattle.coap_world.proofs.Delivery.GivenOutBefore.{number_unique, not_later}
 use Rattle.coap_world.proofs.Delivery.Received.{are_received}
 use Rattle.coap_world.proofs.Smoothly.SentIsGivenOut.{numbered_in, near_given, far_given}
 use Rattle.coap_world.proofs.Delivery.End.{front, front_is}
-use Rattle.coap_world.proofs.Smoothly.Standing.{AllMade, Stands, before, record_of, turned, side_of}
+use Rattle.coap_world.proofs.Smoothly.Standing.{AllMade, Stands, before, legal_of, record_of, turned, side_of}
 use Rattle.coap_world.proofs.Delivery.GivenOutBefore.{below_length}
-pub use Rattle.coap_world.proofs.Delivery.FedInTime.{in_or_late, apart}
+use Rattle.coap_world.specs.declared.addresses.Addresses.{Addresses}
+pub use Rattle.coap_world.proofs.Delivery.FedInTime.{in_or_late}
 
 -- two lists in one, parted at an element
 parted : {X : Type 0} (a b later : List X) (h : X) (before : List X) → a ++ b ≡ later ++ h ∷ before
@@ -49,22 +50,23 @@ none_there (x ∷ later) before h e = cc e
 
 -- a number that was delivered is of a datagram that was given out before
 
-delivers : (n : ℕ) (turn : Turn) (past : List Turn)
-    → Makes past turn.event.at turn.event.word turn.event.what turn.refused turn.entries
-    → turn.event.what ≡ Deliver n → n < length (all_of given_in past)
-delivers n turn past made is =
-    let m = subst (λ w. Makes past turn.event.at turn.event.word w turn.refused turn.entries) is made in
-    below_length n m.0 (all_of given_in past) m.1
+delivers : (addresses : Addresses) (n : ℕ) (turn : Turn) (past : List Turn)
+    → Makes addresses past turn.event.at turn.event.word turn.event.what turn.refused turn.entries
+    → turn.event.what ≡ Deliver n → n < length (all_of (given_in addresses) past)
+delivers addresses n turn past made is =
+    let m = subst (λ w. Makes addresses past turn.event.at turn.event.word w turn.refused turn.entries) is made in
+    below_length n m.0 (all_of (given_in addresses) past) m.1
 
-delivered_below : (n : ℕ) (past : List Turn) → AllMade past → WasDelivered n past → n < length (all_of given_in past)
-delivered_below n [] made h = absurd h
-delivered_below n (turn ∷ past) made (inl h) =
-    let k = delivers n turn past made.0 h in
-    let l = length-append (given_in turn) (all_of given_in past) in
+delivered_below : (addresses : Addresses) (n : ℕ) (past : List Turn) → AllMade addresses past → WasDelivered n past
+    → n < length (all_of (given_in addresses) past)
+delivered_below addresses n [] made h = absurd h
+delivered_below addresses n (turn ∷ past) made (inl h) =
+    let k = delivers addresses n turn past made.0 h in
+    let l = length-append (given_in addresses turn) (all_of (given_in addresses) past) in
     omega (arith, k, l)
-delivered_below n (turn ∷ past) made (inr h) =
-    let k = delivered_below n past made.1 h in
-    let l = length-append (given_in turn) (all_of given_in past) in
+delivered_below addresses n (turn ∷ past) made (inr h) =
+    let k = delivered_below addresses n past made.1 h in
+    let l = length-append (given_in addresses turn) (all_of (given_in addresses) past) in
     omega (arith, k, l)
 
 far_map : (P : L.Entry → Type 0) (xs : List L.Entry) → Ever P xs → Ever (OnFar P) (map Far xs)
@@ -124,7 +126,8 @@ module _ (config : Config) where
     server_fed from bytes calls one on =
         let c = one.0 in
         let old = before config turn past s in
-        let received = (are_received config _ past (record_of config past old) old.legal t turn.event.word from bytes
+        let received = (are_received config _ past (record_of config past old) (legal_of config past old) t
+        turn.event.word from bytes
         s.legal.0.later).0 c one.1 in
         let outs : List S.Call = S.NextOut None ∷ map (λ p. S.NextOut (Some p)) on.outs in
         let is : turn.entries ≡ map OfServer (outs ++ c ∷ []) =
@@ -139,7 +142,8 @@ module _ (config : Config) where
     client_fed from bytes calls one on =
         let c = one.0 in
         let old = before config turn past s in
-        let received = (are_received config _ past (record_of config past old) old.legal t turn.event.word from bytes
+        let received = (are_received config _ past (record_of config past old) (legal_of config past old) t
+        turn.event.word from bytes
         s.legal.0.later).1 c one.1 in
         let outs : List C.Call = map (λ p. C.NextOut (Some p)) on.outs in
         let told : List C.Call = map (λ r. C.NextReport (Some r)) on.reports in
@@ -155,51 +159,52 @@ module _ (config : Config) where
         assoc [] b c = refl
         assoc (x ∷ a) b c = ap (λ l. x ∷ l) (assoc a b c)
 
-    module _ (n : ℕ) (g : Given) (is : IsNumber n g past) (what : turn.event.what ≡ Deliver n) where
-      makes : Makes past t turn.event.word (Deliver n) false turn.entries
-      makes = subst (λ r. Makes past t turn.event.word (Deliver n) r turn.entries) s.goes.0.all_made
-          (subst (λ w. Makes past t turn.event.word w turn.refused turn.entries) what s.made.0)
+    module _ (n : ℕ) (g : Given) (is : IsNumber config.addresses n g past) (what : turn.event.what ≡ Deliver n) where
+      makes : Makes config.addresses past t turn.event.word (Deliver n) false turn.entries
+      makes = subst (λ r. Makes config.addresses past t turn.event.word (Deliver n) r turn.entries) s.goes.0.all_made
+          (subst (λ w. Makes config.addresses past t turn.event.word w turn.refused turn.entries) what s.made.0)
 
       same : makes.0 ≡ g
-      same = number_unique n makes.0 g (all_of given_in past) makes.1 is
+      same = number_unique n makes.0 g (all_of (given_in config.addresses) past) makes.1 is
 
-      at_server : g.packet.to ≡ server_end → Ever (OnFar (ReceivesAt t g.from g.packet.bytes)) hops
+      at_server : g.packet.to ≡ config.addresses.server → Ever (OnFar (ReceivesAt t g.from g.packet.bytes)) hops
       at_server to = subst (λ (x : Given). Ever (OnFar (ReceivesAt t x.from x.packet.bytes)) hops) same
           (⊎_elim (λ d. server_fed makes.0.from makes.0.packet.bytes d.1 d.2 d.3)
-          (λ d. absurd (apart (sym d.0 ∙ (ap (λ (x : Given). x.packet.to) same ∙ to)))) makes.2)
+          (λ d. absurd (s.range.addresses.two (sym d.0 ∙ (ap (λ (x : Given). x.packet.to) same ∙ to)))) makes.2)
 
-      at_client : g.packet.to ≡ client_end → Ever (OnNear (ReceivesAt t g.from g.packet.bytes)) hops
+      at_client : g.packet.to ≡ config.addresses.client → Ever (OnNear (ReceivesAt t g.from g.packet.bytes)) hops
       at_client to = subst (λ (x : Given). Ever (OnNear (ReceivesAt t x.from x.packet.bytes)) hops) same
-          (⊎_elim (λ d. absurd (apart (sym (ap (λ (x : Given). x.packet.to) same ∙ to) ∙ d.0)))
+          (⊎_elim (λ d. absurd (s.range.addresses.two (sym (ap (λ (x : Given). x.packet.to) same ∙ to) ∙ d.0)))
           (λ d. client_fed makes.0.from makes.0.packet.bytes d.1 d.2 d.3) makes.2)
 
   -- a datagram that was sent has a number, and once that was delivered it has arrived since
   record Located (turns : List Turn) (later : List Hop) (g : Given) (Got : Hop → Type 0) : Type 0 where
     number : ℕ
-    is : IsNumber number g turns
+    is : IsNumber config.addresses number g turns
     delivered : WasDelivered number turns → Ever Got later
 
   -- it is given out in this turn
   located_here : (turn : Turn) (past : List Turn) (later : List Hop) (g : Given) (Got : Hop → Type 0)
-      → AllMade (turn ∷ past) → Ever (λ h. h ≡ g) (given_in turn) → Located (turn ∷ past) later g Got
+      → AllMade config.addresses (turn ∷ past) → Ever (λ h. h ≡ g) (given_in config.addresses turn)
+      → Located (turn ∷ past) later g Got
   located_here turn past later g Got made h =
-      let k = numbered_in g (given_in turn) (all_of given_in past) h in
+      let k = numbered_in g (given_in config.addresses turn) (all_of (given_in config.addresses) past) h in
       record { number = k.number; is = k.is; delivered = λ d. absurd (never k.number k.behind d) }
     where
-      never : (n : ℕ) → length (all_of given_in past) ≤ n → WasDelivered n (turn ∷ past) → ⊥
-      never n least (inl w) = let k = delivers n turn past made.0 w in omega (arith, k, least)
-      never n least (inr w) = let k = delivered_below n past made.1 w in omega (arith, k, least)
+      never : (n : ℕ) → length (all_of (given_in config.addresses) past) ≤ n → WasDelivered n (turn ∷ past) → ⊥
+      never n least (inl w) = let k = delivers config.addresses n turn past made.0 w in omega (arith, k, least)
+      never n least (inr w) = let k = delivered_below config.addresses n past made.1 w in omega (arith, k, least)
 
   -- .. or was before
   module _ (turn : Turn) (past : List Turn) (s : Stands config (turn ∷ past)) (later more : List Hop) (g : Given)
-      (Got : Hop → Type 0) (is_end : (g.packet.to ≡ client_end) ⊎ (g.packet.to ≡ server_end))
+      (Got : Hop → Type 0) (is_end : (g.packet.to ≡ config.addresses.client) ⊎ (g.packet.to ≡ config.addresses.server))
       (parts : later ≡ front config turn.entries (entries_of past) ++ more)
-      (arrives : (n : ℕ) → IsNumber n g past → turn.event.what ≡ Deliver n → g.at ≤ turn.event.at
+      (arrives : (n : ℕ) → IsNumber config.addresses n g past → turn.event.what ≡ Deliver n → g.at ≤ turn.event.at
       → turn.event.at ≤ g.at + max_age → Ever Got (front config turn.entries (entries_of past))) where
     located_before : Located past more g Got → Located (turn ∷ past) later g Got
     located_before k = record {
       number = k.number;
-      is = Sometime_back _ (given_in turn) (all_of given_in past) k.is;
+      is = Sometime_back _ (given_in config.addresses turn) (all_of (given_in config.addresses) past) k.is;
       delivered = λ d. subst (Ever Got) (sym parts) (got d);
     }
       where
@@ -207,8 +212,8 @@ module _ (config : Config) where
         new = front config turn.entries (entries_of past)
 
         early : g.at ≤ turn.event.at
-        early = not_later past turn.event.at g s.legal.1 s.legal.0.later
-            (Ever_of_Sometime _ (λ h. h ≡ g) (λ b h w. inl w.0) (all_of given_in past) k.is)
+        early = not_later config.addresses past turn.event.at g s.legal.1 s.legal.0.later
+            (Ever_of_Sometime _ (λ h. h ≡ g) (λ b h w. inl w.0) (all_of (given_in config.addresses) past) k.is)
 
         got : WasDelivered k.number (turn ∷ past) → Ever Got (new ++ more)
         got (inl w) = elim (in_or_late turn.event.at (g.at + max_age)) [
@@ -218,10 +223,20 @@ module _ (config : Config) where
         got (inr w) = Ever_back Got new more (k.delivered w)
 
   abbrev of_client : ℕ → List ℕ → Given
-  of_client at bytes = record { at = at; from = client_end; packet = record { to = server_end; bytes = bytes } }
+  of_client at bytes = record {
+    at = at;
+    from = config.addresses.client;
+    packet
+        = record { to = config.addresses.server; bytes = bytes };
+  }
 
   abbrev of_server : ℕ → List ℕ → Given
-  of_server at bytes = record { at = at; from = server_end; packet = record { to = client_end; bytes = bytes } }
+  of_server at bytes = record {
+    at = at;
+    from = config.addresses.server;
+    packet
+        = record { to = config.addresses.client; bytes = bytes };
+  }
 
   within : (most t since : ℕ) (from : Endpoint) (bytes : List ℕ) → since ≤ t → t ≤ since + most → (e : L.Entry)
       → ReceivesAt t from bytes e → ArrivesWithin most from bytes since e
@@ -230,20 +245,21 @@ module _ (config : Config) where
       record { call = r.call; from = omega (arith, at, least); till = omega (arith, at, till) }
 
   located_near : (turns : List Turn) → Stands config turns → (later before_it : List Hop) (x : L.Entry) (bytes : List ℕ)
-      → hops_of config turns ≡ later ++ Near x ∷ before_it → IsIn (record { to = server_end; bytes = bytes }) x.out
-      → Located turns later (of_client x.at bytes) (OnFar (ArrivesWithin max_age client_end bytes x.at))
+      → hops_of config turns ≡ later ++ Near x ∷ before_it → IsIn
+      (record { to = config.addresses.server; bytes = bytes }) x.out
+      → Located turns later (of_client x.at bytes) (OnFar (ArrivesWithin max_age config.addresses.client bytes x.at))
   located_near [] s later before_it x bytes is out = absurd (none_there later before_it (Near x) is)
   located_near (turn ∷ past) s later before_it x bytes is out = elim (parted new (hops_of config past) later (Near x) before_it
       (sym (front_is config turn.entries (entries_of past)) ∙ is)) [
         | inl here ↦ (let k = near_given config turn.event.at turn.entries (entries_of past) (turned config turn past s)
-            (side_of config turn past s) x (record { to = server_end; bytes = bytes })
+            (side_of config turn past s) x (record { to = config.addresses.server; bytes = bytes })
             (there (OnNear (λ y. y ≡ x)) new later here.0 (Near x) here.1 refl) out in
             located_here turn past later (of_client x.at bytes) Got s.made
-            (subst (λ (at : ℕ). Ever (λ h. h ≡ of_client at bytes) (given_in turn)) (sym k.0) k.1))
+            (subst (λ (at : ℕ). Ever (λ h. h ≡ of_client at bytes) (given_in config.addresses turn)) (sym k.0) k.1))
         | inr old ↦ located_before turn past s later old.0 (of_client x.at bytes) Got (inr refl) old.1
-            (λ n num what least till. far_each (ReceivesAt turn.event.at client_end bytes)
-            (ArrivesWithin max_age client_end bytes x.at)
-            (within max_age turn.event.at x.at client_end bytes least till) new
+            (λ n num what least till. far_each (ReceivesAt turn.event.at config.addresses.client bytes)
+            (ArrivesWithin max_age config.addresses.client bytes x.at)
+            (within max_age turn.event.at x.at config.addresses.client bytes least till) new
             (at_server turn past s n (of_client x.at bytes) num what refl))
             (located_near past (before config turn past s) old.0 before_it x bytes old.2 out)
       ]
@@ -252,23 +268,24 @@ module _ (config : Config) where
       new = front config turn.entries (entries_of past)
 
       Got : Hop → Type 0
-      Got = OnFar (ArrivesWithin max_age client_end bytes x.at)
+      Got = OnFar (ArrivesWithin max_age config.addresses.client bytes x.at)
 
   located_far : (turns : List Turn) → Stands config turns → (later before_it : List Hop) (x : L.Entry) (bytes : List ℕ)
-      → hops_of config turns ≡ later ++ Far x ∷ before_it → IsIn (record { to = client_end; bytes = bytes }) x.out
-      → Located turns later (of_server x.at bytes) (OnNear (ArrivesWithin max_age server_end bytes x.at))
+      → hops_of config turns ≡ later ++ Far x ∷ before_it → IsIn
+      (record { to = config.addresses.client; bytes = bytes }) x.out
+      → Located turns later (of_server x.at bytes) (OnNear (ArrivesWithin max_age config.addresses.server bytes x.at))
   located_far [] s later before_it x bytes is out = absurd (none_there later before_it (Far x) is)
   located_far (turn ∷ past) s later before_it x bytes is out = elim (parted new (hops_of config past) later (Far x) before_it
       (sym (front_is config turn.entries (entries_of past)) ∙ is)) [
         | inl here ↦ (let k = far_given config turn.event.at turn.entries (entries_of past) (turned config turn past s)
-            (side_of config turn past s) x (record { to = client_end; bytes = bytes })
+            (side_of config turn past s) x (record { to = config.addresses.client; bytes = bytes })
             (there (OnFar (λ y. y ≡ x)) new later here.0 (Far x) here.1 refl) out in
             located_here turn past later (of_server x.at bytes) Got s.made
-            (subst (λ (at : ℕ). Ever (λ h. h ≡ of_server at bytes) (given_in turn)) (sym k.0) k.1))
+            (subst (λ (at : ℕ). Ever (λ h. h ≡ of_server at bytes) (given_in config.addresses turn)) (sym k.0) k.1))
         | inr old ↦ located_before turn past s later old.0 (of_server x.at bytes) Got (inl refl) old.1
-            (λ n num what least till. near_each (ReceivesAt turn.event.at server_end bytes)
-            (ArrivesWithin max_age server_end bytes x.at)
-            (within max_age turn.event.at x.at server_end bytes least till) new
+            (λ n num what least till. near_each (ReceivesAt turn.event.at config.addresses.server bytes)
+            (ArrivesWithin max_age config.addresses.server bytes x.at)
+            (within max_age turn.event.at x.at config.addresses.server bytes least till) new
             (at_client turn past s n (of_server x.at bytes) num what refl))
             (located_far past (before config turn past s) old.0 before_it x bytes old.2 out)
       ]
@@ -277,21 +294,24 @@ module _ (config : Config) where
       new = front config turn.entries (entries_of past)
 
       Got : Hop → Type 0
-      Got = OnNear (ArrivesWithin max_age server_end bytes x.at)
+      Got = OnNear (ArrivesWithin max_age config.addresses.server bytes x.at)
 
   -- at a position
 
   module _ (past : List Turn) (turn : Turn) (s : Stands config (turn ∷ past)) where
     pub to_server : (later before_it : List Hop) (x : L.Entry) (bytes : List ℕ)
-        → hops_of config past ≡ later ++ Near x ∷ before_it → IsIn (record { to = server_end; bytes = bytes }) x.out
-        → x.at + max_age < turn.event.at → Ever (OnFar (ArrivesWithin max_age client_end bytes x.at)) later
+        → hops_of config past ≡ later ++ Near x ∷ before_it → IsIn
+        (record { to = config.addresses.server; bytes = bytes }) x.out
+        → x.at + max_age < turn.event.at → Ever (OnFar (ArrivesWithin max_age config.addresses.client bytes x.at)) later
     to_server later before_it x bytes is out late =
         let k = located_near past (before config turn past s) later before_it x bytes is out in
         k.delivered (s.goes.0.in_time k.number (of_client x.at bytes) k.is (inr refl) late)
 
     pub to_client : (later before_it : List Hop) (x : L.Entry) (bytes : List ℕ)
-        → hops_of config past ≡ later ++ Far x ∷ before_it → IsIn (record { to = client_end; bytes = bytes }) x.out
-        → x.at + max_age < turn.event.at → Ever (OnNear (ArrivesWithin max_age server_end bytes x.at)) later
+        → hops_of config past ≡ later ++ Far x ∷ before_it → IsIn
+        (record { to = config.addresses.client; bytes = bytes }) x.out
+        → x.at + max_age < turn.event.at → Ever (OnNear (ArrivesWithin max_age config.addresses.server bytes x.at))
+        later
     to_client later before_it x bytes is out late =
         let k = located_far past (before config turn past s) later before_it x bytes is out in
         k.delivered (s.goes.0.in_time k.number (of_server x.at bytes) k.is (inl refl) late)
@@ -347,21 +367,21 @@ module _ (config : Config) where
   arrive_in_time past turn s = record {
     to_server = λ x bytes h out late.
         (let k = near_parts x hs h in
-        subst (Ever (OnFar (ArrivesWithin max_age client_end bytes x.at))) (sym k.is)
+        subst (Ever (OnFar (ArrivesWithin max_age config.addresses.client bytes x.at))) (sym k.is)
         (Ever_front _ k.later (Near x ∷ k.before_it)
         (to_server past turn s k.later k.before_it x bytes k.is out late)));
     to_client = λ x bytes h out late.
         (let k = far_parts x hs (subst (Ever (OnFar (λ y. y ≡ x))) (across_twice hs) (to_far (λ y. y ≡ x) (across hs) h))
-        in to_far (ArrivesWithin max_age server_end bytes x.at) hs
-        (subst (Ever (OnNear (ArrivesWithin max_age server_end bytes x.at))) (sym k.is)
+        in to_far (ArrivesWithin max_age config.addresses.server bytes x.at) hs
+        (subst (Ever (OnNear (ArrivesWithin max_age config.addresses.server bytes x.at))) (sym k.is)
         (Ever_front _ k.later (Far x ∷ k.before_it)
         (to_client past turn s k.later k.before_it x bytes k.is out late))));
     back_to_client = λ later before_it x bytes is out late. to_client past turn s later before_it x bytes is out late;
     back_to_server = λ later before_it x bytes is out late.
         (let parts : hs ≡ across later ++ Near x ∷ across before_it =
         sym (across_twice hs) ∙ ap across is ∙ across_parts later before_it x in
-        subst (Ever (OnNear (ArrivesWithin max_age client_end bytes x.at))) (across_twice later)
-        (to_near (ArrivesWithin max_age client_end bytes x.at) (across later)
+        subst (Ever (OnNear (ArrivesWithin max_age config.addresses.client bytes x.at))) (across_twice later)
+        (to_near (ArrivesWithin max_age config.addresses.client bytes x.at) (across later)
         (to_server past turn s (across later) (across before_it) x bytes parts out late)));
   }
     where

@@ -12,7 +12,7 @@ use Rattle.coap_server.specs.Follows.Brings.{Comes}
 use Rattle.coap_server.specs.Trace as S
 use Rattle.coap_server.proofs.Facts.Laws as server_facts
 use Rattle.coap_world.specs.Answers.{IsAnswer, replies, continues, refuses, notifies, AnswersAt}
-use Rattle.coap_world.specs.Events.{client_end, server_end, Config}
+use Rattle.coap_world.specs.Events.{Config}
 use Rattle.coap_world.specs.Hops.{client_adds}
 use Rattle.coap_world.specs.Record.{Entry, OfClient, OfServer, client_of, server_trace}
 use Rattle.coap_world.proofs.Reports.Answered.{came_answered}
@@ -31,7 +31,8 @@ module _ (config : Config) where
   later m e es k = record { sending = k.sending; sent = sent_later config k.sending es e k.sent; token = k.token }
 
   came : (m : Message) (past : List Entry) (c : S.Call) → Lawful config (OfServer c ∷ past) → (a : Asked) (v : Verdict)
-      → Comes config.limits config.server_szx config.server_setup (server_trace config past) c a v → a.from ≡ client_end
+      → Comes config.limits config.server_szx config.server_setup (server_trace config past) c a v → a.from
+      ≡ config.addresses.client
       → a.token ≡ m.token → AskedIn m past
   came m past c law a v comes from token =
       let k = law.came.0 a v comes from in
@@ -63,6 +64,6 @@ module _ (config : Config) where
   answered m (e ∷ past) law (inr h) = later m e past (answered m past (lawful_back config past e law) h)
 
   pub asked_before : (past : List Entry) (c : C.Call) → Lawful config (OfClient c ∷ past) → (m : Message)
-      → Ever (Hears server_end m) (client_adds config (client_of past) c) → AskedIn m past
+      → Ever (Hears config.addresses.server m) (client_adds config (client_of past) c) → AskedIn m past
   asked_before past c law m h =
       answered m past (lawful_back config past (OfClient c) law) (came_answered config past c law m h)

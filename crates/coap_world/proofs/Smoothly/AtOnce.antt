@@ -26,7 +26,7 @@ use Rattle.coap_server.specs.Follows.Attended.{AllHandedOn}
 use Rattle.coap_server.specs.Law.{ServerLaw}
 use Rattle.coap_server.specs.Trace as S
 use Rattle.coap_world.specs.AtOnce.{WaitsIn, LastWaits, OldWait}
-use Rattle.coap_world.specs.Events.{client_end, server_end, Config}
+use Rattle.coap_world.specs.Events.{Config}
 use Rattle.coap_world.specs.Hops.{server_adds, hops_at, hops_in, hops_of}
 use Rattle.coap_world.specs.Record.{Entry, OfClient, OfServer, Turn, entries_of, client_of, server_trace}
 use Rattle.coap_world.specs.Smooth.{max_age, TakesNoObservation}
@@ -47,7 +47,7 @@ use Rattle.coap_world.proofs.Smoothly.PlainRequests.{was_plain}
 use Rattle.coap_world.proofs.Smoothly.RequestOpen.{HasCon, has_con}
 use Rattle.coap_world.proofs.Smoothly.RequestTaken.{RepliedAt, IsReplied, ComesTo, request_taken, request_acknowledged}
 use Rattle.coap_world.proofs.Delivery.End.{front, front_is}
-use Rattle.coap_world.proofs.Smoothly.Standing.{record_of}
+use Rattle.coap_world.proofs.Smoothly.Standing.{legal_of, record_of}
 use Rattle.coap_world.proofs.Smoothly.WaitsNow.{WaitsNow, waits_now}
 use Rattle.coap_world.proofs.Smoothly.WhereItArrives.{no_near}
 
@@ -120,11 +120,14 @@ module _ (config : Config) where
     calls : List C.Call
     calls = client_of (entries_of past)
 
-    channel : ChannelLaw config.client_setup config.server_setup client_end server_end (hops_of config past)
-    channel = joined.channel config _ past (record_of config past old.stands) old.stands.legal
+    channel : ChannelLaw config.client_setup config.server_setup config.addresses.client config.addresses.server
+        (hops_of config past)
+    channel = joined.channel config _ past (record_of config past old.stands) (legal_of config past old.stands)
 
-    module _ (x : Sending) (o : OpenOf server_end config.client_sizes config.client_setup at x (client_of (entries_of past)))
-        (h : HasCon server_end config.client_sizes config.client_setup at x (client_of (entries_of past)) o) where
+    module _ (x : Sending) (o : OpenOf config.addresses.server config.client_sizes config.client_setup at x
+        (client_of (entries_of past)))
+        (h : HasCon config.addresses.server config.client_sizes config.client_setup at x (client_of (entries_of past))
+        o) where
       abbrev es : List Entry
       es = entries_of past
 
@@ -132,7 +135,8 @@ module _ (config : Config) where
       con = h.con
 
       sent : WasSent config.client_sizes x (client_of (entries_of past))
-      sent = was_sent server_end config.client_sizes config.client_setup at x (client_of (entries_of past)) o
+      sent = was_sent config.addresses.server config.client_sizes config.client_setup at x (client_of (entries_of past))
+          o
 
       begun_there : Ever (λ b. begun b ≡ Some con) (near_of (hops_of config past))
       begun_there = subst (Ever (λ b. begun b ≡ Some con)) (sym (near_is config es)) h.begun_before
@@ -141,7 +145,8 @@ module _ (config : Config) where
       comes =
           let first = h.first in
           let taken = (taken_here config laws.beneath turn past g).by_server con begun_there (omega (arith, first, late)) in
-          let spells = request_spelled config.client_setup (near_of (hops_of config past)) con x channel.near_law
+          let spells = request_spelled config.addresses config.client_setup (near_of (hops_of config past)) con x
+          channel.near_law
           begun_there h.is in
           request_taken config old.stands.range
           (λ t law. laws.handed_on config.limits config.server_szx config.server_setup t law) con x spells
@@ -152,7 +157,7 @@ module _ (config : Config) where
       never : Answered config con x (entries_of past) → ⊥
       never k =
           let r = k.replied in
-          let P = OnNear (ArrivesWithin max_age server_end r.bytes r.reply.at) in
+          let P = OnNear (ArrivesWithin max_age config.addresses.server r.bytes r.reply.at) in
           let adds = server_adds config (server_trace config k.past) k.call in
           let inner : map Far adds ++ hops_in config k.past
           ≡ map Far r.newer ++ (Far r.reply ∷ (map Far r.older ++ hops_in config k.past)) =
@@ -164,14 +169,15 @@ module _ (config : Config) where
           ≡ (behind ++ map Far r.newer) ++ (Far r.reply ∷ (map Far r.older ++ hops_in config k.past)) =
           ap (hops_in config) k.is ∙ front_is config k.newer (OfServer k.call ∷ k.past) ∙ ap (λ l. behind ++ l) inner
           ∙ sym (append_assoc behind (map Far r.newer) (Far r.reply ∷ (map Far r.older ++ hops_in config k.past))) in
-          let out : IsIn (record { to = client_end; bytes = r.bytes }) r.reply.out =
-          subst (IsIn (record { to = client_end; bytes = r.bytes })) (sym r.out) (inl refl) in
+          let out : IsIn (record { to = config.addresses.client; bytes = r.bytes }) r.reply.out =
+          subst (IsIn (record { to = config.addresses.client; bytes = r.bytes })) (sym r.out) (inl refl) in
           let soon = r.soon in
           let first = h.first in
           let got = to_client config past turn g.stands (behind ++ map Far r.newer)
           (map Far r.older ++ hops_in config k.past) r.reply r.bytes all out (omega (arith, soon, first, late)) in
           let newer : Ever P behind =
-          ⊎_elim (λ w. w) (λ w. absurd (no_near (ArrivesWithin max_age server_end r.bytes r.reply.at) r.newer w))
+          ⊎_elim (λ w. w) (λ w. absurd (no_near (ArrivesWithin max_age config.addresses.server r.bytes r.reply.at)
+          r.newer w))
           (Ever_append P behind (map Far r.newer) got) in
           let ack : IsAckWith con x r.bytes r.message =
           record {
@@ -184,30 +190,34 @@ module _ (config : Config) where
           } in
           let there = subst (Sometime (ArrivesBehind config con x r.bytes r.message ack max_age r.reply.at r.sending r.same
           (λ t law. laws.acks config.client_setup _
-          (client_facts.layer server_end config.client_sizes config.client_setup t law)))) (sym k.is)
+          (client_facts.layer config.addresses.server config.client_sizes config.client_setup t law)))) (sym k.is)
           (in_front P r.sending k.newer (OfServer k.call ∷ k.past) r.sent newer) in
           let called = to_calls config con x r.bytes r.message ack max_age r.reply.at r.sending r.same
           (λ t law. laws.acks config.client_setup _
-          (client_facts.layer server_end config.client_sizes config.client_setup t law)) (entries_of past)
+          (client_facts.layer config.addresses.server config.client_sizes config.client_setup t law)) (entries_of past)
           old.stands.client there in
           let plain = was_plain config.client_sizes x (client_of (entries_of past))
-          (laws.observed server_end config.client_sizes config.client_setup (client_of (entries_of past)) old.stands.client)
+          (laws.observed config.addresses.server config.client_sizes config.client_setup (client_of (entries_of past))
+          old.stands.client)
           none sent in
           let acked = acked_before config con x r.bytes r.message ack at (client_of (entries_of past)) old.stands.client
-          (laws.heard server_end config.client_sizes config.client_setup (client_of (entries_of past)) old.stands.client)
-          (laws.own server_end config.client_sizes config.client_setup (client_of (entries_of past)) old.stands.client)
+          (laws.heard config.addresses.server config.client_sizes config.client_setup (client_of (entries_of past))
+          old.stands.client)
+          (laws.own config.addresses.server config.client_sizes config.client_setup (client_of (entries_of past))
+          old.stands.client)
           plain h.is.to o h.alone called in
-          let given : Sometime (OnFarThen (RepliesTo client_end con r.bytes)) (hops_of config past) =
-          subst (Sometime (OnFarThen (RepliesTo client_end con r.bytes))) (sym all)
+          let given : Sometime (OnFarThen (RepliesTo config.addresses.client con r.bytes)) (hops_of config past) =
+          subst (Sometime (OnFarThen (RepliesTo config.addresses.client con r.bytes))) (sym all)
           (Sometime_back _ (behind ++ map Far r.newer) (Far r.reply ∷ (map Far r.older ++ hops_in config k.past))
-          (inl (subst (λ l. RepliesTo client_end con r.bytes l r.reply)
+          (inl (subst (λ l. RepliesTo config.addresses.client con r.bytes l r.reply)
           (ap (λ l. r.older ++ l) (sym (far_is config k.past)) ∙ sym (far_far r.older (hops_in config k.past)))
           r.replies))) in
-          one_reply config.client_setup con acked.con r.bytes r.message (hops_of config past) acked.is h.is.to
+          one_reply config.addresses config.client_setup con acked.con r.bytes r.message (hops_of config past) acked.is
+          h.is.to
           begun_there channel.near_law
-          (laws.acks_replied config.client_setup config.server_setup client_end server_end
+          (laws.acks_replied config.client_setup config.server_setup config.addresses.client config.addresses.server
           (hops_of config past) channel)
-          (laws.replied_once config.client_setup config.server_setup client_end server_end
+          (laws.replied_once config.client_setup config.server_setup config.addresses.client config.addresses.server
           (hops_of config past) channel)
           r.spells r.class given
           (subst (Sometime _) (sym (near_is config es)) acked.taken)
@@ -217,7 +227,8 @@ module _ (config : Config) where
       over stays =
           let first = h.first in
           let taken = (taken_here config laws.beneath turn past g).by_server con begun_there (omega (arith, first, late)) in
-          let spells = request_spelled config.client_setup (near_of (hops_of config past)) con x channel.near_law
+          let spells = request_spelled config.addresses config.client_setup (near_of (hops_of config past)) con x
+          channel.near_law
           begun_there h.is in
           by (request_acknowledged config old.stands.range
           (λ t law. laws.handed_on config.limits config.server_szx config.server_setup t law) con x spells
@@ -241,18 +252,20 @@ module _ (config : Config) where
               }
 
           by : Sometime (IsReplied config con x) (entries_of past)
-              ⊎ Sometime (OnFarThen (EndsWithin max_age client_end con)) (hops_of config past) → ⊥
+              ⊎ Sometime (OnFarThen (EndsWithin max_age config.addresses.client con)) (hops_of config past) → ⊥
           by (inl k) = never (replied_in (entries_of past) k)
           by (inr k) =
               let first = h.first in
-              laws.beneath.ended config.client_setup config.server_setup client_end server_end (hops_of config past) channel
+              laws.beneath.ended config.client_setup config.server_setup config.addresses.client config.addresses.server
+              (hops_of config past) channel
               max_age turn.event.at con (arrive_in_time config past turn g.stands).back_to_client begun_there h.is.to k
               (omega (arith, first, late)) stays
 
       waits : LastWaits config at past
       waits = record {
         sending = x;
-        last = last_of server_end config.client_sizes config.client_setup at x (client_of (entries_of past)) o;
+        last = last_of config.addresses.server config.client_sizes config.client_setup at x
+            (client_of (entries_of past)) o;
         waiting = now.waiting;
         from = now.from;
         token = now.token;
@@ -262,20 +275,23 @@ module _ (config : Config) where
       }
         where
           now : WaitsNow config (h.con.first + max_age) x (entries_of past)
-          now = waits_now config (h.con.first + max_age) x (entries_of past) old.stands.server (none_set past old.stands.made)
+          now = waits_now config (h.con.first + max_age) x (entries_of past) old.stands.server
+              (none_set config.addresses past old.stands.made)
               (⊎_elim (λ w. w) (λ k. absurd (never k)) (either config con x (entries_of past) comes))
 
     pub con_is_over : (x : Sending)
-        (o : OpenOf server_end config.client_sizes config.client_setup at x (client_of (entries_of past)))
-        (h : HasCon server_end config.client_sizes config.client_setup at x (client_of (entries_of past)) o)
+        (o : OpenOf config.addresses.server config.client_sizes config.client_setup at x (client_of (entries_of past)))
+        (h : HasCon config.addresses.server config.client_sizes config.client_setup at x (client_of (entries_of past))
+        o)
         → IsOpen (near_of (hops_of config past)) h.con → ⊥
     con_is_over x o h = over x o h
 
     pub last_waits : LastWaits config at past
     last_waits =
-        let k = open_of server_end config.client_sizes config.client_setup at (client_of (entries_of past))
+        let k = open_of config.addresses.server config.client_sizes config.client_setup at (client_of (entries_of past))
         old.stands.client is_open in
-        waits k.0 k.1 (has_con server_end config.client_sizes config.client_setup at k.0 (client_of (entries_of past))
+        waits k.0 k.1 (has_con config.addresses.server config.client_sizes config.client_setup at k.0
+        (client_of (entries_of past))
         old.stands.client k.1)
 
 -- nothing was observed before either

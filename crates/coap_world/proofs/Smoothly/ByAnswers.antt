@@ -8,7 +8,7 @@ use Rattle.coap_client.specs.Follows.Ends.{ends_as}
 use Rattle.coap_client.specs.Follows.Open.{AllEndInTime}
 use Rattle.coap_client.specs.Trace as C
 use Rattle.coap_client.specs.Trace.{Timeout, Reset, NoResponse}
-use Rattle.coap_world.specs.Events.{client_end, server_end, Config}
+use Rattle.coap_world.specs.Events.{Config}
 use Rattle.coap_world.specs.Hops.{hops_of}
 use Rattle.coap_world.specs.Record.{Turn, entries_of, client_of}
 use Rattle.coap_world.specs.SmoothAnswers.{EndByAnswers}
@@ -34,7 +34,8 @@ module _ (config : Config) where
   pub by_answers : max_open config < 247000 → (turns : List Turn) → Stands config turns → AreYoung config turns
       → Always (λ past c. ends_as c ≢ Some Timeout) (client_of (entries_of turns))
       → AllEndInTime config.client_sizes (client_of (entries_of turns))
-      → ResetsMeant client_end server_end (hops_of config turns) → EndByAnswers config (entries_of turns)
+      → ResetsMeant config.addresses.client config.addresses.server (hops_of config turns)
+      → EndByAnswers config (entries_of turns)
   by_answers short turns s young timeout in_time meant =
       let calls = young_calls config turns s young in
       each (client_of (entries_of turns)) timeout (never_late config short (client_of (entries_of turns)) s.client in_time calls)

@@ -31,10 +31,10 @@ use Rattle.coap_client.specs.Requests.{message_of}
 use Rattle.coap_client.specs.Trace as C
 use Rattle.coap_block.specs.Sizes.{Sizes}
 use Rattle.coap_world.specs.CameFrom.{request_of}
-use Rattle.coap_world.specs.Events.{server_end}
 use Rattle.coap_world.proofs.Delivery.EntriesInTime.{Every}
 use Rattle.coap_world.proofs.Smoothly.Confirms.{IsEntrySo}
 use Rattle.coap_world.proofs.Smoothly.OnlyResponses.{IsResponse, all_respond}
+use Rattle.coap_world.specs.declared.addresses.Addresses.{Addresses}
 
 -- what is sent is the message of an operation
 
@@ -79,21 +79,23 @@ asks_in os _ = method_asks Get
 pub is_request : (x : Sending) → IsMessage x → role_of x.request.code ≡ role.Request
 is_request x k = ap (λ (r : A.Request). role_of r.code) k.is ∙ asks_in k.observations x.operation
 
-pub request_spelled : (setup : Setup) (t : List L.Entry) (con : Open) (x : Sending) → LayerLaw setup t
-    → Ever (λ b. begun b ≡ Some con) t → IsRequestOf server_end con x → Spells con.bytes (request_of con.id x)
-request_spelled setup t con x law h r =
+pub request_spelled : (addresses : Addresses) (setup : Setup) (t : List L.Entry) (con : Open) (x : Sending)
+    → LayerLaw setup t
+    → Ever (λ b. begun b ≡ Some con) t → IsRequestOf addresses.server con x → Spells con.bytes (request_of con.id x)
+request_spelled addresses setup t con x law h r =
     let s : SpellsCon con = spelled_begun setup t con law h in
     let k = s.1.id in
     let e = s.3 in
     let small : con.id < 65536 = omega (arith, k, e) in
     subst (λ z. Spells z (request_of con.id x)) (sym r.bytes) (r.spelled Con con.id small)
 
-pub request_told : (setup : Setup) (t : List L.Entry) (con : Open) (x : Sending) → LayerLaw setup t
-    → Ever (λ b. begun b ≡ Some con) t → IsRequestOf server_end con x → IsMessage x → IsTold con.bytes
-request_told setup t con x law h r m =
+pub request_told : (addresses : Addresses) (setup : Setup) (t : List L.Entry) (con : Open) (x : Sending)
+    → LayerLaw setup t
+    → Ever (λ b. begun b ≡ Some con) t → IsRequestOf addresses.server con x → IsMessage x → IsTold con.bytes
+request_told addresses setup t con x law h r m =
     record {
       message = request_of con.id x;
-      spells = request_spelled setup t con x law h r;
+      spells = request_spelled addresses setup t con x law h r;
       class = inl (is_request x m);
     }
 

@@ -19,7 +19,7 @@ use Rattle.coap_server.specs.Law.{own_of}
 use Rattle.coap_server.specs.Trace as S
 use Rattle.coap_server.proofs.Facts.EachCall.{all_tell_sent}
 use Rattle.coap_server.proofs.Facts.Laws as server_facts
-use Rattle.coap_world.specs.Events.{client_end, server_end, Config}
+use Rattle.coap_world.specs.Events.{Config}
 use Rattle.coap_world.specs.Hops.{server_adds}
 use Rattle.coap_world.specs.Legal.{IsConfig, NotBefore, AllLegal}
 use Rattle.coap_world.specs.Record.{Entry, OfClient, OfServer, Turn, begun_with, entries_of, client_of, server_of}
@@ -46,6 +46,7 @@ use Rattle.coap_world.proofs.Smoothly.TicksInTime.{lifted}
 use Rattle.coap_world.proofs.Smoothly.YoungCalls.{began_at}
 use Rattle.coap_world.proofs.Delivery.ClientTurns.{turn_calls as client_turn_calls}
 use Rattle.coap_world.proofs.Delivery.ServerTurns.{turn_calls as server_turn_calls}
+use Rattle.coap_world.specs.declared.addresses.Addresses.{Addresses}
 
 -- what holds of one holds of each before it
 pub calls_before : (P : List C.Call → C.Call → Type 0) (later older : List Entry) → Always P (client_of (later ++ older))
@@ -55,10 +56,10 @@ calls_before P (OfClient c ∷ later) older h = calls_before P later older h.1
 calls_before P (OfServer c ∷ later) older h = calls_before P later older h
 
 -- moments don't fall
-pub until : (turns : List Turn) → AllLegal turns → (t : ℕ) → NotBefore turns t
+pub until : (addresses : Addresses) (turns : List Turn) → AllLegal addresses turns → (t : ℕ) → NotBefore turns t
     → Always (λ p (u : Turn). u.event.at ≤ t) turns
-until [] legal t h = tt
-until (u ∷ past) legal t h = (h, until past legal.1 t (lifted past u.event.at t h legal.0.later))
+until addresses [] legal t h = tt
+until addresses (u ∷ past) legal t h = (h, until addresses past legal.1 t (lifted past u.event.at t h legal.0.later))
 
 pub of_each : {X : Type 0} (P : X → Type 0) (x : X) (xs : List X) → Each P xs → Ever (λ y. y ≡ x) xs → P x
 of_each P x [] all h = absurd h
@@ -71,27 +72,28 @@ module _ (config : Config) (range : IsConfig config)
   pub record OpensAlone (at : ℕ) (x : Sending) (t : List C.Call) : Type 0 where
     pub observed : AreOfObservations config.client_sizes t
     pub none : Always (λ p c. TakesNoObservation c) t
-    pub of_open : HearsOfOpen server_end config.client_sizes config.client_setup t
+    pub of_open : HearsOfOpen config.addresses.server config.client_sizes config.client_setup t
     pub ends : Always (λ p c. ends_as c ≡ None) t
-    pub is_open : OpenOf server_end config.client_sizes config.client_setup at x t
+    pub is_open : OpenOf config.addresses.server config.client_sizes config.client_setup at x t
 
-  module _ (at : ℕ) (x : Sending) (con : Open) (to : con.to ≡ client_end) where
+  module _ (at : ℕ) (x : Sending) (con : Open) (to : con.to ≡ config.addresses.client) where
     abbrev Begun : List L.Entry → Type 0
     Begun es = Ever (λ b. begun b ≡ Some con) es
 
     carries_here : (past : List Entry) (c : S.Call) → Lawful config (OfServer c ∷ past) → OpensAlone at x (client_of past)
-        → Begun (server_adds config (server_trace config past) c) → CarriesAnswer x con
+        → Begun (server_adds config (server_trace config past) c) → CarriesAnswer config.addresses x con
     carries_here past c law o now =
         by (con_of config.limits config.server_szx config.server_setup (server_trace config past) c con now)
       where
-        by : RespondsTo (own_of config.limits config.server_szx (server_trace config past)) c con.to ⊎ NotifiesTo c con.to → CarriesAnswer x con
+        by : RespondsTo (own_of config.limits config.server_szx (server_trace config past)) c con.to
+            ⊎ NotifiesTo c con.to → CarriesAnswer config.addresses x con
         by (inl r) =
             let token = of_open_exchange config past c law o.observed o.none o.of_open o.ends at x o.is_open r.now
             r.answer r.tick r.asked r.answers (r.from ∙ to) in
             let k = (ticks_answer config range (OfServer c ∷ past) law.server).0 c r.now r.answer r.asked x refl r.tick
             r.answers (r.from ∙ to) token in
             let one = (all_tell_sent config.limits config.server_szx config.server_setup (c ∷ server_trace config past) law.server).0.one in
-            subst (CarriesAnswer x) (one k.0 con k.1 now) k.2
+            subst (CarriesAnswer config.addresses x) (one k.0 con k.1 now) k.2
         by (inr n) =
             let next : IsNextNotice config.limits config.server_szx config.server_setup (server_trace config past) n.now n.notice_of.observer =
             ((server_facts.begins config.limits config.server_szx config.server_setup (c ∷ server_trace config past) law.server).0 n.now n.answer
@@ -110,7 +112,7 @@ module _ (config : Config) (range : IsConfig config)
     -- in calls of the server
     in_calls : (cs : List S.Call) (past : List Entry) → Lawful config (map OfServer cs ++ past)
         → OpensAlone at x (client_of past) → Begun (server_layer config (server_trace config (map OfServer cs ++ past)))
-        → CarriesAnswer x con ⊎ Begun (server_layer config (server_trace config past))
+        → CarriesAnswer config.addresses x con ⊎ Begun (server_layer config (server_trace config past))
     in_calls [] past law o h = inr h
     in_calls (c ∷ cs) past law o h =
         let es : List Entry = map OfServer cs ++ past in
@@ -146,12 +148,14 @@ module _ (config : Config) (range : IsConfig config)
   -- what is open at a turn was open before it, where it began before
   pub opened_before : (turn : Turn) (past : List Turn) → Stands config (turn ∷ past) → (at : ℕ) (x : Sending)
       → at < turn.event.at
-      → OpenOf server_end config.client_sizes config.client_setup at x (client_of (turn.entries ++ entries_of past))
-      → OpenOf server_end config.client_sizes config.client_setup at x (client_of (entries_of past))
+      → OpenOf config.addresses.server config.client_sizes config.client_setup at x
+      (client_of (turn.entries ++ entries_of past))
+      → OpenOf config.addresses.server config.client_sizes config.client_setup at x (client_of (entries_of past))
   opened_before turn past s at x earlier o = by (side_of config turn past s)
     where
-      behind : (cs t : List C.Call) → Every (client.IsAt turn.event.at) cs → OpenOf server_end config.client_sizes config.client_setup at x (cs ++ t)
-          → OpenOf server_end config.client_sizes config.client_setup at x t
+      behind : (cs t : List C.Call) → Every (client.IsAt turn.event.at) cs
+          → OpenOf config.addresses.server config.client_sizes config.client_setup at x (cs ++ t)
+          → OpenOf config.addresses.server config.client_sizes config.client_setup at x t
       behind [] t is_at k = k
       behind (c ∷ cs) t is_at (inl k) =
           let late = began_at config.client_sizes turn.event.at at (cs ++ t) c is_at.0
@@ -160,15 +164,17 @@ module _ (config : Config) (range : IsConfig config)
       behind (c ∷ cs) t is_at (inr k) = behind cs t is_at.1 k.3
 
       by : ClientTurn turn.event.at turn.entries ⊎ ServerTurn turn.event.at turn.entries
-          → OpenOf server_end config.client_sizes config.client_setup at x (client_of (entries_of past))
+          → OpenOf config.addresses.server config.client_sizes config.client_setup at x (client_of (entries_of past))
       by (inr on) =
           let cs : List S.Call = server_turn_calls on.on.outs on.calls in
-          subst (OpenOf server_end config.client_sizes config.client_setup at x) (ap (λ z. client_of (z ++ entries_of past)) on.on.is ∙ client_server cs (entries_of past)) o
+          subst (OpenOf config.addresses.server config.client_sizes config.client_setup at x)
+          (ap (λ z. client_of (z ++ entries_of past)) on.on.is ∙ client_server cs (entries_of past)) o
       by (inl on) =
           let cs : List C.Call = client_turn_calls on.on.outs on.on.reports on.calls in
           behind cs (client_of (entries_of past))
           (client_at turn.event.at on.on.outs on.on.reports on.calls on.at)
-          (subst (OpenOf server_end config.client_sizes config.client_setup at x) (ap (λ z. client_of (z ++ entries_of past)) on.on.is ∙ client_client cs (entries_of past)) o)
+          (subst (OpenOf config.addresses.server config.client_sizes config.client_setup at x)
+          (ap (λ z. client_of (z ++ entries_of past)) on.on.is ∙ client_client cs (entries_of past)) o)
 
   pub alone_before : (turn : Turn) (past : List Turn) → Stands config (turn ∷ past) → (at : ℕ) (x : Sending)
       → at < turn.event.at → OpensAlone at x (client_of (turn.entries ++ entries_of past))
@@ -181,13 +187,14 @@ module _ (config : Config) (range : IsConfig config)
     is_open = opened_before turn past s at x earlier o.is_open;
   }
 
-  module _ (at : ℕ) (x : Sending) (con : Open) (to : con.to ≡ client_end) where
+  module _ (at : ℕ) (x : Sending) (con : Open) (to : con.to ≡ config.addresses.client) where
     abbrev There : List Turn → Type 0
     There turns = Begun at x con to (server_layer config (server_trace config (entries_of turns)))
 
     -- in this turn, or before it
     pub carries_now : (turn : Turn) (past : List Turn) → Stands config (turn ∷ past)
-        → OpensAlone at x (client_of (entries_of past)) → There (turn ∷ past) → CarriesAnswer x con ⊎ There past
+        → OpensAlone at x (client_of (entries_of past)) → There (turn ∷ past) → CarriesAnswer config.addresses x con
+        ⊎ There past
     carries_now turn past s o h = by (side_of config turn past s)
       where
         law : Lawful config (entries_of (turn ∷ past))
@@ -195,7 +202,7 @@ module _ (config : Config) (range : IsConfig config)
             (record { range = s.range; events = s.legal })
 
         by : ClientTurn turn.event.at turn.entries ⊎ ServerTurn turn.event.at turn.entries
-            → CarriesAnswer x con ⊎ There past
+            → CarriesAnswer config.addresses x con ⊎ There past
         by (inl on) =
             let cs : List C.Call = client_turn_calls on.on.outs on.on.reports on.calls in
             inr (subst (λ z. Begun at x con to (server_layer config (z ++ begun_with config)))
@@ -237,7 +244,7 @@ module _ (config : Config) (range : IsConfig config)
 
     -- since the exchange began
     pub carries_since : (turns : List Turn) → Stands config turns → at < con.first
-        → OpensAlone at x (client_of (entries_of turns)) → There turns → CarriesAnswer x con
+        → OpensAlone at x (client_of (entries_of turns)) → There turns → CarriesAnswer config.addresses x con
     carries_since [] s later o h = absurd o.is_open
     carries_since (turn ∷ past) s later o h =
         ⊎_elim (λ k. k) (λ k. carries_since past (before config turn past s) later earlier k)
@@ -249,5 +256,6 @@ module _ (config : Config) (range : IsConfig config)
             moment : at < turn.event.at
             moment =
                 let same : turn.event.at ≤ turn.event.at = omega arith in
-                let k = first_until (turn ∷ past) s turn.event.at (until (turn ∷ past) s.legal turn.event.at same) h in
+                let k = first_until (turn ∷ past) s turn.event.at
+                (until config.addresses (turn ∷ past) s.legal turn.event.at same) h in
                 omega (arith, k, later)

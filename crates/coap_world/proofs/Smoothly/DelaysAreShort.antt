@@ -19,6 +19,7 @@ use Rattle.coap_world.proofs.Delivery.OneEndATurn.{each_one, each_tick}
 use Rattle.coap_world.proofs.Smoothly.Standing.{AllMade}
 use Rattle.coap_world.proofs.Delivery.ClientTurns.{turn_calls as client_turn_calls}
 use Rattle.coap_world.proofs.Delivery.ServerTurns.{turn_calls as server_turn_calls}
+use Rattle.coap_world.specs.declared.addresses.Addresses.{Addresses}
 
 -- the entry sets no delay
 abbrev pub SetsNone : Entry → Type 0
@@ -53,8 +54,8 @@ on_server calls entries h on =
     (none_of_server (server_turn_calls on.outs calls)
     (refl, outs_set_none on.outs calls h))
 
-module _ (past : List Turn) (t : ℕ) (word : ℕ) (refused : Bool) (entries : List Entry) where
-  made_none : (what : What) → Makes past t word what refused entries → Every SetsNone entries
+module _ (addresses : Addresses) (past : List Turn) (t : ℕ) (word : ℕ) (refused : Bool) (entries : List Entry) where
+  made_none : (what : What) → Makes addresses past t word what refused entries → Every SetsNone entries
   made_none (Sets path format body) m =
       on_server m.0 entries (each_one _ NotSet (λ c h. subst NotSet (sym h.2) refl) refused m.0 m.1) m.2
   made_none (Removes path) m =
@@ -70,12 +71,12 @@ module _ (past : List Turn) (t : ℕ) (word : ℕ) (refused : Bool) (entries : L
   ]
   made_none _ m = on_client m.0 entries m.2
 
-pub none_set : (turns : List Turn) → AllMade turns → Every SetsNone (entries_of turns)
-none_set [] made = tt
-none_set (turn ∷ past) made =
+pub none_set : (addresses : Addresses) (turns : List Turn) → AllMade addresses turns → Every SetsNone (entries_of turns)
+none_set addresses [] made = tt
+none_set addresses (turn ∷ past) made =
     every_join SetsNone turn.entries (entries_of past)
-    (made_none past turn.event.at turn.event.word turn.refused turn.entries turn.event.what made.0)
-    (none_set past made.1)
+    (made_none addresses past turn.event.at turn.event.word turn.refused turn.entries turn.event.what made.0)
+    (none_set addresses past made.1)
 
 -- so each was among those
 abbrev pub IsAmong : ℕ → List Delay → Type 0

@@ -26,7 +26,7 @@ use Rattle.coap_client.specs.Trace as C
 use Rattle.coap_client.specs.Trace.{Report, Timeout, NoResponse}
 use Rattle.coap_client.proofs.Facts.Exchanges.{open_runs}
 use Rattle.coap_client.proofs.Facts.Laws.{back}
-use Rattle.coap_world.specs.Events.{server_end, Config}
+use Rattle.coap_world.specs.Events.{Config}
 use Rattle.coap_world.specs.Young.{max_open}
 use Rattle.coap_world.proofs.Smoothly.YoungCalls.{YoungAt}
 
@@ -88,15 +88,17 @@ module _ (config : Config) where
   NotLate past c = ends_as c ≢ Some NoResponse
 
   abbrev Law : List C.Call → Type 0
-  Law t = ClientLaw server_end config.client_sizes config.client_setup t
+  Law t = ClientLaw config.addresses.server config.client_sizes config.client_setup t
 
   pub never_late : max_open config < 247000 → (t : List C.Call) → Law t → AllEndInTime config.client_sizes t → Always (YoungAt config) t
       → Always NotLate t
   never_late short [] law in_time young = tt
   never_late short (c ∷ t) law in_time young = (
-    λ is. (let k = open_at_end server_end config.client_sizes config.client_setup t c law NoResponse is (inr refl) in
+    λ is. (let k = open_at_end config.addresses.server config.client_sizes config.client_setup t c law NoResponse is
+        (inr refl) in
         let late = (in_time.0 k.0 k.1).no_response is in
         let old = young.0.moment k.0 k.1 in
         absurd (omega (arith, late, old, short))),
-    never_late short t (back server_end config.client_sizes config.client_setup (c ∷ []) t law) in_time.1 young.1,
+    never_late short t (back config.addresses.server config.client_sizes config.client_setup (c ∷ []) t law) in_time.1
+        young.1,
   )

@@ -30,7 +30,7 @@ use Rattle.coap_server.specs.Law.{own_of as S_own}
 use Rattle.coap_server.specs.Trace as S
 use Rattle.coap_server.proofs.Facts.Laws as server_facts
 use Rattle.coap_world.specs.Answers.{IsAnswer, replies, continues, refuses, notifies, AnswersAt}
-use Rattle.coap_world.specs.Events.{client_end, server_end, Config}
+use Rattle.coap_world.specs.Events.{Config}
 use Rattle.coap_world.specs.Hops.{server_adds}
 use Rattle.coap_world.specs.Record.{Entry, OfClient, OfServer, client_of, server_trace, settings}
 use Rattle.coap_world.specs.Serves.{BroughtAt}
@@ -96,7 +96,7 @@ module _ (config : Config) where
     arrives : is_some (arrived_at e) ≡ true
 
   comes_sent : (past : List Entry) (c : S.Call) (a : Asked) (v : Verdict) → Lawful config (OfServer c ∷ past)
-      → Comes config.limits config.server_szx config.server_setup (trace past) c a v → a.from ≡ client_end
+      → Comes config.limits config.server_szx config.server_setup (trace past) c a v → a.from ≡ config.addresses.client
       → HandsSent a.token past (OfServer c)
   comes_sent past c a v law comes from =
       let k = law.came.0 a v comes from in
@@ -115,7 +115,7 @@ module _ (config : Config) where
             ∙ ap (λ u. is_some (came_at at.fed.now u)) up.2.answer;
       }
 
-  brought_sent : (a : Asked) (q : Question) (w : List Entry) → Lawful config w → a.from ≡ client_end
+  brought_sent : (a : Asked) (q : Question) (w : List Entry) → Lawful config w → a.from ≡ config.addresses.client
       → Sometime (BroughtAt config a q) w → Sometime (HandsSent a.token) w
   brought_sent a q [] law from h = h
   brought_sent a q (OfClient c ∷ w) law from (inl h) = absurd h
@@ -124,7 +124,7 @@ module _ (config : Config) where
 
   -- a request that is served was handed up, here or before
   served_sent : (past : List Entry) (c : S.Call) → Lawful config (OfServer c ∷ past) → (x : Serving)
-      → serving (S_own config.limits config.server_szx (trace past)) c ≡ Some x → x.asked.from ≡ client_end
+      → serving (S_own config.limits config.server_szx (trace past)) c ≡ Some x → x.asked.from ≡ config.addresses.client
       → Sometime (HandsSent x.asked.token) (OfServer c ∷ past)
   served_sent past c law x here from =
       brought_sent x.asked x.question (OfServer c ∷ past) law from
@@ -132,7 +132,7 @@ module _ (config : Config) where
       ((server_facts.handed config.limits config.server_szx config.server_setup (c ∷ trace past) law.server).0 x here))
 
   -- .. and so was a registration
-  made_sent : (o : Observer) (w : List Entry) → Lawful config w → o.to ≡ client_end
+  made_sent : (o : Observer) (w : List Entry) → Lawful config w → o.to ≡ config.addresses.client
       → WasMade config.limits config.server_szx (trace w) o → Sometime (HandsSent o.token) w
   made_sent o [] law to h = absurd (none_made config o (settings config) h)
   made_sent o (OfClient c ∷ w) law to h = inr (made_sent o w (lawful_back config w (OfClient c) law) to h)
@@ -184,7 +184,7 @@ module _ (config : Config) where
   -- from now back to where the request of the exchange was handed up, no answer is heard
   back_to : (at : ℕ) (x : Sending) → ((y : Sending) → Deregisters y x → ⊥) → (es : List Entry)
       → OwnTokens config.client_sizes (client_of es)
-      → OpenOf server_end config.client_sizes config.client_setup at x (client_of es)
+      → OpenOf config.addresses.server config.client_sizes config.client_setup at x (client_of es)
       → Sometime (HandsSent x.token) es → CameSince es
   back_to at x apart [] own o h = h
   back_to at x apart (OfServer c ∷ past) own o (inl h) = inl h.arrives
@@ -196,9 +196,9 @@ module _ (config : Config) where
   back_to at x apart (OfClient c ∷ past) own (inr o) (inr h) =
       inr (silent c o.1, back_to at x apart past own.1 o.3 h)
 
-  module _ (own_tokens : (t : List C.Call) → ClientLaw server_end config.client_sizes config.client_setup t
+  module _ (own_tokens : (t : List C.Call) → ClientLaw config.addresses.server config.client_sizes config.client_setup t
       → OwnTokens config.client_sizes t)
-      (alone : (t : List C.Call) → ClientLaw server_end config.client_sizes config.client_setup t
+      (alone : (t : List C.Call) → ClientLaw config.addresses.server config.client_sizes config.client_setup t
       → CallsAlone config.client_sizes t) where
     came_since : (past : List Entry) (c : C.Call) → Lawful config (OfClient c ∷ past)
         → NoneIsTaken (c ∷ client_of past) → (m : Message) → hears c ≡ Some m → CameSince past
@@ -206,15 +206,15 @@ module _ (config : Config) where
         let before = lawful_back config past (OfClient c) law in
         let sizes : Sizes = config.client_sizes in
         let setup : Setup = config.client_setup in
-        let h : IsOfOpen server_end sizes setup (client_of past) m =
-        (hears_of_open server_end sizes setup (c ∷ client_of past) law.client).0 m is in
-        let o = open_of server_end sizes setup h.since (client_of past) before.client h.is_open in
-        let r = runs_of server_end sizes setup h.since o.0 (client_of past) before.client o.1 in
+        let h : IsOfOpen config.addresses.server sizes setup (client_of past) m =
+        (hears_of_open config.addresses.server sizes setup (c ∷ client_of past) law.client).0 m is in
+        let o = open_of config.addresses.server sizes setup h.since (client_of past) before.client h.is_open in
+        let r = runs_of config.addresses.server sizes setup h.since o.0 (client_of past) before.client o.1 in
         let both : Some h.runs.exchange ≡ Some r.exchange = sym h.runs.runs ∙ r.runs in
         let same : h.runs.exchange ≡ r.exchange = cc both in
         let token : m.token ≡ (o.0).token = h.token ∙ ap (λ (y : Exchange). y.token) same ∙ r.token in
         let lasts : Some h.runs.sending ≡ Some o.0 = sym h.runs.last_sent
-        ∙ last_of server_end sizes setup h.since o.0 (client_of past) o.1 in
+        ∙ last_of config.addresses.server sizes setup h.since o.0 (client_of past) o.1 in
         let last : h.runs.sending ≡ o.0 = cc lasts in
         let calls : is_call h.runs.operation ≡ true =
         (alone (c ∷ client_of past) law.client none).0.runs h.runs.operation h.runs.operates in

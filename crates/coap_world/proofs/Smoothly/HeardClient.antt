@@ -8,7 +8,7 @@ use Rattle.coap_layer.specs.Trace as L
 use Rattle.coap_layer.proofs.Facts.Hops.{far_ever}
 use Rattle.coap_server.specs.Follows.Observes.{AreObservers}
 use Rattle.coap_server.specs.Trace as S
-use Rattle.coap_world.specs.Events.{client_end, server_end, Config, What, Sets, Removes, TickServer, Deliver}
+use Rattle.coap_world.specs.Events.{Config, What, Sets, Removes, TickServer, Deliver}
 use Rattle.coap_world.specs.Events.{StrangerToClient, StrangerToServer}
 use Rattle.coap_world.specs.Hops.{server_adds, SendsAt, SentIn, hops_of}
 use Rattle.coap_client.specs.Trace as C
@@ -17,7 +17,6 @@ use Rattle.coap_world.specs.Record.{given_in, entries_of, server_of, server_trac
 use Rattle.coap_world.specs.Smooth.{IsOfAnEnd, NoStranger}
 use Rattle.coap_world.proofs.Delivery.EntriesInTime.{Every, every_join, every_map, Timely}
 use Rattle.coap_world.proofs.Delivery.HopsAreEntries.{server_layer, server_next, far_is}
-use Rattle.coap_world.proofs.Delivery.HopsAreFair.{apart}
 use Rattle.coap_world.proofs.Delivery.OneEndATurn.{each_one, each_tick, server_client, server_server}
 use Rattle.coap_world.proofs.Delivery.ServerInTime as server
 use Rattle.coap_world.proofs.Delivery.ServerTurns.{all_at as server_at}
@@ -25,46 +24,49 @@ use Rattle.coap_world.proofs.Smoothly.Standing.{Stands, before, ran, turned}
 use Rattle.coap_world.proofs.Smoothly.ToClient.{IsFromClient, GoesToClient, HeardClient, all_to_client}
 use Rattle.coap_world.proofs.Delivery.ClientTurns.{turn_calls as client_turn_calls}
 use Rattle.coap_world.proofs.Delivery.ServerTurns.{turn_calls as server_turn_calls}
+use Rattle.coap_world.specs.declared.addresses.Addresses.{Addresses}
 
-abbrev FeedsFromClient : S.Call → Type 0
-FeedsFromClient c = (from : Endpoint) (bytes : List ℕ) → server.Fed c from bytes → from ≡ client_end
+abbrev FeedsFromClient : Addresses → S.Call → Type 0
+FeedsFromClient addresses c = (from : Endpoint) (bytes : List ℕ) → server.Fed c from bytes → from ≡ addresses.client
 
 -- a turn of the server in which it hears from the client alone
-record HearsTurn (t : ℕ) (entries : List Entry) : Type 0 where
+record HearsTurn (addresses : Addresses) (t : ℕ) (entries : List Entry) : Type 0 where
   calls : List S.Call
   on : OnServer calls entries
   at : Every (server.IsAt t) calls
-  from : Every FeedsFromClient calls
+  from : Every (FeedsFromClient addresses) calls
 
-of_feed : (c : S.Call) (now word : ℕ) (source : Endpoint) (bytes : List ℕ) (up : _) (came : _) (h : _) (below : _)
-    → c ≡ S.Feeds now source bytes word up came h below → source ≡ client_end → FeedsFromClient c
-of_feed c now word source bytes up came h below is client from other f =
+of_feed : (addresses : Addresses) (c : S.Call) (now word : ℕ) (source : Endpoint) (bytes : List ℕ) (up : _) (came : _)
+    (h : _) (below : _)
+    → c ≡ S.Feeds now source bytes word up came h below → source ≡ addresses.client → FeedsFromClient addresses c
+of_feed addresses c now word source bytes up came h below is client from other f =
     let same : S.Feeds now source bytes word up came h below ≡ S.Feeds f.0 from other f.1 f.2 f.3 f.4 f.5 = sym is ∙ f.6 in
     let whose : source ≡ from = cc same in
     sym whose ∙ client
 
-module _ (past : List Turn) (t : ℕ) (word : ℕ) (refused : _) (entries : List Entry)
-    (given : (number : ℕ) (g : Given) → IsNumber number g past → g.packet.to ≡ server_end → g.from ≡ client_end) where
-  of_one : (what : What) → Makes past t word what refused entries → IsOfAnEnd what
-      → ((calls : List C.Call) × OnClient calls entries) ⊎ HearsTurn t entries
+module _ (addresses : Addresses) (past : List Turn) (t : ℕ) (word : ℕ) (refused : _) (entries : List Entry)
+    (given : (number : ℕ) (g : Given) → IsNumber addresses number g past → g.packet.to ≡ addresses.server → g.from
+    ≡ addresses.client) where
+  of_one : (what : What) → Makes addresses past t word what refused entries → IsOfAnEnd what
+      → ((calls : List C.Call) × OnClient calls entries) ⊎ HearsTurn addresses t entries
   of_one (Sets path format body) m smooth = inr (record {
     calls = m.0;
     on = m.2;
     at = each_one _ (server.IsAt t) (λ c h. subst (server.IsAt t) (sym h.2) refl) refused m.0 m.1;
-    from = each_one _ FeedsFromClient (λ c h from bytes f. absurd (cc (sym h.2 ∙ f.6))) refused m.0 m.1;
+    from = each_one _ (FeedsFromClient addresses) (λ c h from bytes f. absurd (cc (sym h.2 ∙ f.6))) refused m.0 m.1;
   })
   of_one (Removes path) m smooth = inr (record {
     calls = m.0;
     on = m.2;
     at = each_one _ (server.IsAt t) (λ c h. subst (server.IsAt t) (sym h.2) refl) false m.0 m.1.0;
-    from = each_one _ FeedsFromClient (λ c h from bytes f. absurd (cc (sym h.2 ∙ f.6))) false m.0 m.1.0;
+    from = each_one _ (FeedsFromClient addresses) (λ c h from bytes f. absurd (cc (sym h.2 ∙ f.6))) false m.0 m.1.0;
   })
   of_one TickServer m smooth = inr (record {
     calls = m.0;
     on = m.2;
     at = each_tick (ServerTick t word) (server.IsAt t)
         (λ b c h. subst (server.IsAt t) (sym h.6) refl) refused m.0 m.1;
-    from = each_tick (ServerTick t word) FeedsFromClient
+    from = each_tick (ServerTick t word) (FeedsFromClient addresses)
         (λ b c h from bytes f. absurd (cc (sym h.6 ∙ f.6))) refused m.0 m.1;
   })
   of_one (StrangerToServer from bytes) m smooth = absurd smooth
@@ -74,8 +76,9 @@ module _ (past : List Turn) (t : ℕ) (word : ℕ) (refused : _) (entries : List
       calls = d.1;
       on = d.3;
       at = each_one _ (server.IsAt t) (λ c h. subst (server.IsAt t) (sym h.4) refl) refused d.1 d.2;
-      from = each_one _ FeedsFromClient
-          (λ c h. of_feed c t word m.0.from m.0.packet.bytes h.0 h.1 h.2 h.3 h.4 (given number m.0 m.1 d.0)) refused d.1
+      from = each_one _ (FeedsFromClient addresses)
+          (λ c h. of_feed addresses c t word m.0.from m.0.packet.bytes h.0 h.1 h.2 h.3 h.4 (given number m.0 m.1 d.0))
+          refused d.1
           d.2;
     })
     | inr d ↦ inl (d.1, d.3)
@@ -88,32 +91,35 @@ module _ (config : Config) (observers : (t : List S.Call) → AreObservers confi
 
   -- what it gives out is addressed to the client, so what is addressed to it was given out by the client
   given_by_client : (past : List Turn) → Stands config past → Heard past → (number : ℕ) (g : Given)
-      → IsNumber number g past → g.packet.to ≡ server_end → g.from ≡ client_end
+      → IsNumber config.addresses number g past → g.packet.to ≡ config.addresses.server → g.from
+      ≡ config.addresses.client
   given_by_client past s heard number g is to =
-      by ((ran config past s).sent g (Ever_of_Sometime _ (λ h. h ≡ g) (λ older h k. inl k.0) (all_of given_in past) is))
+      by ((ran config past s).sent g (Ever_of_Sometime _ (λ h. h ≡ g) (λ older h k. inl k.0)
+      (all_of (given_in config.addresses) past) is))
     where
-      found : (es : List L.Entry) → Every GoesToClient es → Ever (SendsAt g.at g.packet) es → g.packet.to ≡ client_end
+      found : (es : List L.Entry) → Every (GoesToClient config.addresses) es → Ever (SendsAt g.at g.packet) es
+          → g.packet.to ≡ config.addresses.client
       found [] all h = absurd h
       found (e ∷ es) all (inl h) = all.0 g.packet h.out
       found (e ∷ es) all (inr h) = found es all.1 h
 
-      by : SentIn (hops_of config past) g → g.from ≡ client_end
+      by : SentIn config.addresses (hops_of config past) g → g.from ≡ config.addresses.client
       by (inl k) = k.0
       by (inr k) =
           let sent = subst (Ever (SendsAt g.at g.packet)) (far_is config (entries_of past))
           (far_ever (SendsAt g.at g.packet) (hops_of config past) k.1) in
           let there = found (server_layer config (server_trace config (entries_of past)))
           (all_to_client config observers (server_trace config (entries_of past)) s.server heard) sent in
-          absurd (apart (sym there ∙ to))
+          absurd (s.range.addresses.two (sym there ∙ to))
 
   -- the entries of calls that hear from the client
-  adds_heard : (t : ℕ) (cs past : List S.Call) → Every (server.IsAt t) cs → Every FeedsFromClient cs
+  adds_heard : (t : ℕ) (cs past : List S.Call) → Every (server.IsAt t) cs → Every (FeedsFromClient config.addresses) cs
       → server.IsBy config t past → HeardClient config observers past → HeardClient config observers (cs ++ past)
   adds_heard t [] past at_t from by heard = heard
   adds_heard t (c ∷ cs) past at_t from by heard =
-      subst (Every IsFromClient) (sym (server_next config (cs ++ past) c))
-      (every_join IsFromClient (server_adds config (cs ++ past) c) (server_layer config (cs ++ past))
-      (every_map (Timely t (server.Fed c)) IsFromClient
+      subst (Every (IsFromClient config.addresses)) (sym (server_next config (cs ++ past) c))
+      (every_join (IsFromClient config.addresses) (server_adds config (cs ++ past) c) (server_layer config (cs ++ past))
+      (every_map (Timely t (server.Fed c)) (IsFromClient config.addresses)
       (λ e k source bytes is. from.0 source bytes (k.fed source bytes is).0) (server_adds config (cs ++ past) c)
       (server.adds_timely config t (cs ++ past) c (by_calls cs at_t.1) at_t.0))
       (adds_heard t cs past at_t.1 from.1 by heard))
@@ -122,21 +128,22 @@ module _ (config : Config) (observers : (t : List S.Call) → AreObservers confi
       by_calls [] at_t = by
       by_calls (d ∷ ds) at_t = server.next_by config t (ds ++ past) d (by_calls ds at_t.1) at_t.0
 
-  outs_from : (outs : List L.Packet) (calls : List S.Call) → Every FeedsFromClient calls
-      → Every FeedsFromClient (S.NextOut None ∷ (map (λ p. S.NextOut (Some p)) outs ++ calls))
+  outs_from : (outs : List L.Packet) (calls : List S.Call) → Every (FeedsFromClient config.addresses) calls
+      → Every (FeedsFromClient config.addresses) (S.NextOut None ∷ (map (λ p. S.NextOut (Some p)) outs ++ calls))
   outs_from outs calls h = (λ from bytes f. absurd (cc f.6), taken outs)
     where
-      taken : (ps : List L.Packet) → Every FeedsFromClient (map (λ p. S.NextOut (Some p)) ps ++ calls)
+      taken : (ps : List L.Packet) → Every (FeedsFromClient config.addresses)
+          (map (λ p. S.NextOut (Some p)) ps ++ calls)
       taken [] = h
       taken (p ∷ ps) = (λ from bytes f. absurd (cc f.6), taken ps)
 
   one_more : (turn : Turn) (past : List Turn) → Stands config (turn ∷ past) → IsOfAnEnd turn.event.what → Heard past
       → Heard (turn ∷ past)
   one_more turn past s mine older =
-      by (of_one past turn.event.at turn.event.word turn.refused turn.entries
+      by (of_one config.addresses past turn.event.at turn.event.word turn.refused turn.entries
       (given_by_client past (before config turn past s) older) turn.event.what s.made.0 mine)
     where
-      by : ((calls : List C.Call) × OnClient calls turn.entries) ⊎ HearsTurn turn.event.at turn.entries
+      by : ((calls : List C.Call) × OnClient calls turn.entries) ⊎ HearsTurn config.addresses turn.event.at turn.entries
           → Heard (turn ∷ past)
       by (inl on) =
           let cs : List C.Call = client_turn_calls on.1.outs on.1.reports on.0 in
@@ -153,5 +160,5 @@ module _ (config : Config) (observers : (t : List S.Call) → AreObservers confi
           (turned config turn past s).still.server older)
 
   pub heard_client : (turns : List Turn) → Stands config turns → NoStranger turns → Heard turns
-  heard_client [] s none = subst (Every IsFromClient) (far_is config []) tt
+  heard_client [] s none = subst (Every (IsFromClient config.addresses)) (far_is config []) tt
   heard_client (turn ∷ past) s none = one_more turn past s none.0 (heard_client past (before config turn past s) none.1)

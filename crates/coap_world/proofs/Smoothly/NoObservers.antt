@@ -24,7 +24,7 @@ use Rattle.coap_client.specs.Requests.{block1_option, block_option, options_of, 
 use Rattle.coap_client.specs.Trace.{Request}
 use Rattle.coap_server.specs.Follows.Observes.{WasMade}
 use Rattle.coap_server.specs.Observers.{observes, is_number, is_get}
-use Rattle.coap_world.specs.Events.{client_end, Config}
+use Rattle.coap_world.specs.Events.{Config}
 use Rattle.coap_world.specs.Record.{Entry, OfClient, OfServer, client_of, server_trace, settings}
 use Rattle.coap_world.specs.Smooth.{TakesNoObservation}
 use Rattle.coap_world.proofs.Delivery.EntriesInTime.{Every, every_join}
@@ -127,7 +127,7 @@ observes_none q options is other h = by (is_get q.method) h
 module _ (config : Config) where
   pub none_made : (o : Observer) (es : List Entry) → Lawful config es
       → AreOfObservations config.client_sizes (client_of es) → Always (λ p d. TakesNoObservation d) (client_of es)
-      → o.to ≡ client_end → WasMade config.limits config.server_szx (server_trace config es) o → ⊥
+      → o.to ≡ config.addresses.client → WasMade config.limits config.server_szx (server_trace config es) o → ⊥
   none_made o [] law observed none to h = none_begun config o (settings config) h
   none_made o (OfClient c ∷ past) law observed none to h =
       none_made o past (lawful_back config past (OfClient c) law) observed.1 none.1 to h

@@ -46,7 +46,7 @@ use Rattle.coap_client.proofs.Facts.Laws as client_facts
 use Rattle.coap_server.specs.Follows.Rejects.{RejectsSo}
 use Rattle.coap_server.proofs.Facts.Laws as server_facts
 use Rattle.coap_world.specs.CameFrom.{request_of}
-use Rattle.coap_world.specs.Events.{client_end, server_end, Config}
+use Rattle.coap_world.specs.Events.{Config}
 use Rattle.coap_world.specs.Hops.{client_asks, client_asked, client_adds, server_adds, hops_in}
 use Rattle.coap_world.specs.Record.{Entry, OfClient, OfServer, client_of, server_trace}
 use Rattle.coap_world.specs.Young.{max_open}
@@ -63,6 +63,7 @@ use Rattle.coap_world.proofs.Smoothly.OthersTakeNone.{Behind, client_feeds}
 use Rattle.coap_world.proofs.Smoothly.RequestOpen.{HasCon, has_con, alone_now}
 use Rattle.coap_world.proofs.Smoothly.Standing.{ForClient, ForServer, client_behind, server_behind}
 use Rattle.coap_world.proofs.Smoothly.YoungCalls.{YoungAt}
+use Rattle.coap_world.specs.declared.addresses.Addresses.{Addresses}
 
 -- A Reset that is told was handed up, for the request of the exchange that runs.
 record IsReset (s : E.Own) (from : Endpoint) (up : L.Answer) : Type 0 where
@@ -124,19 +125,21 @@ takes_it setup past e from bytes id here call up =
     arrived setup past e from bytes id up row.0 row.1 row.2
 
 -- At the other end this request was handed up, and no request is rejected.
-module _ (setup : Setup) (con : Open) (n : Message) (spells : Spells con.bytes n) (kind : n.kind ≡ Con)
+module _ (addresses : Addresses) (setup : Setup) (con : Open) (n : Message) (spells : Spells con.bytes n)
+    (kind : n.kind ≡ Con)
     (class : role_of n.code ≡ role.Request) where
-  up_as : (past : List L.Entry) (y : L.Entry) → Stands setup past y → Takes client_end con y
-      → handed y ≡ Some (record { from = client_end; message = n })
+  up_as : (past : List L.Entry) (y : L.Entry) → Stands setup past y → Takes addresses.client con y
+      → handed y ≡ Some (record { from = addresses.client; message = n })
   up_as past y here k =
-      let answer = as_request setup past y client_end con.id con.bytes n here k.call spells kind k.up class in
-      ap (λ d. handed_in d y.answer) k.call ∙ ap (λ z. handed_in (L.Receive client_end con.bytes) z) answer
+      let answer = as_request setup past y addresses.client con.id con.bytes n here k.call spells kind k.up class in
+      ap (λ d. handed_in d y.answer) k.call ∙ ap (λ z. handed_in (L.Receive addresses.client con.bytes) z) answer
 
   latest_is : (t : List L.Entry) (m : Incoming) (at : ℕ) → LayerLaw setup t
-      → Since (λ y. Takes client_end con y × (y.at ≡ at)) (λ y. handed y ≡ None) t → IsLatest t at m → m.message ≡ n
+      → Since (λ y. Takes addresses.client con y × (y.at ≡ at)) (λ y. handed y ≡ None) t → IsLatest t at m → m.message
+      ≡ n
   latest_is [] m at law a b = absurd a
   latest_is (y ∷ t) m at law (inl a) (inl b) =
-      let first : Incoming = record { from = client_end; message = n } in
+      let first : Incoming = record { from = addresses.client; message = n } in
       let both : Some first ≡ Some m = sym (up_as t y law.0 a.0) ∙ b.0 in
       let same : first ≡ m = cc both in
       ap (λ (z : Incoming). z.message) (sym same)
@@ -147,13 +150,13 @@ module _ (setup : Setup) (con : Open) (n : Message) (spells : Spells con.bytes n
   module _ (bytes : List ℕ) (reset : Message) (spelled : Spells bytes reset)
       (is_reset : reset.kind ≡ Rst) where
     never_rejected : (hs : List Hop) → LayerLaw setup (far_of hs) → Always RejectsSo (far_of hs)
-        → Sometime (OnFarThen (RepliesTo client_end con bytes)) hs → ⊥
+        → Sometime (OnFarThen (RepliesTo addresses.client con bytes)) hs → ⊥
     never_rejected [] law so h = h
     never_rejected (Near e ∷ hs) law so (inl h) = h
     never_rejected (Near e ∷ hs) law so (inr h) = never_rejected hs law so h
     never_rejected (Far e ∷ hs) law so (inr h) = never_rejected hs law.1 so.1 h
     never_rejected (Far e ∷ hs) law so (inl h) =
-        let k = so.0 client_end con.id bytes h.call in
+        let k = so.0 addresses.client con.id bytes h.call in
         let same = latest_is (far_of hs) k.at_once.to_what e.at law.1 h.to_it k.at_once.latest in
         let alike : reset ≡ k.at_once.reply = one_message bytes reset k.at_once.reply spelled k.at_once.spells in
         let rst : k.at_once.reply.kind ≡ Rst = ap (λ (z : Message). z.kind) (sym alike) ∙ is_reset in
@@ -162,13 +165,13 @@ module _ (setup : Setup) (con : Open) (n : Message) (spells : Spells con.bytes n
 
 module _ (config : Config) where
   abbrev Law : List C.Call → Type 0
-  Law t = ClientLaw server_end config.client_sizes config.client_setup t
+  Law t = ClientLaw config.addresses.server config.client_sizes config.client_setup t
 
   abbrev layer : List C.Call → List L.Entry
-  layer t = layer_of server_end config.client_sizes config.client_setup t
+  layer t = layer_of config.addresses.server config.client_sizes config.client_setup t
 
   abbrev Meant : List Entry → Type 0
-  Meant es = ResetsMeant client_end server_end (hops_in config es)
+  Meant es = ResetsMeant config.addresses.client config.addresses.server (hops_in config es)
 
   module _ (es : List Entry) (now : ℕ) (from : Endpoint) (bytes : List ℕ) (w : ℕ) (up : L.Answer) (settled : Bool)
       (sent : L.Answer) (token : Result (List ℕ) AskRefusal) (kept : Bool) where
@@ -179,7 +182,7 @@ module _ (config : Config) where
     t = client_of es
 
     abbrev here : E.Own
-    here = X.own_of server_end config.client_setup (lower_of config.client_sizes t)
+    here = X.own_of config.addresses.server config.client_setup (lower_of config.client_sizes t)
 
     module _ (law : Law (c ∷ t)) where
       told_here : IsReset here from up
@@ -187,17 +190,17 @@ module _ (config : Config) where
           let m : ℕ = max (own_of config.client_sizes t).clock now in
           let f = effect (own_of config.client_sizes t) c in
           let input : E.Call = E.Receive m from bytes up settled (Some event_is.Reset) in
-          let right = at_input (λ p d. P.IsRight (X.own_of server_end config.client_setup p) d)
+          let right = at_input (λ p d. P.IsRight (X.own_of config.addresses.server config.client_setup p) d)
           (deeds (close m f token).deed (close m f token).own m w sent token kept)
           (deeds f.deed f.own m w sent token kept) input (lower_of config.client_sizes t) law.exchanges.rows in
           reset_by here from up (verdict_on here from up) (verdict_fits here from up) right.0
 
       old : Law t
-      old = client_facts.back server_end config.client_sizes config.client_setup (c ∷ []) t law
+      old = client_facts.back config.addresses.server config.client_sizes config.client_setup (c ∷ []) t law
 
-      there : from ≡ server_end
+      there : from ≡ config.addresses.server
       there = same_endpoint_is from here.server told_here.of.there
-          ∙ server_is server_end config.client_setup (lower_of config.client_sizes t)
+          ∙ server_is config.addresses.server config.client_setup (lower_of config.client_sizes t)
 
       -- the arrival is the oldest of what the call adds
       b : Behind (L.Receive from bytes) up (client_asks config t c)
@@ -222,14 +225,15 @@ module _ (config : Config) where
       adds = parts first (client_asks config t c) (L.Receive from bytes) up b
 
       whole : layer (c ∷ t) ≡ newest ++ (e ∷ layer t)
-      whole = client_facts.layer_next server_end config.client_sizes config.client_setup t c ∙ ap (λ a. a ++ layer t) adds
+      whole = client_facts.layer_next config.addresses.server config.client_sizes config.client_setup t c
+          ∙ ap (λ a. a ++ layer t) adds
           ∙ append_assoc newest (e ∷ []) (layer t)
 
       taken : TakesIt (layer t) from bytes told_here.id
       taken =
           let stands = (Always_back (Stands config.client_setup) newest (e ∷ layer t)
           (subst (LayerLaw config.client_setup) whole
-          (client_facts.layer server_end config.client_sizes config.client_setup (c ∷ t) law))).0 in
+          (client_facts.layer config.addresses.server config.client_sizes config.client_setup (c ∷ t) law))).0 in
           takes_it config.client_setup (layer t) e from bytes told_here.id stands refl (answer ∙ told_here.is)
 
       hops : hops_in config (OfClient c ∷ es) ≡ map Near newest ++ (Near e ∷ hops_in config es)
@@ -239,31 +243,35 @@ module _ (config : Config) where
 
       module _ (server : ForServer config es) (young : YoungAt config t c) (meant : Meant (OfClient c ∷ es)) (at : ℕ)
           (is_open : IsOpenSince config.client_sizes at t) (x : Sending)
-          (o : OpenOf server_end config.client_sizes config.client_setup at x t)
-          (r : Runs server_end config.client_sizes config.client_setup at x t) (short : max_open config < 247000) where
+          (o : OpenOf config.addresses.server config.client_sizes config.client_setup at x t)
+          (r : Runs config.addresses.server config.client_sizes config.client_setup at x t)
+          (short : max_open config < 247000) where
         soon : e.at ≤ at + max_open config
         soon = every_last (λ (y : L.Entry). y.at ≤ at + max_open config) newest e
             (subst (Every (λ (y : L.Entry). y.at ≤ at + max_open config)) adds (young.adds at is_open))
 
-        by_wait : Waited server_end config.client_sizes config.client_setup r.exchange t → ⊥
+        by_wait : Waited config.addresses.server config.client_sizes config.client_setup r.exchange t → ⊥
         by_wait k = subst (Ever (λ z. is_to from told_here.id z ≡ true)) k.none taken.matches
 
-        by_con : HasCon server_end config.client_sizes config.client_setup at x t o
-            → Lonely server_end config.client_sizes config.client_setup at x r.exchange t → ⊥
+        by_con : HasCon config.addresses.server config.client_sizes config.client_setup at x t o
+            → Lonely config.addresses.server config.client_sizes config.client_setup at x r.exchange t → ⊥
         by_con h k =
             let con : Open = k.con in
             let stays : IsOpen (layer t) (as_begun con) =
             subst (Ever (λ z. as_begun z ≡ as_begun con)) (sym k.only) (inl refl) in
             let same : as_begun con ≡ h.con =
-            alone_now server_end config.client_sizes config.client_setup h.con at x t o h.alone (as_begun con) stays in
-            let to : con.to ≡ server_end = ap (λ (z : Open). z.to) same ∙ h.is.to in
+            alone_now config.addresses.server config.client_sizes config.client_setup h.con at x t o h.alone
+            (as_begun con) stays in
+            let to : con.to ≡ config.addresses.server = ap (λ (z : Open). z.to) same ∙ h.is.to in
             let n : Message = request_of h.con.id x in
             let spells : Spells con.bytes n =
             subst (λ b. Spells b n) (sym (ap (λ (z : Open). z.bytes) same))
-            (request_spelled config.client_setup (layer t) h.con x
-            (client_facts.layer server_end config.client_sizes config.client_setup t old) h.begun_before h.is) in
+            (request_spelled config.addresses config.client_setup (layer t) h.con x
+            (client_facts.layer config.addresses.server config.client_sizes config.client_setup t old) h.begun_before
+            h.is) in
             let class : role_of n.code ≡ role.Request =
-            is_request x (was_message config.client_sizes x t (was_sent server_end config.client_sizes config.client_setup at x t o)) in
+            is_request x (was_message config.client_sizes x t (was_sent config.addresses.server config.client_sizes
+            config.client_setup at x t o)) in
             let is_told : IsTold con.bytes = record { message = n; spells = spells; class = inl class } in
             let both : Some told_here.of.exchange ≡ Some r.exchange = sym told_here.of.runs ∙ r.runs in
             let alike : told_here.of.exchange ≡ r.exchange = cc both in
@@ -282,10 +290,12 @@ module _ (config : Config) where
               young = omega (arith, begun_at, in_time, short);
             } in
             let given = (Always_back _ (map Near newest) (Near e ∷ hops_in config es)
-            (subst (Always (λ past z. (y : L.Entry) (d : Open) → z ≡ Near y → d.to ≡ server_end → IsTold d.bytes
-            → (q : HearsReset d (near_of past) y) → Sometime (OnFarThen (RepliesTo client_end d q.bytes)) past)) hops
+            (subst (Always (λ past z. (y : L.Entry) (d : Open) → z ≡ Near y → d.to ≡ config.addresses.server
+            → IsTold d.bytes
+            → (q : HearsReset d (near_of past) y) → Sometime (OnFarThen (RepliesTo config.addresses.client d q.bytes))
+            past)) hops
             meant)).0 e con refl to is_told hears in
-            never_rejected config.server_setup con n spells refl class bytes taken.message taken.spells
+            never_rejected config.addresses config.server_setup con n spells refl class bytes taken.message taken.spells
             taken.kind (hops_in config es)
             (subst (LayerLaw config.server_setup) (sym (far_is config es))
             (server_facts.layer config.limits config.server_szx config.server_setup (server_trace config es) server))
@@ -295,15 +305,16 @@ module _ (config : Config) where
 
         not_so : ⊥
         not_so = ⊎_elim
-            (by_con (has_con server_end config.client_sizes config.client_setup at x t old o)) by_wait
-            (lonely server_end config.client_sizes config.client_setup at x t old r)
+            (by_con (has_con config.addresses.server config.client_sizes config.client_setup at x t old o)) by_wait
+            (lonely config.addresses.server config.client_sizes config.client_setup at x t old r)
 
       never : max_open config < 247000 → ForServer config es → YoungAt config t c → Meant (OfClient c ∷ es) → ⊥
       never short server young meant =
-          let k = (open_runs server_end config.client_sizes config.client_setup t old).is_open told_here.of.exchange
+          let k = (open_runs config.addresses.server config.client_sizes config.client_setup t old).is_open
+          told_here.of.exchange
           told_here.of.runs in
-          let o = open_of server_end config.client_sizes config.client_setup k.0 t old k.1 in
-          let r = runs_of server_end config.client_sizes config.client_setup k.0 o.0 t old o.1 in
+          let o = open_of config.addresses.server config.client_sizes config.client_setup k.0 t old k.1 in
+          let r = runs_of config.addresses.server config.client_sizes config.client_setup k.0 o.0 t old o.1 in
           not_so server young meant k.0 k.1 o.0 o.1 r short
 
   no_reset : max_open config < 247000 → (es : List Entry) (c : C.Call) → Law (c ∷ client_of es) → ForServer config es → YoungAt config (client_of es) c

@@ -29,7 +29,7 @@ use Rattle.coap_client.specs.Trace.{Timeout}
 use Rattle.coap_client.proofs.Facts.Laws as client_facts
 use Rattle.coap_client.proofs.Facts.Laws.{clock_is}
 use Rattle.coap_server.specs.Trace as S
-use Rattle.coap_world.specs.Events.{server_end, Config}
+use Rattle.coap_world.specs.Events.{Config}
 use Rattle.coap_world.specs.Hops.{client_asks, client_asked}
 use Rattle.coap_world.specs.Record.{Turn, entries_of, client_of}
 use Rattle.coap_world.specs.Smooth.{TakesNoObservation}
@@ -51,13 +51,13 @@ use Rattle.coap_world.proofs.Smoothly.Standing.{turned, side_of}
 
 module _ (config : Config) where
   abbrev Law : List C.Call → Type 0
-  Law t = ClientLaw server_end config.client_sizes config.client_setup t
+  Law t = ClientLaw config.addresses.server config.client_sizes config.client_setup t
 
   abbrev layer : List C.Call → List L.Entry
-  layer t = layer_of server_end config.client_sizes config.client_setup t
+  layer t = layer_of config.addresses.server config.client_sizes config.client_setup t
 
   abbrev OpenAt : ℕ → Sending → List C.Call → Type 0
-  OpenAt at x t = OpenOf server_end config.client_sizes config.client_setup at x t
+  OpenAt at x t = OpenOf config.addresses.server config.client_sizes config.client_setup at x t
 
   abbrev NoTimeout : List C.Call → C.Call → Type 0
   NoTimeout past c = ends_as c ≢ Some Timeout
@@ -72,8 +72,8 @@ module _ (config : Config) where
       let m : ℕ = max (own_of config.client_sizes t).clock now in
       let f = effect (own_of config.client_sizes t) c in
       let input : E.Call = E.Ticks m below (turn_is.End event_is.Timeout) in
-      let s : E.Own = X.own_of server_end config.client_setup (lower_of config.client_sizes t) in
-      let right = at_input (λ p d. P.IsRight (X.own_of server_end config.client_setup p) d)
+      let s : E.Own = X.own_of config.addresses.server config.client_setup (lower_of config.client_sizes t) in
+      let right = at_input (λ p d. P.IsRight (X.own_of config.addresses.server config.client_setup p) d)
       (deeds (close m f token).deed (close m f token).own m w sent token kept)
       (deeds f.deed f.own m w sent token kept) input (lower_of config.client_sizes t) law.exchanges.rows in
       let fits : TurnFits s (max s.clock m) below (turn_is.End event_is.Timeout) =
@@ -86,7 +86,8 @@ module _ (config : Config) where
       (subst (λ a. Steps (start config.client_setup) a law.exchanges.left) (client_asked_next config t c)
       law.exchanges.layer) L.Ticks below b in
       let quiet : first.open_cons ≡ [] =
-      open_kept config.client_setup (all_asked server_end config.client_sizes config.client_setup t) ∙ none in
+      open_kept config.client_setup (all_asked config.addresses.server config.client_sizes config.client_setup t)
+      ∙ none in
       let idle : L.Idle ≡ L.Expired fits.0 fits.1 =
       sym (ap (tick_of (moment first b.now L.Ticks)) quiet) ∙ (answered ∙ fits.2) in
       cc idle
@@ -109,13 +110,14 @@ module _ (config : Config) where
         → client.IsBy config turn.event.at (cs ++ old) × Before at x (cs ++ old)
     open_before at x [] law by at_t early o = (by, record { is_open = o; stays = λ y h. h })
     open_before at x (c ∷ cs) law by at_t early (inr o) =
-        let before = client_facts.back server_end config.client_sizes config.client_setup (c ∷ []) (cs ++ old) law in
+        let before = client_facts.back config.addresses.server config.client_sizes config.client_setup (c ∷ [])
+        (cs ++ old) law in
         let k = open_before at x cs before by at_t.1 early o.3 in (
           client.next_by config turn.event.at (cs ++ old) c k.0 at_t.0,
           record {
             is_open = k.1.is_open;
             stays = λ y h. k.1.stays y
-                (still_open server_end config.client_sizes config.client_setup c (cs ++ old) law o.0 y h);
+                (still_open config.addresses.server config.client_sizes config.client_setup c (cs ++ old) law o.0 y h);
           },
         )
     open_before at x (c ∷ cs) law by at_t early (inl o) = absurd (began c (cs ++ old) at_t.0 o)
@@ -135,33 +137,36 @@ module _ (config : Config) where
     here (C.Ticks now w below (turn_is.End event_is.Timeout) sent token kept answer) cs law by at_t in_time is =
         let c : C.Call = C.Ticks now w below (turn_is.End event_is.Timeout) sent token kept answer in
         let t : List C.Call = cs ++ old in
-        let before : Law t = client_facts.back server_end config.client_sizes config.client_setup (c ∷ []) t law in
-        let k = open_at_end server_end config.client_sizes config.client_setup t c law Timeout is (inl refl) in
+        let before : Law t = client_facts.back config.addresses.server config.client_sizes config.client_setup (c ∷ [])
+        t law in
+        let k = open_at_end config.addresses.server config.client_sizes config.client_setup t c law Timeout is
+        (inl refl) in
         let at : ℕ = k.0 in
         let late = (in_time.0 at k.1).timeout is in
-        let o = open_of server_end config.client_sizes config.client_setup at t before k.1 in
+        let o = open_of config.addresses.server config.client_sizes config.client_setup at t before k.1 in
         let x : Sending = o.0 in
         let by_then = all_by cs at_t.1 in
         let now_is = at_t.0 in
         let clock = by_then.own in
         let b = open_before at x cs before by at_t.1 (omega (arith, late, now_is, clock)) o.1 in
-        let h = has_con server_end config.client_sizes config.client_setup at x old law_old b.1.is_open in
-        let r = runs_of server_end config.client_sizes config.client_setup at x t before o.1 in
+        let h = has_con config.addresses.server config.client_sizes config.client_setup at x old law_old b.1.is_open in
+        let r = runs_of config.addresses.server config.client_sizes config.client_setup at x t before o.1 in
         ⊎_elim
-        (λ (l : Lonely server_end config.client_sizes config.client_setup at x r.exchange t).
+        (λ (l : Lonely config.addresses.server config.client_sizes config.client_setup at x r.exchange t).
         (let stays : IsOpen (layer t) (as_begun l.con) =
         subst (Ever (λ z. as_begun z ≡ as_begun l.con)) (sym l.only) (inl refl) in
         let stayed = b.1.stays (as_begun l.con) stays in
-        let same = alone_now server_end config.client_sizes config.client_setup h.con at x old b.1.is_open h.alone
+        let same = alone_now config.addresses.server config.client_sizes config.client_setup h.con at x old b.1.is_open
+        h.alone
         (as_begun l.con) stayed in
         con_is_over config laws turn past g none at
-        (open_since server_end config.client_sizes config.client_setup at x old b.1.is_open)
+        (open_since config.addresses.server config.client_sizes config.client_setup at x old b.1.is_open)
         (omega (arith, late, now_is, clock)) x b.1.is_open h
         (subst (λ z. IsOpen z h.con) (sym (near_is config (entries_of past)))
         (subst (IsOpen (layer old)) same stayed))))
-        (λ (l : Waited server_end config.client_sizes config.client_setup r.exchange t).
+        (λ (l : Waited config.addresses.server config.client_sizes config.client_setup r.exchange t).
         none_expires t now w below sent token kept answer law l.none)
-        (lonely server_end config.client_sizes config.client_setup at x t before r)
+        (lonely config.addresses.server config.client_sizes config.client_setup at x t before r)
       where
         all_by : (ds : List C.Call) → Every (client.IsAt turn.event.at) ds → client.IsBy config turn.event.at (ds ++ old)
         all_by [] h = by
@@ -175,7 +180,8 @@ module _ (config : Config) where
     in_turn [] law by at_t in_time older = older
     in_turn (c ∷ cs) law by at_t in_time older = (
       here c cs law by at_t in_time,
-      in_turn cs (client_facts.back server_end config.client_sizes config.client_setup (c ∷ []) (cs ++ old) law) by at_t.1
+      in_turn cs (client_facts.back config.addresses.server config.client_sizes config.client_setup (c ∷ []) (cs ++ old)
+          law) by at_t.1
           in_time.1 older,
     )
 
@@ -208,5 +214,6 @@ module _ (config : Config) where
   no_timeouts laws in_time (turn ∷ past) g none =
       let before_it = calls_before _ turn.entries (entries_of past) none in
       in_this_turn laws turn past g before_it
-      (in_time server_end config.client_sizes config.client_setup (client_of (entries_of (turn ∷ past))) g.stands.client)
+      (in_time config.addresses.server config.client_sizes config.client_setup (client_of (entries_of (turn ∷ past)))
+      g.stands.client)
       (no_timeouts laws in_time past (goes_before config turn past g) before_it)

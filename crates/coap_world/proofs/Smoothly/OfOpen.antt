@@ -16,7 +16,7 @@ use Rattle.coap_server.specs.Follows.Rests.{IsTick}
 use Rattle.coap_server.specs.Trace as S
 use Rattle.coap_server.proofs.Facts.Laws as server_facts
 use Rattle.coap_world.specs.Answers.{AnswersAt}
-use Rattle.coap_world.specs.Events.{client_end, server_end, Config}
+use Rattle.coap_world.specs.Events.{Config}
 use Rattle.coap_world.specs.Hops.{hops_at, hops_in}
 use Rattle.coap_world.specs.Record.{Entry, OfClient, OfServer, client_of, server_trace}
 use Rattle.coap_world.specs.Smooth.{TakesNoObservation}
@@ -95,15 +95,16 @@ module _ (config : Config) where
   module _ (past : List Entry) (c : S.Call) (law : Lawful config (OfServer c ∷ past))
       (observed : AreOfObservations config.client_sizes (client_of past))
       (none : Always (λ p d. TakesNoObservation d) (client_of past))
-      (of_open : HearsOfOpen server_end config.client_sizes config.client_setup (client_of past))
+      (of_open : HearsOfOpen config.addresses.server config.client_sizes config.client_setup (client_of past))
       (ends : Always (λ p d. ends_as d ≡ None) (client_of past)) (at : ℕ) (x : Sending)
-      (is_open : OpenOf server_end config.client_sizes config.client_setup at x (client_of past)) where
+      (is_open : OpenOf config.addresses.server config.client_sizes config.client_setup at x (client_of past)) where
     -- what a tick answers has the token of the exchange that is open
     pub of_open_exchange : (now : ℕ) (answer : Bool) → IsTick now answer c → (a : Asked)
-        → AnswersIt config.limits config.server_szx (server_trace config past) c a → a.from ≡ client_end
+        → AnswersIt config.limits config.server_szx (server_trace config past) c a → a.from ≡ config.addresses.client
         → a.token ≡ x.token
     of_open_exchange now answer tick a answers from =
-        token (heard_or_open server_end config.client_sizes config.client_setup (client_of past) before.client of_open ends
+        token (heard_or_open config.addresses.server config.client_sizes config.client_setup (client_of past)
+        before.client of_open ends
         origin.sending origin.sent)
       where
         before : Lawful config past
@@ -120,12 +121,13 @@ module _ (config : Config) where
         tokens : origin.sending.token ≡ a.token
         tokens = sym (ap (λ (z : Asked). z.token) origin.asked)
 
-        token : IsOpenOf server_end config.client_sizes config.client_setup origin.sending (client_of past)
+        token : IsOpenOf config.addresses.server config.client_sizes config.client_setup origin.sending (client_of past)
             ⊎ Ever (HearsBy origin.sending.token) (client_of past) → a.token ≡ x.token
         token (inl k) =
             let both : Some origin.sending ≡ Some x =
-            sym (last_of server_end config.client_sizes config.client_setup k.at origin.sending (client_of past) k.is_open)
-            ∙ last_of server_end config.client_sizes config.client_setup at x (client_of past) is_open in
+            sym (last_of config.addresses.server config.client_sizes config.client_setup k.at origin.sending
+            (client_of past) k.is_open)
+            ∙ last_of config.addresses.server config.client_sizes config.client_setup at x (client_of past) is_open in
             let same : origin.sending ≡ x = cc both in
             sym tokens ∙ ap (λ (z : Sending). z.token) same
         token (inr heard) =

@@ -23,7 +23,7 @@ use Rattle.coap_server.specs.Law.{own_of, lower_of}
 use Rattle.coap_server.specs.Trace as S
 use Rattle.coap_server.proofs.Facts.Laws as server_facts
 use Rattle.coap_world.specs.CameFrom.{request_of}
-use Rattle.coap_world.specs.Events.{client_end, server_end, Config}
+use Rattle.coap_world.specs.Events.{Config}
 use Rattle.coap_world.specs.Hops.{hops_in}
 use Rattle.coap_world.specs.Record.{Entry, OfServer, client_of, server_trace}
 use Rattle.coap_world.specs.Smooth.{TakesNoObservation}
@@ -80,7 +80,7 @@ module _ (config : Config) where
     pub sent : WasSent config.client_sizes sending (client_of es)
     pub begun_there : Ever (λ b. begun b ≡ Some con) (near_of (hops_in config es))
     pub spells : Spells con.bytes (request_of con.id sending)
-    pub asked : a ≡ asked_of client_end (request_of con.id sending)
+    pub asked : a ≡ asked_of config.addresses.client (request_of con.id sending)
 
   module _ (es : List Entry) (law : Lawful config es)
       (observed : AreOfObservations config.client_sizes (client_of es))
@@ -92,12 +92,13 @@ module _ (config : Config) where
     pub one_con : (token : List ℕ) → OneConBy token (near_of (hops_in config es))
     one_con token a b i j x y sa sb ia ib ta tb =
         let near = near_is config es in
-        by (client_facts.one_con server_end config.client_sizes config.client_setup (client_of es) law.client a b
+        by (client_facts.one_con config.addresses.server config.client_sizes config.client_setup (client_of es)
+        law.client a b
         (subst (Ever (λ e. begun e ≡ Some a)) near i) (subst (Ever (λ e. begun e ≡ Some b)) near j) x y sa sb
         (ta ∙ sym tb))
       where
-        by : (a ≡ b) ⊎ (Ends server_end config.client_sizes (client_of es) a b
-            ⊎ Ends server_end config.client_sizes (client_of es) b a) → a ≡ b
+        by : (a ≡ b) ⊎ (Ends config.addresses.server config.client_sizes (client_of es) a b
+            ⊎ Ends config.addresses.server config.client_sizes (client_of es) b a) → a ≡ b
         by (inl same) = same
         by (inr (inl e)) = absurd (no_cancel e.first e.second e.second_sent e.deregisters)
         by (inr (inr e)) = absurd (no_cancel e.first e.second e.second_sent e.deregisters)
@@ -106,7 +107,8 @@ module _ (config : Config) where
     pub one_sending : (x y : Sending) → WasSent config.client_sizes x (client_of es)
         → WasSent config.client_sizes y (client_of es) → x.token ≡ y.token → x ≡ y
     one_sending x y i j same =
-        by (client_facts.tokens server_end config.client_sizes config.client_setup (client_of es) law.client x y i j same)
+        by (client_facts.tokens config.addresses.server config.client_sizes config.client_setup (client_of es)
+        law.client x y i j same)
       where
         by : (x ≡ y) ⊎ (Deregisters x y ⊎ Deregisters y x) → x ≡ y
         by (inl is) = is
@@ -121,8 +123,8 @@ module _ (config : Config) where
         let c : k.con ≡ l.con = one_con l.sending.token k.con l.con k.begun_there l.begun_there
         (request_of k.con.id k.sending) (request_of l.con.id l.sending) k.spells l.spells refl
         refl tokens refl in
-        k.asked ∙ (ap (λ (z : Open). asked_of client_end (request_of z.id k.sending)) c
-        ∙ (ap (λ z. asked_of client_end (request_of l.con.id z)) s ∙ sym l.asked))
+        k.asked ∙ (ap (λ (z : Open). asked_of config.addresses.client (request_of z.id k.sending)) c
+        ∙ (ap (λ z. asked_of config.addresses.client (request_of l.con.id z)) s ∙ sym l.asked))
 
   abbrev pub Answered : Asked → List S.Call → S.Call → Type 0
   Answered a past c = AnswersIt config.limits config.server_szx past c a
@@ -140,7 +142,7 @@ module _ (config : Config) where
 
   pub answered_once : (past : List Entry) (c : S.Call) → Lawful config (OfServer c ∷ past)
       → AreOfObservations config.client_sizes (client_of past)
-      → Always (λ p d. TakesNoObservation d) (client_of past) → (a : Asked) → a.from ≡ client_end
+      → Always (λ p d. TakesNoObservation d) (client_of past) → (a : Asked) → a.from ≡ config.addresses.client
       → Answered a (server_trace config past) c → Sometime (Answered a) (server_trace config past) → ⊥
   answered_once past c law observed none a from now before =
       let es : List Entry = OfServer c ∷ past in
@@ -153,9 +155,10 @@ module _ (config : Config) where
       let counted = counted_in config.limits config.server_szx a config.server_setup t
       (server_facts.counts config.limits config.server_szx config.server_setup t law.server) in
       let nons = subst NoNons (sym (near_is config es))
-      (client_facts.nons server_end config.client_sizes config.client_setup (client_of past)) in
+      (client_facts.nons config.addresses.server config.client_sizes config.client_setup (client_of past)) in
       let few = once_counted a (hops_in config es)
-      (up_once config.client_setup config.server_setup client_end server_end a from (hops_in config es)
+      (up_once config.client_setup config.server_setup config.addresses.client config.addresses.server a from
+      (hops_in config es)
       law.channel nons (one_con es law observed none a.token)) in
       let far = ap (ups a) (far_is config es) in
       omega (arith, two, same, counted, few, far)

@@ -43,7 +43,7 @@ use Rattle.coap_server.specs.Law as server_law
 use Rattle.coap_server.specs.Notifying.{marked, notification, readies}
 use Rattle.coap_server.specs.Plain.{by_plain}
 use Rattle.coap_server.specs.Trace as S
-use Rattle.coap_world.specs.Events.{server_end, Config}
+use Rattle.coap_world.specs.Events.{Config}
 use Rattle.coap_world.specs.Hops.{client_asks, server_asks}
 use Rattle.coap_world.proofs.Delivery.EntriesInTime.{Every, every_join, every_map}
 
@@ -349,7 +349,7 @@ module _ (config : Config) where
   client_feeds past now from bytes word up settled event sent token kept =
       let c : C.Call = C.Feeds now from bytes word up settled event sent token kept in
       let s = client_law.own_of config.client_sizes past in
-      fed_behind server_end config.client_setup (client_law.lower_of config.client_sizes past) (effect s c)
+      fed_behind config.addresses.server config.client_setup (client_law.lower_of config.client_sizes past) (effect s c)
       (max s.clock now) word sent token kept (max s.clock now) from bytes up settled event
 
   pub client_ticks : (past : List C.Call) (now word : ℕ) (below : L.Answer) (turn : _) (sent : L.Answer)
@@ -358,14 +358,16 @@ module _ (config : Config) where
   client_ticks past now word below turn sent token kept answer =
       let c : C.Call = C.Ticks now word below turn sent token kept answer in
       let s = client_law.own_of config.client_sizes past in
-      ticked_behind server_end config.client_setup (client_law.lower_of config.client_sizes past) (effect s c)
+      ticked_behind config.addresses.server config.client_setup (client_law.lower_of config.client_sizes past)
+      (effect s c)
       (max s.clock now) word sent token kept (max s.clock now) below turn
 
   pub client_makes : (past : List C.Call) (c : C.Call)
       → Makes (ClientOut c) (client_call c) (client_up c) (client_asks config past c)
   client_makes past (C.Forgets number kept answer) =
       let s = client_law.own_of config.client_sizes past in
-      makes_none (quiet_deeds server_end config.client_setup (client_law.lower_of config.client_sizes past) _
+      makes_none (quiet_deeds config.addresses.server config.client_setup (client_law.lower_of config.client_sizes past)
+      _
       (deed_deeds (forgets answer number s) s 0 0 L.Nothing _ kept))
   client_makes past (C.NextOut answer) = makes_out (answer, refl)
   client_makes past (C.Feeds now from bytes word up settled event sent token kept) =
@@ -373,7 +375,8 @@ module _ (config : Config) where
   client_makes past (C.Ticks now word below turn sent token kept answer) =
       let c : C.Call = C.Ticks now word below turn sent token kept answer in
       let s = client_law.own_of config.client_sizes past in
-      makes_none (ticked_quiet server_end config.client_setup (client_law.lower_of config.client_sizes past) (effect s c)
+      makes_none (ticked_quiet config.addresses.server config.client_setup
+      (client_law.lower_of config.client_sizes past) (effect s c)
       (max s.clock now) word sent token kept (max s.clock now) below turn)
   client_makes past _ = makes_none tt
 

@@ -37,7 +37,7 @@ use Rattle.coap_server.specs.Trace as S
 use Rattle.coap_server.proofs.Facts.Laws as server_facts
 use Rattle.coap_world.specs.AtOnce.{WaitsAt}
 use Rattle.coap_world.specs.CameFrom.{request_of}
-use Rattle.coap_world.specs.Events.{client_end, Config}
+use Rattle.coap_world.specs.Events.{Config}
 use Rattle.coap_world.specs.Hops.{client_adds, server_adds, hops_at, hops_in}
 use Rattle.coap_world.specs.Legal.{IsConfig}
 use Rattle.coap_world.specs.Record.{Entry, OfClient, OfServer, client_of, server_trace}
@@ -123,9 +123,10 @@ module _ (config : Config) where
     pub older : List L.Entry
     pub reply : L.Entry
     pub adds : server_adds config (server_trace config past) c ≡ newer ++ reply ∷ older
-    pub out : reply.out ≡ record { to = client_end; bytes = bytes } ∷ []
+    pub out : reply.out ≡ record { to = config.addresses.client; bytes = bytes } ∷ []
     pub soon : reply.at ≤ con.first + max_age
-    pub replies : RepliesTo client_end con bytes (older ++ server_layer config (server_trace config past)) reply
+    pub replies : RepliesTo config.addresses.client con bytes (older ++ server_layer config (server_trace config past))
+        reply
     pub sending : Sending
     pub sent : WasSent config.client_sizes sending (client_of past)
     pub same : sending.token ≡ x.token
@@ -147,10 +148,11 @@ module _ (config : Config) where
     n = request_of con.id x
 
     abbrev a : Asked
-    a = asked_of client_end n
+    a = asked_of config.addresses.client n
 
     module _ (past : List Entry) (c : S.Call) (law : Lawful config (OfServer c ∷ past)) (e : L.Entry)
-        (takes : TakesWithin max_age client_end con e) (at : AtServer config client_end con.bytes e (trace past) c) where
+        (takes : TakesWithin max_age config.addresses.client con e)
+        (at : AtServer config config.addresses.client con.bytes e (trace past) c) where
       abbrev t : List S.Call
       t = trace past
 
@@ -169,16 +171,20 @@ module _ (config : Config) where
           (subst (LayerLaw config.server_setup) parts layer)).0
 
       answer : e.answer ≡ L.Becomes (L.Request n true)
-      answer = as_request config.server_setup (server_layer config t) e client_end con.id con.bytes n stands
+      answer = as_request config.server_setup (server_layer config t) e config.addresses.client con.id con.bytes n
+          stands
           takes.takes.call spells refl takes.takes.up class
 
-      fed : c ≡ S.Feeds at.fed.now client_end con.bytes at.fed.word (L.Becomes (L.Request n true)) at.fed.came
+      fed : c ≡ S.Feeds at.fed.now config.addresses.client con.bytes at.fed.word (L.Becomes (L.Request n true))
+          at.fed.came
           at.fed.handling at.fed.below
-      fed = at.fed.is ∙ ap (λ u. S.Feeds at.fed.now client_end con.bytes at.fed.word u at.fed.came at.fed.handling
+      fed = at.fed.is ∙ ap (λ u. S.Feeds at.fed.now config.addresses.client con.bytes at.fed.word u at.fed.came
+          at.fed.handling
           at.fed.below) answer
 
       came : at.fed.came ≡ Some (a, n)
-      came = (handed_on (c ∷ t) law.server).0 at.fed.now client_end con.bytes at.fed.word n true at.fed.came
+      came = (handed_on (c ∷ t) law.server).0 at.fed.now config.addresses.client con.bytes at.fed.word n true
+          at.fed.came
           at.fed.handling at.fed.below fed
 
       came_is : came_in c ≡ Some (a, n)
@@ -187,9 +193,9 @@ module _ (config : Config) where
       hands_it : hands c ≡ Some a
       hands_it = ap hands fed ∙ ap asked_in came
 
-      handed_is : handed e ≡ Some (record { from = client_end; message = n })
+      handed_is : handed e ≡ Some (record { from = config.addresses.client; message = n })
       handed_is = ap (λ d. handed_in d e.answer) takes.takes.call
-          ∙ ap (λ z. handed_in (L.Receive client_end con.bytes) z) answer
+          ∙ ap (λ z. handed_in (L.Receive config.addresses.client con.bytes) z) answer
 
       is_handed : handed e ≡ None → ⊥
       is_handed none = let k = sym none ∙ handed_is in cc k
@@ -217,7 +223,7 @@ module _ (config : Config) where
 
       -- a reply to it
       module _ (bytes : List ℕ) (reply : L.Entry) (mem : Ever (λ y. y ≡ reply) (server_adds config t c))
-          (call : reply.call ≡ L.Reply client_end con.id bytes) where
+          (call : reply.call ≡ L.Reply config.addresses.client con.id bytes) where
         among : Ever (λ y. y ≡ reply) at.later
         among = ⊎_elim (λ w. w) (λ w. absurd (not_last w))
             (Ever_append (λ y. y ≡ reply) at.later (e ∷ []) (subst (Ever (λ y. y ≡ reply)) at.adds mem))
@@ -243,7 +249,7 @@ module _ (config : Config) where
             let so = (Always_back RepliesSo between.newer (reply ∷ (between.older ++ (e ∷ server_layer config t)))
             (subst (Always RepliesSo) all
             (server_facts.replies config.limits config.server_szx config.server_setup (c ∷ t) law.server))).0 in
-            let k = so client_end con.id bytes call in
+            let k = so config.addresses.client con.id bytes call in
             sym (since_first (λ h. (handed h ≡ Some k.to_what) × (h.at ≡ reply.at)) between.older (server_layer config t) e
             silent (λ y z none. (let w = sym none ∙ z.0 in cc w)) is_handed k.latest).1
 
@@ -251,12 +257,12 @@ module _ (config : Config) where
         added = at.adds ∙ ap (λ l. l ++ e ∷ []) between.is
             ∙ append_assoc between.newer (reply ∷ between.older) (e ∷ [])
 
-        replies : RepliesTo client_end con bytes ((between.older ++ e ∷ []) ++ server_layer config t) reply
-        replies = subst (λ l. RepliesTo client_end con bytes l reply)
+        replies : RepliesTo config.addresses.client con bytes ((between.older ++ e ∷ []) ++ server_layer config t) reply
+        replies = subst (λ l. RepliesTo config.addresses.client con bytes l reply)
             (sym (append_assoc between.older (e ∷ []) (server_layer config t)))
             (record {
               call = call;
-              to_it = since_behind (λ y. Takes client_end con y × (y.at ≡ reply.at)) between.older
+              to_it = since_behind (λ y. Takes config.addresses.client con y × (y.at ≡ reply.at)) between.older
                   (e ∷ server_layer config t) silent (inl (takes.takes, sym at_once));
             })
 
@@ -265,9 +271,10 @@ module _ (config : Config) where
 
       -- an Empty acknowledgement
       ended : (reply : L.Entry) (mem : Ever (λ y. y ≡ reply) (server_adds config t c))
-          → reply.call ≡ L.Reply client_end con.id (ack_bytes con.id) → (hs : List Hop)
+          → reply.call ≡ L.Reply config.addresses.client con.id (ack_bytes con.id) → (hs : List Hop)
           → far_of hs ≡ server_layer config t
-          → Sometime (OnFarThen (EndsWithin max_age client_end con)) (map Far (server_adds config t c) ++ hs)
+          → Sometime (OnFarThen (EndsWithin max_age config.addresses.client con))
+          (map Far (server_adds config t c) ++ hs)
       ended reply mem call hs far =
           let b = between (ack_bytes con.id) reply mem call in
           let when = at_once (ack_bytes con.id) reply mem call in
@@ -277,11 +284,11 @@ module _ (config : Config) where
           ap (λ l. map Far l ++ hs) (added (ack_bytes con.id) reply mem call)
           ∙ (ap (λ l. l ++ hs) (map-append Far b.newer (reply ∷ (b.older ++ e ∷ [])))
           ∙ append_assoc (map Far b.newer) (map Far (reply ∷ (b.older ++ e ∷ []))) hs) in
-          subst (Sometime (OnFarThen (EndsWithin max_age client_end con))) (sym is)
-          (Sometime_back (OnFarThen (EndsWithin max_age client_end con)) (map Far b.newer)
+          subst (Sometime (OnFarThen (EndsWithin max_age config.addresses.client con))) (sym is)
+          (Sometime_back (OnFarThen (EndsWithin max_age config.addresses.client con)) (map Far b.newer)
           (Far reply ∷ (map Far (b.older ++ e ∷ []) ++ hs)) (inl (record {
             bytes = ack_bytes con.id;
-            replies = subst (λ l. RepliesTo client_end con (ack_bytes con.id) l reply)
+            replies = subst (λ l. RepliesTo config.addresses.client con (ack_bytes con.id) l reply)
                 (ap (λ l. (b.older ++ e ∷ []) ++ l) (sym far) ∙ sym (far_far (b.older ++ e ∷ []) hs))
                 (replies (ack_bytes con.id) reply mem call);
             ends = record {
@@ -339,13 +346,14 @@ module _ (config : Config) where
           → (own_of config.limits config.server_szx (c ∷ t)).clock ≤ y.at) at.later e
           (subst (Every (λ (y : L.Entry). (from : Endpoint) (bytes : List ℕ) → y.call ≡ L.Receive from bytes
           → (own_of config.limits config.server_szx (c ∷ t)).clock ≤ y.at)) at.adds on)
-          client_end con.bytes takes.takes.call in
+          config.addresses.client con.bytes takes.takes.call in
           let soon = takes.soon in
           omega (arith, till, soon)
 
       -- answered in its acknowledgement, or acknowledged by an Empty message
       replied_or_ended : RepliedAt con x past c ⊎ ((hs : List Hop) → far_of hs ≡ server_layer config t
-          → Sometime (OnFarThen (EndsWithin max_age client_end con)) (map Far (server_adds config t c) ++ hs))
+          → Sometime (OnFarThen (EndsWithin max_age config.addresses.client con))
+          (map Far (server_adds config t c) ++ hs))
       replied_or_ended = by ((server_facts.attended config.limits config.server_szx config.server_setup (c ∷ t) law.server).0
           (a, n) came_is)
         where
@@ -354,15 +362,18 @@ module _ (config : Config) where
           found P (y ∷ xs) (inl h) = (y, inl refl, h)
           found P (y ∷ xs) (inr h) = let k = found P xs h in (k.0, inr k.1, k.2)
 
-          fed_is : c ≡ S.Feeds at.fed.now client_end con.bytes at.fed.word (L.Becomes (L.Request n true)) (Some (a, n))
+          fed_is : c ≡ S.Feeds at.fed.now config.addresses.client con.bytes at.fed.word (L.Becomes (L.Request n true))
+              (Some (a, n))
               at.fed.handling at.fed.below
-          fed_is = fed ∙ ap (λ o. S.Feeds at.fed.now client_end con.bytes at.fed.word (L.Becomes (L.Request n true)) o
+          fed_is = fed ∙ ap (λ o. S.Feeds at.fed.now config.addresses.client con.bytes at.fed.word
+              (L.Becomes (L.Request n true)) o
               at.fed.handling at.fed.below) came
 
           by : AnswersIt config.limits config.server_szx t c a
               ⊎ (WaitsToAsk config.limits config.server_szx t c (a, n) ⊎ IsIgnored n)
               → RepliedAt con x past c ⊎ ((hs : List Hop) → far_of hs ≡ server_layer config t
-              → Sometime (OnFarThen (EndsWithin max_age client_end con)) (map Far (server_adds config t c) ++ hs))
+              → Sometime (OnFarThen (EndsWithin max_age config.addresses.client con))
+              (map Far (server_adds config t c) ++ hs))
           by (inl answers) =
               let out = (server_facts.goes_out config.limits config.server_szx config.server_setup (c ∷ t) law.server).0
               in
@@ -371,12 +382,14 @@ module _ (config : Config) where
               let w = found (InAck a r.0) (server_adds config t c) (sent.at_once a r.0 hands_it refl r.1) in
               inl (replied r.0 r.1 w.0 w.1 w.2 law)
           by (inr (inl waits)) =
-              let acks = acknowledged config t at.fed.now client_end con.bytes at.fed.word (L.Becomes (L.Request n true)) (a, n)
+              let acks = acknowledged config t at.fed.now config.addresses.client con.bytes at.fed.word
+              (L.Becomes (L.Request n true)) (a, n)
               at.fed.below at.fed.handling waits.question
               (subst (λ d. MakesWait config.limits config.server_szx t d a waits.question) fed_is waits.waits)
               (subst (λ d. ServerLaw config.limits config.server_szx config.server_setup (d ∷ t)) fed_is law.server) in
-              let w = found (λ (y : L.Entry). y.call ≡ L.Reply client_end con.id (ack_bytes con.id)) (server_adds config t c)
-              (subst (λ d. Ever (λ (y : L.Entry). y.call ≡ L.Reply client_end con.id (ack_bytes con.id))
+              let w = found (λ (y : L.Entry). y.call ≡ L.Reply config.addresses.client con.id (ack_bytes con.id))
+              (server_adds config t c)
+              (subst (λ d. Ever (λ (y : L.Entry). y.call ≡ L.Reply config.addresses.client con.id (ack_bytes con.id))
               (server_adds config t d)) (sym fed_is) acks) in
               inr (λ hs far. ended w.0 w.1 w.2 hs far)
           by (inr (inr ignored)) = absurd (ignored.kind refl)
@@ -409,10 +422,10 @@ module _ (config : Config) where
           by (inr (inr ignored)) = absurd (ignored.kind refl)
 
     abbrev Taken : L.Entry → Type 0
-    Taken e = TakesWithin max_age client_end con e
+    Taken e = TakesWithin max_age config.addresses.client con e
 
     abbrev Ended : List Hop → Type 0
-    Ended hs = Sometime (OnFarThen (EndsWithin max_age client_end con)) hs
+    Ended hs = Sometime (OnFarThen (EndsWithin max_age config.addresses.client con)) hs
 
     -- it is answered in its acknowledgement, or that is Empty
     pub request_acknowledged : (es : List Entry) → Lawful config es → Ever (OnFar Taken) (hops_in config es)
@@ -421,14 +434,14 @@ module _ (config : Config) where
     request_acknowledged (OfClient c ∷ past) law h =
         ⊎_elim (λ l. absurd (no_far Taken (client_adds config (client_of past) c) l))
         (λ r. ⊎_elim (λ k. inl (inr k))
-        (λ k. inr (Sometime_back (OnFarThen (EndsWithin max_age client_end con))
+        (λ k. inr (Sometime_back (OnFarThen (EndsWithin max_age config.addresses.client con))
         (map Near (client_adds config (client_of past) c)) (hops_in config past) k))
         (request_acknowledged past (lawful_back config past (OfClient c) law) r))
         (Ever_append (OnFar Taken) (hops_at config past (OfClient c)) (hops_in config past) h)
     request_acknowledged (OfServer c ∷ past) law h =
         ⊎_elim here
         (λ r. ⊎_elim (λ k. inl (inr k))
-        (λ k. inr (Sometime_back (OnFarThen (EndsWithin max_age client_end con))
+        (λ k. inr (Sometime_back (OnFarThen (EndsWithin max_age config.addresses.client con))
         (map Far (server_adds config (trace past) c)) (hops_in config past) k))
         (request_acknowledged past (lawful_back config past (OfServer c) law) r))
         (Ever_append (OnFar Taken) (hops_at config past (OfServer c)) (hops_in config past) h)
@@ -439,7 +452,8 @@ module _ (config : Config) where
             let k = far_found Taken _ w in
             ⊎_elim (λ r. inl (inl r)) (λ f. inr (f (hops_in config past) (far_is config past)))
             (replied_or_ended past c law k.0 k.2 (at_server config (trace past) c
-            (law.server.exchanges.left, law.server.exchanges.layer) client_end con.bytes k.0 k.1 k.2.takes.call))
+            (law.server.exchanges.left, law.server.exchanges.layer) config.addresses.client con.bytes k.0 k.1
+            k.2.takes.call))
 
     pub request_taken : (es : List Entry) → Lawful config es → Always (OnTime config) (server_trace config es)
         → Ever (OnFar Taken) (hops_in config es) → Sometime (ComesTo con x) es
@@ -458,4 +472,5 @@ module _ (config : Config) where
         here d older l now h =
             let k = far_found Taken _ h in
             attended older d l k.0 k.2 (at_server config (trace older) d
-            (l.server.exchanges.left, l.server.exchanges.layer) client_end con.bytes k.0 k.1 k.2.takes.call) now
+            (l.server.exchanges.left, l.server.exchanges.layer) config.addresses.client con.bytes k.0 k.1
+            k.2.takes.call) now

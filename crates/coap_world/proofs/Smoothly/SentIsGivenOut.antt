@@ -13,7 +13,7 @@ use Rattle.coap_layer.specs.Trace.{Packet}
 use Rattle.coap_layer.specs.Words.{waiting, takes_in}
 use Rattle.coap_client.specs.Trace as C
 use Rattle.coap_server.specs.Trace as S
-use Rattle.coap_world.specs.Events.{client_end, server_end, Config}
+use Rattle.coap_world.specs.Events.{Config}
 use Rattle.coap_world.specs.Hops.{client_adds, server_adds}
 use Rattle.coap_world.specs.Record.{Given, Entry, OfClient, OfServer, client_of, server_trace, given_by}
 use Rattle.coap_world.proofs.Delivery.AfterATurn.{Still}
@@ -164,7 +164,7 @@ module _ (config : Config) where
   -- an end gives this out at this moment
   abbrev pub GivesOut : ℕ → Endpoint → Packet → List Entry → Type 0
   GivesOut t from p entries =
-      Ever (λ g. g ≡ record { at = t; from = from; packet = p }) (all_of (given_by t) entries)
+      Ever (λ g. g ≡ record { at = t; from = from; packet = p }) (all_of (given_by config.addresses t) entries)
 
   module _ {X : Type 0} (end : End config X)
       (others : (past : List X) (c : X)
@@ -174,13 +174,13 @@ module _ (config : Config) where
         → GivesOut t end.place p (map end.of cs)
     given_out t p [] h = absurd h
     given_out t p (c ∷ cs) (inl h) =
-        Ever_front (λ g. g ≡ record { at = t; from = end.place; packet = p }) (given_by t (end.of c))
-        (all_of (given_by t) (map end.of cs))
+        Ever_front (λ g. g ≡ record { at = t; from = end.place; packet = p }) (given_by config.addresses t (end.of c))
+        (all_of (given_by config.addresses t) (map end.of cs))
         (subst (Ever (λ g. g ≡ record { at = t; from = end.place; packet = p }))
-        (sym (ap (λ d. given_by t (end.of d)) h ∙ end.gives t (Some p))) (inl refl))
+        (sym (ap (λ d. given_by config.addresses t (end.of d)) h ∙ end.gives t (Some p))) (inl refl))
     given_out t p (c ∷ cs) (inr h) =
-        Ever_back (λ g. g ≡ record { at = t; from = end.place; packet = p }) (given_by t (end.of c))
-        (all_of (given_by t) (map end.of cs)) (given_out t p cs h)
+        Ever_back (λ g. g ≡ record { at = t; from = end.place; packet = p }) (given_by config.addresses t (end.of c))
+        (all_of (given_by config.addresses t) (map end.of cs)) (given_out t p cs h)
 
     -- what is sent in a turn after which nothing waits
     sent : (t : ℕ) (es : List Entry) (cs : List X) → Every (end.IsAt t) cs → end.IsBy t (end.trace es)
@@ -218,7 +218,7 @@ module _ (config : Config) where
   pub near_given : (t : ℕ) (entries es : List Entry) → Turned t entries es
       → ClientTurn t entries ⊎ ServerTurn t entries → (x : L.Entry) (p : Packet)
       → Ever (OnNear (λ y. y ≡ x)) (front config entries es) → IsIn p x.out
-      → (x.at ≡ t) × GivesOut t client_end p entries
+      → (x.at ≡ t) × GivesOut t config.addresses.client p entries
   near_given t entries es turned (inl turn) x p h out =
       let cs : List C.Call = client_turns.turn_calls turn.on.outs turn.on.reports turn.calls in
       let is : entries ≡ map OfClient cs = turn.on.is in
@@ -231,7 +231,7 @@ module _ (config : Config) where
       (client_turns.all_at t turn.on.outs turn.on.reports turn.calls turn.at) turned.still.client
       (subst (client_turns.IsGood config) calls turned.good_client)
       (subst (λ z. waiting (client_layer config z) ≡ []) calls turned.none_client) x p there out in
-      (k.0, subst (GivesOut t client_end p) (sym is) k.1)
+      (k.0, subst (GivesOut t config.addresses.client p) (sym is) k.1)
   near_given t entries es turned (inr turn) x p h out =
       let cs : List S.Call = server_turns.turn_calls turn.on.outs turn.calls in
       absurd (never_near x (added (server_side config) (server_trace config es) cs)
@@ -241,7 +241,7 @@ module _ (config : Config) where
   pub far_given : (t : ℕ) (entries es : List Entry) → Turned t entries es
       → ClientTurn t entries ⊎ ServerTurn t entries → (x : L.Entry) (p : Packet)
       → Ever (OnFar (λ y. y ≡ x)) (front config entries es) → IsIn p x.out
-      → (x.at ≡ t) × GivesOut t server_end p entries
+      → (x.at ≡ t) × GivesOut t config.addresses.server p entries
   far_given t entries es turned (inr turn) x p h out =
       let cs : List S.Call = server_turns.turn_calls turn.on.outs turn.calls in
       let is : entries ≡ map OfServer cs = turn.on.is in
@@ -254,7 +254,7 @@ module _ (config : Config) where
       (server_turns.all_at t turn.on.outs turn.calls turn.at) turned.still.server
       (subst (server_turns.IsGood config) calls turned.good_server)
       (subst (λ z. waiting (server_layer config z) ≡ []) calls turned.none_server) x p there out in
-      (k.0, subst (GivesOut t server_end p) (sym is) k.1)
+      (k.0, subst (GivesOut t config.addresses.server p) (sym is) k.1)
   far_given t entries es turned (inl turn) x p h out =
       let cs : List C.Call = client_turns.turn_calls turn.on.outs turn.on.reports turn.calls in
       absurd (never_far x (added (client_side config) (client_of es) cs)

@@ -14,7 +14,7 @@ use Rattle.coap_client.specs.Follows.Open.{IsOpenSince}
 use Rattle.coap_client.specs.Follows.Words.{Sending, last_sent}
 use Rattle.coap_client.specs.Trace as C
 use Rattle.coap_client.proofs.Facts.Laws as client_facts
-use Rattle.coap_world.specs.Events.{server_end, Config}
+use Rattle.coap_world.specs.Events.{Config}
 use Rattle.coap_world.specs.Hops.{client_adds, server_adds, hops_at, hops_in, hops_of}
 use Rattle.coap_world.specs.Record.{Entry, OfClient, OfServer, Turn, entries_of, client_of, server_trace}
 use Rattle.coap_world.specs.Separate.{CarriesAnswer, SeparateEnds}
@@ -38,36 +38,38 @@ ever_at Q e [] h q = h
 ever_at Q e (x ∷ xs) (inl h) q = inl (subst Q (sym h) q)
 ever_at Q e (x ∷ xs) (inr h) q = inr (ever_at Q e xs h q)
 
-module _ (config : Config) (con : Open) (x : Sending) (s : CarriesAnswer x con) where
+module _ (config : Config) (con : Open) (x : Sending) (s : CarriesAnswer config.addresses x con) where
   abbrev Comes : List C.Call → C.Call → Type 0
-  Comes t c = ComesUp server_end config.client_sizes config.client_setup x t c
+  Comes t c = ComesUp config.addresses.server config.client_sizes config.client_setup x t c
 
   abbrev IsTaken : L.Entry → Type 0
-  IsTaken e = TakesWithin max_age server_end con e
+  IsTaken e = TakesWithin max_age config.addresses.server con e
 
   comes_here : (past : List Entry) (c : C.Call) → Lawful config (OfClient c ∷ past) → (e : L.Entry)
       → Ever (λ y. y ≡ e) (client_adds config (client_of past) c) → IsTaken e → Comes (client_of past) c
   comes_here past c law e among takes =
       let t : List C.Call = client_of past in
-      let at = at_client config t c (law.client.exchanges.left, law.client.exchanges.layer) server_end con.bytes e among
+      let at = at_client config t c (law.client.exchanges.left, law.client.exchanges.layer) config.addresses.server
+      con.bytes e among
       takes.takes.call in
       let parts : client_layer config (c ∷ t) ≡ at.later ++ (e ∷ client_layer config t) =
       client_next config t c ∙ ap (λ l. l ++ client_layer config t) at.adds
       ∙ append_assoc at.later (e ∷ []) (client_layer config t) in
       let stands = (Always_back (Stands_in config.client_setup) at.later (e ∷ client_layer config t)
       (subst (LayerLaw config.client_setup) parts
-      (client_facts.layer server_end config.client_sizes config.client_setup (c ∷ t) law.client))).0 in
+      (client_facts.layer config.addresses.server config.client_sizes config.client_setup (c ∷ t) law.client))).0 in
       let up : e.answer ≡ L.Becomes (L.Response s.message) =
-      as_response config.client_setup (client_layer config t) e server_end con.id con.bytes s.message stands
+      as_response config.client_setup (client_layer config t) e config.addresses.server con.id con.bytes s.message
+      stands
       takes.takes.call s.spells s.kind takes.takes.up s.class in
-      let hears : Ever (Hears server_end s.message) (client_adds config t c) =
-      ever_at (Hears server_end s.message) e (client_adds config t c) among
+      let hears : Ever (Hears config.addresses.server s.message) (client_adds config t c) =
+      ever_at (Hears config.addresses.server s.message) e (client_adds config t c) among
       (record { bytes = con.bytes; call = takes.takes.call; answer = up }) in
       let asked = asked_before config past c law s.message hears in
       let f = at.fed in
       record {
         now = f.now;
-        from = server_end;
+        from = config.addresses.server;
         bytes = con.bytes;
         w = f.word;
         message = s.message;
@@ -76,8 +78,9 @@ module _ (config : Config) (con : Open) (x : Sending) (s : CarriesAnswer x con) 
         sent = f.sent;
         token = f.token;
         kept = f.kept;
-        is = f.is ∙ ap (λ u. C.Feeds f.now server_end con.bytes f.word u f.settled f.event f.sent f.token f.kept) up;
-        sound = record { there = same_endpoint_self server_end; understood = s.understood };
+        is = f.is ∙ ap (λ u. C.Feeds f.now config.addresses.server con.bytes f.word u f.settled f.event f.sent f.token
+            f.kept) up;
+        sound = record { there = same_endpoint_self config.addresses.server; understood = s.understood };
         same = s.token;
         kind = inl s.kind;
         asked = asked.sending;
@@ -114,26 +117,26 @@ module _ (config : Config) (laws : Laws) where
       → Always (λ p c. TakesNoObservation c) (client_of (entries_of past)) → (at : ℕ)
       → IsOpenSince config.client_sizes at (client_of (entries_of past)) → (x : Sending)
       → last_sent config.client_sizes (client_of (entries_of past)) ≡ Some x → (con : Open)
-      → Ever (λ b. begun b ≡ Some con) (far_of (hops_of config past)) → CarriesAnswer x con
+      → Ever (λ b. begun b ≡ Some con) (far_of (hops_of config past)) → CarriesAnswer config.addresses x con
       → con.first + max_age < turn.event.at → ⊥
   ends_here turn past g none at is_open x last con there s late =
       let t : List C.Call = client_of (entries_of past) in
       let old = goes_before config turn past g in
-      let k = open_of server_end config.client_sizes config.client_setup at t old.stands.client is_open in
+      let k = open_of config.addresses.server config.client_sizes config.client_setup at t old.stands.client is_open in
       let both : Some k.0 ≡ Some x =
-      sym (last_of server_end config.client_sizes config.client_setup at k.0 t k.1) ∙ last in
+      sym (last_of config.addresses.server config.client_sizes config.client_setup at k.0 t k.1) ∙ last in
       let same : k.0 ≡ x = cc both in
-      let o : OpenOf server_end config.client_sizes config.client_setup at x t =
-      subst (λ z. OpenOf server_end config.client_sizes config.client_setup at z t) same k.1 in
+      let o : OpenOf config.addresses.server config.client_sizes config.client_setup at x t =
+      subst (λ z. OpenOf config.addresses.server config.client_sizes config.client_setup at z t) same k.1 in
       let taken = (taken_here config laws.beneath turn past g).by_client con there s.to late in
       let up = comes config con x s (entries_of past) (lawful config _ past (record_of config past old.stands)
       (record { range = old.stands.range; events = old.stands.legal })) taken in
       let plain = was_plain config.client_sizes x t
-      (laws.observed server_end config.client_sizes config.client_setup t old.stands.client) none
-      (was_sent server_end config.client_sizes config.client_setup at x t o) in
-      never_answered server_end config.client_sizes config.client_setup at x t old.stands.client
-      (laws.heard server_end config.client_sizes config.client_setup t old.stands.client)
-      (laws.own server_end config.client_sizes config.client_setup t old.stands.client) plain o up
+      (laws.observed config.addresses.server config.client_sizes config.client_setup t old.stands.client) none
+      (was_sent config.addresses.server config.client_sizes config.client_setup at x t o) in
+      never_answered config.addresses.server config.client_sizes config.client_setup at x t old.stands.client
+      (laws.heard config.addresses.server config.client_sizes config.client_setup t old.stands.client)
+      (laws.own config.addresses.server config.client_sizes config.client_setup t old.stands.client) plain o up
 
   pub separate_ends : (turns : List Turn) → Goes config turns
       → Always (λ p c. TakesNoObservation c) (client_of (entries_of turns)) → SeparateEnds config turns

@@ -6,7 +6,7 @@ use Rattle.coap_client.specs.Law.{ClientLaw}
 use Rattle.coap_client.proofs.Facts.Laws as client_facts
 use Rattle.coap_server.specs.Law.{ServerLaw}
 use Rattle.coap_server.proofs.Facts.Laws as server_facts
-use Rattle.coap_world.specs.Events.{server_end, Config, Event}
+use Rattle.coap_world.specs.Events.{Config, Event}
 use Rattle.coap_world.specs.Legal.{IsConfig, Legal, AllLegal}
 use Rattle.coap_world.specs.Record.{Entry, OfClient, OfServer, Turn, RecordOf, Makes, entries_of, client_of, server_trace}
 use Rattle.coap_world.specs.Smooth.{GoesSmoothly, Smooth}
@@ -14,13 +14,15 @@ use Rattle.coap_world.proofs.Delivery.HopsAreAChannel as joined
 use Rattle.coap_world.proofs.Delivery.HopsAreFair.{Ran}
 use Rattle.coap_world.proofs.Delivery.OneEndATurn.{ClientTurn, ServerTurn, side}
 use Rattle.coap_world.proofs.Smoothly.SentIsGivenOut.{Turned}
+use Rattle.coap_world.specs.declared.addresses.Addresses.{Addresses}
 
-abbrev pub AllMade : List Turn → Type 0
-AllMade turns = Always (λ past t. Makes past t.event.at t.event.word t.event.what t.refused t.entries) turns
+abbrev pub AllMade : Addresses → List Turn → Type 0
+AllMade addresses turns = Always (λ past t. Makes addresses past t.event.at t.event.word t.event.what t.refused
+    t.entries) turns
 
 module _ (config : Config) where
   abbrev pub ForClient : List Entry → Type 0
-  ForClient t = ClientLaw server_end config.client_sizes config.client_setup (client_of t)
+  ForClient t = ClientLaw config.addresses.server config.client_sizes config.client_setup (client_of t)
 
   abbrev pub ForServer : List Entry → Type 0
   ForServer t = ServerLaw config.limits config.server_szx config.server_setup (server_trace config t)
@@ -28,7 +30,8 @@ module _ (config : Config) where
   pub client_behind : (later past : List Entry) → ForClient (later ++ past) → ForClient past
   client_behind [] past law = law
   client_behind (OfClient c ∷ later) past law = client_behind later past
-      (client_facts.back server_end config.client_sizes config.client_setup (c ∷ []) (client_of (later ++ past)) law)
+      (client_facts.back config.addresses.server config.client_sizes config.client_setup (c ∷ [])
+      (client_of (later ++ past)) law)
   client_behind (OfServer c ∷ later) past law = client_behind later past law
 
   pub server_behind : (later past : List Entry) → ForServer (later ++ past) → ForServer past
@@ -40,11 +43,11 @@ module _ (config : Config) where
 
   pub record Stands (turns : List Turn) : Type 0 where
     pub range : IsConfig config
-    pub made : AllMade turns
-    pub legal : AllLegal turns
+    pub made : AllMade config.addresses turns
+    pub legal : AllLegal config.addresses turns
     pub client : ForClient (entries_of turns)
     pub server : ForServer (entries_of turns)
-    pub goes : Always GoesSmoothly turns
+    pub goes : Always (GoesSmoothly config.addresses) turns
 
   pub stands : (events : List Event) (turns : List Turn) → RecordOf config events turns → Legal config turns
       → Smooth config turns → Stands turns
@@ -79,8 +82,11 @@ module _ (config : Config) where
   pub record_of : (turns : List Turn) → Stands turns → RecordOf config (map (λ (t : Turn). t.event) turns) turns
   record_of turns s = record { events_are = refl; made = s.made; client = s.client; server = s.server }
 
+  pub legal_of : (turns : List Turn) → Stands turns → Legal config turns
+  legal_of turns s = record { range = s.range; events = s.legal }
+
   pub ran : (turns : List Turn) → Stands turns → Ran config turns
-  ran turns s = joined.run config (map (λ (t : Turn). t.event) turns) turns (record_of turns s) s.legal
+  ran turns s = joined.run config (map (λ (t : Turn). t.event) turns) turns (record_of turns s) (legal_of turns s)
 
   pub turned : (turn : Turn) (past : List Turn) → Stands (turn ∷ past)
       → Turned config turn.event.at turn.entries (entries_of past)
@@ -99,4 +105,5 @@ module _ (config : Config) where
 
   pub side_of : (turn : Turn) (past : List Turn) → Stands (turn ∷ past)
       → ClientTurn turn.event.at turn.entries ⊎ ServerTurn turn.event.at turn.entries
-  side_of turn past s = side past turn.event.at turn.event.word turn.refused turn.entries turn.event.what s.made.0
+  side_of turn past s = side config.addresses past turn.event.at turn.event.word turn.refused turn.entries
+      turn.event.what s.made.0

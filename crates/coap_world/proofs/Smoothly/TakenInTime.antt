@@ -18,7 +18,7 @@ use Rattle.coap_client.specs.Follows.Replied.{RepliesNext, RepliesToCons}
 use Rattle.coap_client.specs.Trace as C
 use Rattle.coap_client.proofs.Facts.Laws as client_facts
 use Rattle.coap_server.specs.Law as server_law
-use Rattle.coap_world.specs.Events.{client_end, server_end, Config}
+use Rattle.coap_world.specs.Events.{Config}
 use Rattle.coap_world.specs.Hops.{client_adds, server_adds, hops_in, hops_of, across}
 use Rattle.coap_world.specs.InTime.{ArriveInTime, FewArrive}
 use Rattle.coap_world.specs.Record.{Entry, OfClient, OfServer, Turn, entries_of, client_of, server_trace}
@@ -31,7 +31,7 @@ use Rattle.coap_world.proofs.Smoothly.ArrivesInTime.{arrive_in_time}
 use Rattle.coap_world.proofs.Smoothly.ConsCarry.{request_told, was_message, CarriesResponse, server_carries}
 use Rattle.coap_world.proofs.Smoothly.ConsCarry.{response_told}
 use Rattle.coap_world.proofs.Smoothly.HandedAs.{as_response}
-use Rattle.coap_world.proofs.Smoothly.Standing.{ForClient, Stands, before, record_of, client_behind}
+use Rattle.coap_world.proofs.Smoothly.Standing.{ForClient, Stands, before, legal_of, record_of, client_behind}
 use Rattle.coap_world.proofs.Smoothly.WhereItArrives.{AtClient, at_client, near_found, no_near}
 use Rattle.coap_world.proofs.Observations.Positions.{across_near, across_far}
 
@@ -63,7 +63,7 @@ then_far P (x ∷ later) reply arrival hs p = inr (then_far P later reply arriva
 
 module _ (config : Config) (con : Open) (carries : CarriesResponse con) where
   abbrev Ends : List L.Entry → L.Entry → Type 0
-  Ends = EndsWithin max_age server_end con
+  Ends = EndsWithin max_age config.addresses.server con
 
   abbrev message : Message
   message = with_head Con con.id carries.content
@@ -85,23 +85,29 @@ module _ (config : Config) (con : Open) (carries : CarriesResponse con) where
   }
 
   -- where it is taken, it is replied to
-  replied_here : (past : List C.Call) (c : C.Call) (x : L.Entry) → TakesWithin max_age server_end con x
-      → AtClient config server_end con.bytes x past c → Stands_in config.client_setup (client_layer config past) x
-      → RepliesToCons server_end config.client_sizes config.client_setup (c ∷ past) → (hs : List Hop)
+  replied_here : (past : List C.Call) (c : C.Call) (x : L.Entry) → TakesWithin max_age config.addresses.server con x
+      → AtClient config config.addresses.server con.bytes x past c
+      → Stands_in config.client_setup (client_layer config past) x
+      → RepliesToCons config.addresses.server config.client_sizes config.client_setup (c ∷ past) → (hs : List Hop)
       → Sometime (OnFarThen Ends) (map Far (client_adds config past c) ++ hs)
   replied_here past c x takes at stands replies hs =
-      let answer = as_response config.client_setup (client_layer config past) x server_end con.id con.bytes message
+      let answer = as_response config.client_setup (client_layer config past) x config.addresses.server con.id con.bytes
+      message
       stands takes.takes.call carries.spells refl takes.takes.up carries.response in
       let f = at.fed in
-      let is : c ≡ C.Feeds f.now server_end con.bytes f.word (L.Becomes (L.Response message)) f.settled f.event f.sent
+      let is : c ≡ C.Feeds f.now config.addresses.server con.bytes f.word (L.Becomes (L.Response message)) f.settled
+      f.event f.sent
       f.token f.kept =
-      f.is ∙ ap (λ u. C.Feeds f.now server_end con.bytes f.word u f.settled f.event f.sent f.token f.kept) answer in
-      let r : RepliesNext server_end con.bytes message (client_adds config past c) =
-      replies.0 f.now server_end con.bytes f.word message f.settled f.event f.sent f.token f.kept is refl in
+      f.is ∙ ap (λ u. C.Feeds f.now config.addresses.server con.bytes f.word u f.settled f.event f.sent f.token f.kept)
+      answer in
+      let r : RepliesNext config.addresses.server con.bytes message (client_adds config past c) =
+      replies.0 f.now config.addresses.server con.bytes f.word message f.settled f.event f.sent f.token f.kept is
+      refl in
       let ends : (r.later ++ r.reply ∷ []) ++ r.arrival ∷ [] ≡ at.later ++ x ∷ [] =
       append_assoc r.later (r.reply ∷ []) (r.arrival ∷ []) ∙ (sym r.adds_are ∙ at.adds) in
       let same : r.arrival ≡ x = same_end (r.later ++ r.reply ∷ []) at.later r.arrival x ends in
-      let taken : Takes server_end con r.arrival = subst (Takes server_end con) (sym same) takes.takes in
+      let taken : Takes config.addresses.server con r.arrival = subst (Takes config.addresses.server con) (sym same)
+      takes.takes in
       let soon = takes.soon in
       let when = r.at_once in
       let at_x = ap (λ (z : L.Entry). z.at) same in
@@ -114,8 +120,8 @@ module _ (config : Config) (con : Open) (carries : CarriesResponse con) where
       }))
 
   ends_in : (es : List Entry) → ForClient config es
-      → RepliesToCons server_end config.client_sizes config.client_setup (client_of es)
-      → Ever (OnNear (TakesWithin max_age server_end con)) (hops_in config es)
+      → RepliesToCons config.addresses.server config.client_sizes config.client_setup (client_of es)
+      → Ever (OnNear (TakesWithin max_age config.addresses.server con)) (hops_in config es)
       → Sometime (OnFarThen Ends) (across (hops_in config es))
   ends_in [] law replies h = absurd h
   ends_in (OfServer c ∷ past) law replies h =
@@ -123,25 +129,28 @@ module _ (config : Config) (con : Open) (carries : CarriesResponse con) where
       subst (Sometime (OnFarThen Ends)) (sym (across_far adds (hops_in config past)))
       (Sometime_back (OnFarThen Ends) (map Near adds) (across (hops_in config past))
       (ends_in past law replies
-      (⊎_elim (λ l. absurd (no_near (TakesWithin max_age server_end con) adds l)) (λ r. r)
-      (Ever_append (OnNear (TakesWithin max_age server_end con)) (map Far adds) (hops_in config past) h))))
+      (⊎_elim (λ l. absurd (no_near (TakesWithin max_age config.addresses.server con) adds l)) (λ r. r)
+      (Ever_append (OnNear (TakesWithin max_age config.addresses.server con)) (map Far adds) (hops_in config past) h))))
   ends_in (OfClient c ∷ past) law replies h =
       let adds = client_adds config (client_of past) c in
       subst (Sometime (OnFarThen Ends)) (sym (across_near adds (hops_in config past)))
       (⊎_elim here
       (λ r. Sometime_back (OnFarThen Ends) (map Far adds) (across (hops_in config past))
       (ends_in past (client_behind config (OfClient c ∷ []) past law) replies.1 r))
-      (Ever_append (OnNear (TakesWithin max_age server_end con)) (map Near adds) (hops_in config past) h))
+      (Ever_append (OnNear (TakesWithin max_age config.addresses.server con)) (map Near adds) (hops_in config past) h))
     where
-      here : Ever (OnNear (TakesWithin max_age server_end con)) (map Near (client_adds config (client_of past) c))
+      here : Ever (OnNear (TakesWithin max_age config.addresses.server con))
+          (map Near (client_adds config (client_of past) c))
           → Sometime (OnFarThen Ends)
           (map Far (client_adds config (client_of past) c) ++ across (hops_in config past))
       here w =
           let adds = client_adds config (client_of past) c in
-          let x = near_found (TakesWithin max_age server_end con) adds w in
-          let at = at_client config (client_of past) c (law.exchanges.left, law.exchanges.layer) server_end con.bytes x.0
+          let x = near_found (TakesWithin max_age config.addresses.server con) adds w in
+          let at = at_client config (client_of past) c (law.exchanges.left, law.exchanges.layer) config.addresses.server
+          con.bytes x.0
           x.1 x.2.takes.call in
-          let layer = client_facts.layer server_end config.client_sizes config.client_setup (c ∷ client_of past) law in
+          let layer = client_facts.layer config.addresses.server config.client_sizes config.client_setup
+          (c ∷ client_of past) law in
           let parts : client_layer config (c ∷ client_of past) ≡ at.later ++ (x.0 ∷ client_layer config (client_of past)) =
           client_next config (client_of past) c ∙ ap (λ l. l ++ client_layer config (client_of past)) at.adds
           ∙ append_assoc at.later (x.0 ∷ []) (client_layer config (client_of past)) in
@@ -151,25 +160,32 @@ module _ (config : Config) (con : Open) (carries : CarriesResponse con) where
 
 module _ (config : Config) (past : List Turn) (turn : Turn) (s : Stands config (turn ∷ past))
     (few : FewArrive config past)
-    (within : ConsTakenWithin config.server_setup.remembered client_end server_end (hops_of config past))
-    (back : ConsTakenWithin config.client_setup.remembered server_end client_end (across (hops_of config past)))
-    (ended : OverWithin server_end client_end (across (hops_of config past)))
-    (replies : RepliesToCons server_end config.client_sizes config.client_setup (client_of (entries_of past))) where
+    (within : ConsTakenWithin config.server_setup.remembered config.addresses.client config.addresses.server
+    (hops_of config past))
+    (back : ConsTakenWithin config.client_setup.remembered config.addresses.server config.addresses.client
+    (across (hops_of config past)))
+    (ended : OverWithin config.addresses.server config.addresses.client (across (hops_of config past)))
+    (replies : RepliesToCons config.addresses.server config.client_sizes config.client_setup
+    (client_of (entries_of past))) where
   old : Stands config past
   old = before config turn past s
 
   arrive : ArriveInTime config past turn
   arrive = arrive_in_time config past turn s
 
-  channel : ChannelLaw config.client_setup config.server_setup client_end server_end (hops_of config past)
-  channel = joined.channel config _ past (record_of config past old) old.legal
+  channel : ChannelLaw config.client_setup config.server_setup config.addresses.client config.addresses.server
+      (hops_of config past)
+  channel = joined.channel config _ past (record_of config past old) (legal_of config past old)
 
   by_server : (con : Open) → Ever (λ b. begun b ≡ Some con) (near_of (hops_of config past))
-      → con.first + max_age < turn.event.at → Ever (OnFar (TakesWithin max_age client_end con)) (hops_of config past)
+      → con.first + max_age < turn.event.at → Ever (OnFar (TakesWithin max_age config.addresses.client con))
+      (hops_of config past)
   by_server con h late =
-      let r = client_facts.begins server_end config.client_sizes config.client_setup (client_of (entries_of past)) old.client
+      let r = client_facts.begins config.addresses.server config.client_sizes config.client_setup
+      (client_of (entries_of past)) old.client
       con (subst (Ever (λ b. begun b ≡ Some con)) (near_is config (entries_of past)) h) in
-      let told = request_told config.client_setup (near_of (hops_of config past)) con r.0 channel.near_law h r.2
+      let told = request_told config.addresses config.client_setup (near_of (hops_of config past)) con r.0
+      channel.near_law h r.2
       (was_message config.client_sizes r.0 (client_of (entries_of past)) r.1) in
       within max_age turn.event.at con (omega arith) arrive.to_server few.at_server h r.2.to told late
 
@@ -180,17 +196,19 @@ module _ (config : Config) (past : List Turn) (turn : Turn) (s : Stands config (
       server_carries config.server_setup t con old.server.exchanges.rows law
       (subst (Ever (λ b. begun b ≡ Some con)) (far_is config (entries_of past)) h)
 
-  by_client : (con : Open) → Ever (λ b. begun b ≡ Some con) (far_of (hops_of config past)) → con.to ≡ client_end
-      → con.first + max_age < turn.event.at → Ever (OnNear (TakesWithin max_age server_end con)) (hops_of config past)
+  by_client : (con : Open) → Ever (λ b. begun b ≡ Some con) (far_of (hops_of config past)) → con.to
+      ≡ config.addresses.client
+      → con.first + max_age < turn.event.at → Ever (OnNear (TakesWithin max_age config.addresses.server con))
+      (hops_of config past)
   by_client con h to late =
       let hs = hops_of config past in
-      near_back (TakesWithin max_age server_end con) hs
+      near_back (TakesWithin max_age config.addresses.server con) hs
       (back max_age turn.event.at con (omega arith) arrive.to_client
       (λ since. (let a = few.at_client since in
       let b = ap (came since) (far_across hs) in omega (arith, a, b)))
       (subst (Ever (λ b. begun b ≡ Some con)) (sym (near_across hs)) h) to (response_told con (carried con h)) late)
 
-  over : (con : Open) → Ever (λ b. begun b ≡ Some con) (far_of (hops_of config past)) → con.to ≡ client_end
+  over : (con : Open) → Ever (λ b. begun b ≡ Some con) (far_of (hops_of config past)) → con.to ≡ config.addresses.client
       → con.first + max_age + max_age < turn.event.at → IsOpen (far_of (hops_of config past)) con → ⊥
   over con h to late stays =
       let hs = hops_of config past in

@@ -23,7 +23,7 @@ use Rattle.coap_server.specs.Follows.SentAs.{InOwnCon}
 use Rattle.coap_server.specs.Law.{own_of, lower_of}
 use Rattle.coap_server.specs.Trace as S
 use Rattle.coap_server.proofs.Facts.Laws as server_facts
-use Rattle.coap_world.specs.Events.{client_end, Config}
+use Rattle.coap_world.specs.Events.{Config}
 use Rattle.coap_world.specs.Hops.{server_adds}
 use Rattle.coap_world.specs.Legal.{IsConfig}
 use Rattle.coap_world.specs.Record.{Entry, OfClient, OfServer, server_trace}
@@ -37,14 +37,15 @@ use Rattle.coap_world.proofs.Smoothly.HandedBetween.{found}
 module _ (config : Config) (range : IsConfig config) where
   module _ (past : List Entry) (c : S.Call) (law : ForServer config (OfServer c ∷ past)) (now : ℕ) (answer : Bool)
       (a : Asked) (x : Sending) (tick : IsTick now answer c)
-      (answers : AnswersIt config.limits config.server_szx (server_trace config past) c a) (from : a.from ≡ client_end)
+      (answers : AnswersIt config.limits config.server_szx (server_trace config past) c a)
+      (from : a.from ≡ config.addresses.client)
       (token : a.token ≡ x.token) where
     abbrev t : List S.Call
     t = server_trace config past
 
     carried : (r : R.Response) → Sends config.limits config.server_szx t c a r → (y : L.Entry)
         → Ever (λ z. z ≡ y) (server_adds config t c) → InOwnCon a r y
-        → (con : Open) × Ever (λ b. begun b ≡ Some con) (server_adds config t c) × CarriesAnswer x con
+        → (con : Open) × Ever (λ b. begun b ≡ Some con) (server_adds config t c) × CarriesAnswer config.addresses x con
     carried r sends y among k =
         let con : Open =
         record {
@@ -85,7 +86,8 @@ module _ (config : Config) (range : IsConfig config) where
           },
         )
 
-    in_con : (con : Open) × Ever (λ b. begun b ≡ Some con) (server_adds config t c) × CarriesAnswer x con
+    in_con : (con : Open) × Ever (λ b. begun b ≡ Some con) (server_adds config t c)
+        × CarriesAnswer config.addresses x con
     in_con =
         let out = (server_facts.goes_out config.limits config.server_szx config.server_setup (c ∷ t) law).0 in
         let r = out.answers a answers in
@@ -98,7 +100,7 @@ module _ (config : Config) (range : IsConfig config) where
   ticks_answer (OfServer c ∷ past) law = (
     λ d now answer a x is tick answers from token. (let same : c ≡ d = cc is in
         subst (λ z. (con : Open) × Ever (λ b. begun b ≡ Some con) (server_adds config (server_trace config past) z)
-        × CarriesAnswer x con) same
+        × CarriesAnswer config.addresses x con) same
         (in_con past c law now answer a x (subst (IsTick now answer) (sym same) tick)
         (subst (λ z. AnswersIt config.limits config.server_szx (server_trace config past) z a) (sym same) answers)
         from token)),

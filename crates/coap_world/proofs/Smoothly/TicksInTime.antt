@@ -7,6 +7,7 @@ use Rattle.coap_world.specs.Legal.{AllLegal, NotBefore}
 use Rattle.coap_world.specs.Record.{Turn}
 use Rattle.coap_world.specs.Smooth.{max_age, GoesSmoothly}
 use Rattle.coap_world.specs.TicksLeave.{TicksThen, TicksInTime}
+use Rattle.coap_world.specs.declared.addresses.Addresses.{Addresses}
 
 pub lifted : (past : List Turn) (at now : ℕ) → at ≤ now → NotBefore past at → NotBefore past now
 lifted [] at now h k = tt
@@ -43,23 +44,26 @@ abbrev OldAt : ℕ → List Turn → Type 0
 OldAt when past = Ever (λ (t : Turn). t.event.at < when) past
 
 -- what is old stands before a tick from the moment on
-old_before : (t : Turn) (past : List Turn) (when : ℕ) → AllLegal (t ∷ past) → OldAt when (t ∷ past)
+old_before : (addresses : Addresses) (t : Turn) (past : List Turn) (when : ℕ) → AllLegal addresses (t ∷ past)
+    → OldAt when (t ∷ past)
     → Sometime (TicksSince when) past → OldAt when past
-old_before t past when legal (inr h) s = h
-old_before t past when legal (inl h) s = absurd (not_later past legal.0.later legal.1 s)
+old_before addresses t past when legal (inr h) s = h
+old_before addresses t past when legal (inl h) s = absurd (not_later past legal.0.later legal.1 s)
   where
-    not_later : (us : List Turn) → NotBefore us t.event.at → AllLegal us → Sometime (TicksSince when) us → ⊥
+    not_later : (us : List Turn) → NotBefore us t.event.at → AllLegal addresses us → Sometime (TicksSince when) us → ⊥
     not_later [] later all k = k
     not_later (u ∷ us) later all (inl k) = let from = k.1 in omega (arith, from, later, h)
     not_later (u ∷ us) later all (inr k) = not_later us (lifted us u.event.at t.event.at later all.0.later) all.1 k
 
 -- the first tick from that moment on is soon
-soon : (past : List Turn) (when : ℕ) → AllLegal past → Always GoesSmoothly past → OldAt when past
+soon : (addresses : Addresses) (past : List Turn) (when : ℕ) → AllLegal addresses past
+    → Always (GoesSmoothly addresses) past → OldAt when past
     → Sometime (TicksSince when) past → Sometime (λ older t. TicksThen when t) past
-soon [] when legal goes old h = h
-soon (t ∷ past) when legal goes old (inr h) =
-    inr (soon past when legal.1 goes.1 (old_before t past when legal old h) h)
-soon (t ∷ past) when legal goes old (inl h) = by goes.0.server_ticks (soon past when legal.1 goes.1 before)
+soon addresses [] when legal goes old h = h
+soon addresses (t ∷ past) when legal goes old (inr h) =
+    inr (soon addresses past when legal.1 goes.1 (old_before addresses t past when legal old h) h)
+soon addresses (t ∷ past) when legal goes old (inl h) = by goes.0.server_ticks
+    (soon addresses past when legal.1 goes.1 before)
   where
     before : OldAt when past
     before = elim old [ inl k ↦ absurd (let from = h.1 in omega (arith, from, k)) | inr k ↦ k ]
@@ -83,14 +87,17 @@ since past at when late old (inr all) = let k = young past at when old all in ab
 since past at when late old (inl e) =
     elim (last_tick past at when e) [ inl less ↦ absurd (omega (arith, less, late)) | inr k ↦ k ]
 
-pub ticks_soon : (turn : Turn) (past : List Turn) → AllLegal (turn ∷ past) → Always GoesSmoothly (turn ∷ past)
+pub ticks_soon : (addresses : Addresses) (turn : Turn) (past : List Turn) → AllLegal addresses (turn ∷ past)
+    → Always (GoesSmoothly addresses) (turn ∷ past)
     → (when : ℕ) → OldAt when past → when + max_age ≤ turn.event.at → Sometime (λ older t. TicksThen when t) past
-ticks_soon turn past legal goes when old late =
-    soon past when legal.1 goes.1 old (since past turn.event.at when late old goes.0.server_ticks)
+ticks_soon addresses turn past legal goes when old late =
+    soon addresses past when legal.1 goes.1 old (since past turn.event.at when late old goes.0.server_ticks)
 
-pub ticks_in_time : (turns : List Turn) → AllLegal turns → Always GoesSmoothly turns → TicksInTime turns
-ticks_in_time [] legal goes = tt
-ticks_in_time (turn ∷ past) legal goes = (
-  λ when old late. Sometime_ever (λ (t : Turn). TicksThen when t) past (ticks_soon turn past legal goes when old late),
-  ticks_in_time past legal.1 goes.1,
+pub ticks_in_time : (addresses : Addresses) (turns : List Turn) → AllLegal addresses turns
+    → Always (GoesSmoothly addresses) turns → TicksInTime turns
+ticks_in_time addresses [] legal goes = tt
+ticks_in_time addresses (turn ∷ past) legal goes = (
+  λ when old late. Sometime_ever (λ (t : Turn). TicksThen when t) past
+      (ticks_soon addresses turn past legal goes when old late),
+  ticks_in_time addresses past legal.1 goes.1,
 )

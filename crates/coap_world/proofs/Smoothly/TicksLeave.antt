@@ -57,11 +57,13 @@ module _ (config : Config) (past : List Entry) (entries : List Entry) (at word :
         none = ⊎_elim (λ n. inl n) (λ k. inr k.0) left;
       }
 
-pub ticks_leave : (config : Config) (turns : List Turn) → AllMade turns → ForServer config (entries_of turns)
+pub ticks_leave : (config : Config) (turns : List Turn) → AllMade config.addresses turns
+    → ForServer config (entries_of turns)
     → TicksLeaveNone config turns
 ticks_leave config [] made law = tt
 ticks_leave config (turn ∷ past) made law = (
-  λ what whole. (let m = subst (λ w. Makes past turn.event.at turn.event.word w turn.refused turn.entries) what made.0 in
+  λ what whole. (let m = subst (λ w. Makes config.addresses past turn.event.at turn.event.word w turn.refused
+      turn.entries) what made.0 in
       let ticks = subst (λ r. AreTicks (ServerTick turn.event.at turn.event.word) r m.0) whole m.1 in
       leaves config (entries_of past) turn.entries turn.event.at turn.event.word law m.0 ticks m.2),
   ticks_leave config past made.1 (server_behind config turn.entries (entries_of past) law),

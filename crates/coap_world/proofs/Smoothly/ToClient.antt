@@ -29,7 +29,7 @@ use Rattle.coap_server.specs.Plain.{by_plain}
 use Rattle.coap_server.specs.Trace as S
 use Rattle.coap_server.proofs.Facts.EachCall.{comes_here}
 use Rattle.coap_server.proofs.Facts.Laws as server_facts
-use Rattle.coap_world.specs.Events.{client_end, Config}
+use Rattle.coap_world.specs.Events.{Config}
 use Rattle.coap_world.specs.Hops.{server_adds}
 use Rattle.coap_world.proofs.Delivery.EntriesInTime.{Every, every_join, every_map}
 use Rattle.coap_world.proofs.Delivery.HopsAreEntries.{server_layer, server_next}
@@ -37,59 +37,63 @@ use Rattle.coap_world.proofs.Smoothly.Confirms.{IsEntrySo}
 use Rattle.coap_world.proofs.Smoothly.ConsAnswer.{Confirms, Plain, RespondsTo, NotifiesTo, plain_to, exchange_calls}
 use Rattle.coap_world.proofs.Smoothly.ConsAnswer.{adds_so, con_of}
 use Rattle.coap_world.proofs.Smoothly.ConsOfOpen.{of_each}
+use Rattle.coap_world.specs.declared.addresses.Addresses.{Addresses}
 
 -- what arrives came from the client
-abbrev pub IsFromClient : L.Entry → Type 0
-IsFromClient e = (from : Endpoint) (bytes : List ℕ) → e.call ≡ L.Receive from bytes → from ≡ client_end
+abbrev pub IsFromClient : Addresses → L.Entry → Type 0
+IsFromClient addresses e = (from : Endpoint) (bytes : List ℕ) → e.call ≡ L.Receive from bytes → from ≡ addresses.client
 
-abbrev pub GoesToClient : L.Entry → Type 0
-GoesToClient e = (p : L.Packet) → IsIn p e.out → p.to ≡ client_end
+abbrev pub GoesToClient : Addresses → L.Entry → Type 0
+GoesToClient addresses e = (p : L.Packet) → IsIn p e.out → p.to ≡ addresses.client
 
 module _ (config : Config) (observers : (t : List S.Call) → AreObservers config.limits config.server_szx t) where
   abbrev Law : List S.Call → Type 0
   Law t = ServerLaw config.limits config.server_szx config.server_setup t
 
   abbrev pub HeardClient : List S.Call → Type 0
-  HeardClient t = Every IsFromClient (server_layer config t)
+  HeardClient t = Every (IsFromClient config.addresses) (server_layer config t)
 
   back : (c : S.Call) (t : List S.Call) → Law (c ∷ t) → Law t
   back c t law = server_facts.back config.limits config.server_szx config.server_setup (c ∷ []) t law
 
   pub heard_before : (c : S.Call) (t : List S.Call) → HeardClient (c ∷ t) → HeardClient t
-  heard_before c t h = Always_back (λ p e. IsFromClient e) (server_adds config t c) (server_layer config t)
-      (subst (Every IsFromClient) (server_next config t c) h)
+  heard_before c t h = Always_back (λ p e. IsFromClient config.addresses e) (server_adds config t c)
+      (server_layer config t)
+      (subst (Every (IsFromClient config.addresses)) (server_next config t c) h)
 
   -- whose request it is
 
-  hands_client : (a : Asked) (v : _) (es : List L.Entry) → Every IsFromClient es
-      → Ever (HandsUp config.server_szx a v) es → a.from ≡ client_end
+  hands_client : (a : Asked) (v : _) (es : List L.Entry) → Every (IsFromClient config.addresses) es
+      → Ever (HandsUp config.server_szx a v) es → a.from ≡ config.addresses.client
   hands_client a v [] all h = absurd h
   hands_client a v (e ∷ es) all (inl h) = all.0 a.from h.bytes h.call
   hands_client a v (e ∷ es) all (inr h) = hands_client a v es all.1 h
 
   of_comes : (t : List S.Call) (c : S.Call) (a : Asked) (v : _) → HeardClient (c ∷ t)
-      → Comes config.limits config.server_szx config.server_setup t c a v → a.from ≡ client_end
-  of_comes t c a v heard k = hands_client a v k.news (news k.news (subst (Every IsFromClient) k.is heard)) k.here
+      → Comes config.limits config.server_szx config.server_setup t c a v → a.from ≡ config.addresses.client
+  of_comes t c a v heard k = hands_client a v k.news (news k.news (subst (Every (IsFromClient config.addresses)) k.is
+      heard)) k.here
     where
-      news : (front : List L.Entry) → Every IsFromClient (front ++ server_layer config t) → Every IsFromClient front
+      news : (front : List L.Entry) → Every (IsFromClient config.addresses) (front ++ server_layer config t)
+          → Every (IsFromClient config.addresses) front
       news [] h = tt
       news (e ∷ front) h = (h.0, news front h.1)
 
   of_served : (t : List S.Call) (c : S.Call) → Law (c ∷ t) → HeardClient (c ∷ t) → (x : Serving)
-      → serving (own_of config.limits config.server_szx t) c ≡ Some x → x.asked.from ≡ client_end
+      → serving (own_of config.limits config.server_szx t) c ≡ Some x → x.asked.from ≡ config.addresses.client
   of_served t c law heard x is =
       brought (c ∷ t) heard
       ((server_facts.handed config.limits config.server_szx config.server_setup (c ∷ t) law).0 x is)
     where
       brought : (calls : List S.Call) → HeardClient calls
           → Sometime (λ old b. Brings config.limits config.server_szx config.server_setup old b x.asked x.question) calls
-          → x.asked.from ≡ client_end
+          → x.asked.from ≡ config.addresses.client
       brought [] h k = absurd k
       brought (b ∷ old) h (inl k) = of_comes old b x.asked k.verdict h k.comes
       brought (b ∷ old) h (inr k) = brought old (heard_before b old h) k
 
   pub of_observer : (t : List S.Call) → Law t → HeardClient t → (o : Observer)
-      → WasMade config.limits config.server_szx t o → o.to ≡ client_end
+      → WasMade config.limits config.server_szx t o → o.to ≡ config.addresses.client
   of_observer [] law heard o h = absurd h
   of_observer (c ∷ t) law heard o (inl h) =
       sym h.made.from ∙ of_served t c law heard h.made.request h.made.here
@@ -115,7 +119,7 @@ module _ (config : Config) (observers : (t : List S.Call) → AreObservers confi
   -- where CONs go
 
   con_now : (t : List S.Call) (c : S.Call) → Law (c ∷ t) → HeardClient (c ∷ t) → (to : Endpoint)
-      → RespondsTo (own_of config.limits config.server_szx t) c to ⊎ NotifiesTo c to → to ≡ client_end
+      → RespondsTo (own_of config.limits config.server_szx t) c to ⊎ NotifiesTo c to → to ≡ config.addresses.client
   con_now t c law heard to (inl r) =
       let next = ((server_facts.begins config.limits config.server_szx config.server_setup (c ∷ t) law).0 r.now r.answer
       r.tick).responds r.asked r.answers in
@@ -125,7 +129,7 @@ module _ (config : Config) (observers : (t : List S.Call) → AreObservers confi
       sym k.2 ∙ of_observer t (back c t law) (heard_before c t heard) k.0 k.1
 
   pub cons_to : (t : List S.Call) → Law t → HeardClient t → (con : Open)
-      → Ever (λ b. begun b ≡ Some con) (server_layer config t) → con.to ≡ client_end
+      → Ever (λ b. begun b ≡ Some con) (server_layer config t) → con.to ≡ config.addresses.client
   cons_to [] law heard con h = absurd h
   cons_to (c ∷ t) law heard con h =
       ⊎_elim (λ now. con_now t c law heard con.to
@@ -222,7 +226,7 @@ module _ (config : Config) (observers : (t : List S.Call) → AreObservers confi
         last (inr z) = z
 
     plain_now : (t : List S.Call) (c : S.Call) → Law (c ∷ t) → HeardClient (c ∷ t)
-        → Here (lower (own_of config.limits config.server_szx t) c) → to ≡ client_end
+        → Here (lower (own_of config.limits config.server_szx t) c) → to ≡ config.addresses.client
     plain_now t (S.Feeds now from bytes word up (Some p) h below) law heard k =
         let s : S.Own = own_of config.limits config.server_szx t in
         let call : R.Call = incoming s now from bytes up (Some p) in
@@ -248,7 +252,7 @@ module _ (config : Config) (observers : (t : List S.Call) → AreObservers confi
     plain_now t _ law heard k = absurd k
 
   abbrev PlainToClient : L.Entry → Type 0
-  PlainToClient e = (to : Endpoint) (content : L.Content) → e.call ≡ L.Plain to content → to ≡ client_end
+  PlainToClient e = (to : Endpoint) (content : L.Content) → e.call ≡ L.Plain to content → to ≡ config.addresses.client
 
   plains : (t : List S.Call) → Law t → HeardClient t → Every PlainToClient (server_layer config t)
   plains [] law heard = tt
@@ -268,12 +272,13 @@ module _ (config : Config) (observers : (t : List S.Call) → AreObservers confi
   of_handed from (Some m) x h =
       let same : record { from = from; id = m.id } ≡ x = cc h in sym (ap (λ (z : Awaited). z.from) same)
 
-  awaited_from : (es : List L.Entry) → Every IsFromClient es → (x : Awaited) → awaits es ≡ Some x → x.from ≡ client_end
+  awaited_from : (es : List L.Entry) → Every (IsFromClient config.addresses) es → (x : Awaited) → awaits es ≡ Some x
+      → x.from ≡ config.addresses.client
   awaited_from [] all x h = absurd (cc h)
   awaited_from (e ∷ es) all x h = by e.call refl (λ k. awaited_from es all.1 x k) h
     where
-      by : (call : L.Call) → e.call ≡ call → (awaits es ≡ Some x → x.from ≡ client_end)
-          → awaits_in call e.answer (awaits es) ≡ Some x → x.from ≡ client_end
+      by : (call : L.Call) → e.call ≡ call → (awaits es ≡ Some x → x.from ≡ config.addresses.client)
+          → awaits_in call e.answer (awaits es) ≡ Some x → x.from ≡ config.addresses.client
       by (L.Receive from bytes) is older k = of_handed from (handed_by e.answer) x k ∙ all.0 from bytes is
       by (L.Settle to id) is older k = older k
       by L.Take is older k = older k
@@ -285,15 +290,16 @@ module _ (config : Config) (observers : (t : List S.Call) → AreObservers confi
       by (L.Plain to content) is older k = absurd (cc k)
       by L.Ticks is older k = absurd (cc k)
 
-  out_to : (es : List L.Entry) → EachGoesOut es → Every IsFromClient es → Every PlainToClient es
-      → ((con : Open) → Ever (λ b. begun b ≡ Some con) es → con.to ≡ client_end) → Every GoesToClient es
+  out_to : (es : List L.Entry) → EachGoesOut es → Every (IsFromClient config.addresses) es → Every PlainToClient es
+      → ((con : Open) → Ever (λ b. begun b ≡ Some con) es → con.to ≡ config.addresses.client)
+      → Every (GoesToClient config.addresses) es
   out_to [] goes from plain cons = tt
   out_to (e ∷ es) goes from plain_ones cons = (
     λ p among. by p (goes.0 p among),
     out_to es goes.1 from.1 plain_ones.1 (λ con h. cons con (inr h)),
   )
     where
-      by : (p : L.Packet) → GoesOut es e p → p.to ≡ client_end
+      by : (p : L.Packet) → GoesOut es e p → p.to ≡ config.addresses.client
       by p (first k) = ap (λ (z : L.Packet). z.to) k.is ∙ cons k.con (inl k.begins)
       by p (copy k) = ap (λ (z : L.Packet). z.to) k.is ∙ cons k.con (inr k.begun_before)
       by p (in_non k) = plain_ones.0 p.to k.content k.call
@@ -301,7 +307,8 @@ module _ (config : Config) (observers : (t : List S.Call) → AreObservers confi
       by p (stored k) = from.0 p.to k.bytes k.call
       by p (reset k) = from.0 p.to k.bytes k.call
 
-  pub all_to_client : (t : List S.Call) → Law t → HeardClient t → Every GoesToClient (server_layer config t)
+  pub all_to_client : (t : List S.Call) → Law t → HeardClient t
+      → Every (GoesToClient config.addresses) (server_layer config t)
   all_to_client t law heard =
       out_to (server_layer config t)
       (each_goes_out config.server_setup (server_layer config t)

@@ -10,7 +10,7 @@ use Rattle.coap_server.specs.Trace.{Waiting}
 use Rattle.coap_server.proofs.Facts.EachCall.{behind}
 use Rattle.coap_server.proofs.Facts.Laws as server_facts
 use Rattle.coap_world.specs.AtOnce.{WaitsAt, WaitsIn, TickAnswers, WaitedIn}
-use Rattle.coap_world.specs.Events.{client_end, Config}
+use Rattle.coap_world.specs.Events.{Config}
 use Rattle.coap_world.specs.Record.{Entry, OfClient, OfServer, server_trace}
 use Rattle.coap_world.proofs.Delivery.EntriesInTime.{Every}
 use Rattle.coap_world.proofs.Smoothly.DelaysAreShort.{SetsNone, IsAmong, among_delays}
@@ -23,7 +23,7 @@ module _ (config : Config) (when : ℕ) (x : Sending) where
   -- what waits for this request, or waited
   pub record WaitsNow (es : List Entry) : Type 0 where
     pub waiting : Waiting
-    pub from : waiting.asked.from ≡ client_end
+    pub from : waiting.asked.from ≡ config.addresses.client
     pub token : waiting.asked.token ≡ x.token
     pub since : waiting.at ≤ when
     pub delay : IsAmong waiting.delay config.delays

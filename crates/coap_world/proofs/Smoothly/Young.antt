@@ -31,7 +31,7 @@ use Rattle.coap_server.specs.Trace as S
 use Rattle.coap_server.specs.Trace.{Waiting}
 use Rattle.coap_server.proofs.Facts.Laws as server_facts
 use Rattle.coap_world.specs.AtOnce.{WaitedIn, LastWaits}
-use Rattle.coap_world.specs.Events.{client_end, server_end, Config, TickServer}
+use Rattle.coap_world.specs.Events.{Config, TickServer}
 use Rattle.coap_world.specs.HasIds.{HasIds}
 use Rattle.coap_world.specs.Hops.{hops_of, server_adds}
 use Rattle.coap_world.specs.Legal.{IsConfig, AllLegal}
@@ -52,7 +52,7 @@ use Rattle.coap_world.proofs.Smoothly.ExchangeOpen.{OpenOf, open_of, open_since,
 use Rattle.coap_world.proofs.Smoothly.NoTimeout.{no_timeouts}
 use Rattle.coap_world.proofs.Smoothly.RequestOpen.{open_was_begun}
 use Rattle.coap_world.proofs.Smoothly.SeparateEnds.{ends_here}
-use Rattle.coap_world.proofs.Smoothly.Standing.{Stands, before, record_of, ForServer, server_behind}
+use Rattle.coap_world.proofs.Smoothly.Standing.{Stands, before, legal_of, record_of, ForServer, server_behind}
 use Rattle.coap_world.proofs.Smoothly.TicksAnswer.{ticks_answer}
 use Rattle.coap_world.proofs.Smoothly.TicksInTime.{ticks_in_time}
 use Rattle.coap_world.proofs.Smoothly.TicksLeave.{ticks_leave}
@@ -135,7 +135,7 @@ module _ (config : Config) (range : IsConfig config) (needs : YoungLaws)
   record Answers (x : Sending) (till : ℕ) (turns : List Turn) : Type 0 where
     con : Open
     begun_there : Ever (λ b. begun b ≡ Some con) (server_layer config (server_trace config (entries_of turns)))
-    carries : CarriesAnswer x con
+    carries : CarriesAnswer config.addresses x con
     soon : con.first ≤ till
 
   later : (x : Sending) (till : ℕ) (turn : Turn) (past : List Turn) → Answers x till past → Answers x till (turn ∷ past)
@@ -160,9 +160,10 @@ module _ (config : Config) (range : IsConfig config) (needs : YoungLaws)
   record TickBegan (x : Sending) (es : List Entry) : Type 0 where
     con : Open
     begun_there : Ever (λ b. begun b ≡ Some con) (server_layer config (server_trace config es))
-    carries : CarriesAnswer x con
+    carries : CarriesAnswer config.addresses x con
 
-  tick_began : (x : Sending) (w : Waiting) (es : List Entry) → ForServer config es → w.asked.from ≡ client_end
+  tick_began : (x : Sending) (w : Waiting) (es : List Entry) → ForServer config es → w.asked.from
+      ≡ config.addresses.client
       → w.asked.token ≡ x.token → Sometime (WaitedIn config w) es → TickBegan x es
   tick_began x w [] law from token h = absurd h
   tick_began x w (OfClient c ∷ es) law from token (inl k) = absurd k
@@ -208,10 +209,11 @@ module _ (config : Config) (range : IsConfig config) (needs : YoungLaws)
     till_now : Always (λ p (u : Turn). u.event.at ≤ tick.event.at) (tick ∷ past)
     till_now =
         let same : tick.event.at ≤ tick.event.at = omega arith in
-        until (tick ∷ past) g_tick.stands.legal tick.event.at same
+        until config.addresses (tick ∷ past) g_tick.stands.legal tick.event.at same
 
     -- what is begun is so by now
-    answers_by : (con : Open) → Ever (λ b. begun b ≡ Some con) (server_layer config t) → CarriesAnswer x con
+    answers_by : (con : Open) → Ever (λ b. begun b ≡ Some con) (server_layer config t)
+        → CarriesAnswer config.addresses x con
         → Answers x tick.event.at (tick ∷ past)
     answers_by con there carries = record {
       con = con;
@@ -222,7 +224,8 @@ module _ (config : Config) (range : IsConfig config) (needs : YoungLaws)
     }
 
     -- one that is outstanding carries it too, since an older one would be over
-    module _ (ticks : List S.Call) (o : OpenTo client_end (server_layer config (ticks ++ server_trace config (entries_of past))))
+    module _ (ticks : List S.Call) (o : OpenTo config.addresses.client
+        (server_layer config (ticks ++ server_trace config (entries_of past))))
         (newer : List S.Call) (is : t ≡ newer ++ (ticks ++ server_trace config (entries_of past))) where
       abbrev older : List S.Call
       older = ticks ++ server_trace config (entries_of past)
@@ -258,7 +261,7 @@ module _ (config : Config) (range : IsConfig config) (needs : YoungLaws)
           by (carries_now config range observers at x o.con o.there tick past g_tick.stands
           (alone_before config range observers tick past g_tick.stands at x (omega (arith, late)) alone) there)
         where
-          by : CarriesAnswer x o.con
+          by : CarriesAnswer config.addresses x o.con
               ⊎ IsBegun (server_layer config (server_trace config (entries_of past)))
               → Answers x tick.event.at (tick ∷ past)
           by (inl carries) = answers_by o.con there carries
@@ -271,7 +274,7 @@ module _ (config : Config) (range : IsConfig config) (needs : YoungLaws)
               ]
 
     -- nothing waits behind it, unless a CON is outstanding
-    waits_no_more : (w : Waiting) → w.asked.from ≡ client_end → w.at ≤ at + max_age → w.delay ≤ most
+    waits_no_more : (w : Waiting) → w.asked.from ≡ config.addresses.client → w.at ≤ at + max_age → w.delay ≤ most
         → WaitsStill config.limits config.server_szx w t → Answers x tick.event.at (tick ∷ past)
     waits_no_more w from since delay still =
         by l.none (busy_or_not w.asked.from (outstanding (server_layer config (l.ticks ++ server_trace config (entries_of past)))))
@@ -290,7 +293,8 @@ module _ (config : Config) (range : IsConfig config) (needs : YoungLaws)
             → Answers x tick.event.at (tick ∷ past)
         by (inl no_id) b = absurd (ids.0 what l.later (l.ticks ++ server_trace config (entries_of past)) l.is no_id)
         by (inr none) (inl is_busy) =
-            busy l.ticks (open_to client_end (server_layer config (l.ticks ++ server_trace config (entries_of past)))
+            busy l.ticks (open_to config.addresses.client (server_layer config
+            (l.ticks ++ server_trace config (entries_of past)))
             (subst (Busy (server_layer config (l.ticks ++ server_trace config (entries_of past)))) from is_busy)) l.later l.is
         by (inr none) (inr free) =
             absurd (of_each (λ y. CanAnswer config.limits config.server_szx config.server_setup (l.ticks ++ server_trace config (entries_of past))
@@ -304,13 +308,14 @@ module _ (config : Config) (range : IsConfig config) (needs : YoungLaws)
     at_tick : Always (λ p c. TakesNoObservation c) (client_of es) → Answers x tick.event.at (tick ∷ past)
     at_tick none =
         by (last_waits config needs.laws turn (tick ∷ past) g none at
-        (open_since server_end config.client_sizes config.client_setup at x (client_of es) alone.is_open)
+        (open_since config.addresses.server config.client_sizes config.client_setup at x (client_of es) alone.is_open)
         (let later_than = g.stands.legal.0.later in let least = over_a_second config.delays in omega (arith, later_than, late, least)))
       where
         by : LastWaits config at (tick ∷ past) → Answers x tick.event.at (tick ∷ past)
         by k =
             let both : Some k.sending ≡ Some x =
-            sym k.last ∙ last_of server_end config.client_sizes config.client_setup at x (client_of es) alone.is_open in
+            sym k.last ∙ last_of config.addresses.server config.client_sizes config.client_setup at x (client_of es)
+            alone.is_open in
             let same : k.sending ≡ x = cc both in
             let token = k.token ∙ ap (λ (z : Sending). z.token) same in
             ⊎_elim (λ still. waits_no_more k.waiting k.from k.since (no_longer k.waiting.delay config.delays k.delay) still)
@@ -320,7 +325,7 @@ module _ (config : Config) (range : IsConfig config) (needs : YoungLaws)
 
   -- what is behind a tick is no earlier
   ticked_since : (at : ℕ) (turn : Turn) (past : List Turn) → Ever (TicksThen (at + most + max_age)) past
-      → AllLegal (turn ∷ past) → at + most + max_age ≤ turn.event.at
+      → AllLegal config.addresses (turn ∷ past) → at + most + max_age ≤ turn.event.at
   ticked_since at turn [] h legal = absurd h
   ticked_since at turn (u ∷ past) (inl k) legal =
       let from = k.from in let order = legal.0.later in omega (arith, from, order)
@@ -347,7 +352,8 @@ module _ (config : Config) (range : IsConfig config) (needs : YoungLaws)
 
   -- an exchange that is open began at an event
   began_in : (turns : List Turn) → Stands config turns → (at : ℕ) (x : Sending)
-      → OpenOf server_end config.client_sizes config.client_setup at x (client_of (entries_of turns)) → (when : ℕ)
+      → OpenOf config.addresses.server config.client_sizes config.client_setup at x (client_of (entries_of turns))
+      → (when : ℕ)
       → at < when → Ever (λ (u : Turn). u.event.at < when) turns
   began_in [] s at x o when later = absurd o
   began_in (turn ∷ past) s at x o when later =
@@ -371,25 +377,28 @@ module _ (config : Config) (range : IsConfig config) (needs : YoungLaws)
         let two = two_at_least config.delays in
         let waits = last_waits config needs.laws turn past g none at is_open (omega (arith, late, two)) in
         let is = with_longest waits.waiting.delay config.delays waits.delay in
-        let k = open_of server_end config.client_sizes config.client_setup at calls s_past.client is_open in
+        let k = open_of config.addresses.server config.client_sizes config.client_setup at calls s_past.client
+        is_open in
         let x : Sending = k.0 in
         let alone : Alone at x past = record {
-          observed = needs.laws.observed server_end config.client_sizes config.client_setup calls s_past.client;
+          observed = needs.laws.observed config.addresses.server config.client_sizes config.client_setup calls
+              s_past.client;
           none = none;
-          of_open = needs.hears server_end config.client_sizes config.client_setup calls s_past.client;
+          of_open = needs.hears config.addresses.server config.client_sizes config.client_setup calls s_past.client;
           ends = by_answers config short past s_past older
               (no_timeouts config needs.laws needs.in_time past (goes_before config turn past g) none)
-              (needs.in_time server_end config.client_sizes config.client_setup calls s_past.client)
-              (needs.resets config.client_setup config.server_setup client_end server_end (hops_of config past)
-              (joined.channel config _ past (record_of config past s_past) s_past.legal));
+              (needs.in_time config.addresses.server config.client_sizes config.client_setup calls s_past.client)
+              (needs.resets config.client_setup config.server_setup config.addresses.client config.addresses.server
+              (hops_of config past)
+              (joined.channel config _ past (record_of config past s_past) (legal_of config past s_past)));
           is_open = k.1;
         } in
-        let ticks = (ticks_in_time (turn ∷ past) g.stands.legal g.stands.goes).0 (at + most + max_age)
+        let ticks = (ticks_in_time config.addresses (turn ∷ past) g.stands.legal g.stands.goes).0 (at + most + max_age)
         (began_in past s_past at x k.1 (at + most + max_age) (omega arith)) (omega (arith, late, is)) in
         let r = find turn past g ids none at x alone ticks in
         let soon = r.soon in
         ends_here config needs.laws turn past g none at is_open x
-        (last_of server_end config.client_sizes config.client_setup at x calls k.1) r.con
+        (last_of config.addresses.server config.client_sizes config.client_setup at x calls k.1) r.con
         (subst (Ever (λ b. begun b ≡ Some r.con)) (sym (far_is config (entries_of past))) r.begun_there) r.carries
         (omega (arith, soon, late, is))
 

@@ -32,7 +32,7 @@ use Rattle.coap_server.proofs.Facts.Laws as server_facts
 use Rattle.coap_server.proofs.Facts.Laws.{version_is}
 use Rattle.coap_world.specs.Applied.{Does, body_of, IsWhole, AppliedWhole}
 use Rattle.coap_world.specs.CameFrom.{request_of, ComesAt}
-use Rattle.coap_world.specs.Events.{client_end, server_end, Config}
+use Rattle.coap_world.specs.Events.{Config}
 use Rattle.coap_world.specs.Legal.{IsRequest}
 use Rattle.coap_world.specs.Record.{Entry, OfClient, OfServer, client_of, server_trace}
 use Rattle.coap_world.specs.Serves.{BroughtAt}
@@ -92,10 +92,11 @@ module _ (config : Config) (number : ℕ) (all : List Entry) (small : config.cli
   one_called : (r s : C.Request) → WasTaken (record { number = number; request = r }) (client_of all)
       → WasTaken (record { number = number; request = s }) (client_of all) → r ≡ s
   one_called r s a b = one_request number r s (client_of all)
-      (client_facts.numbers server_end config.client_sizes config.client_setup (client_of all) whole.client) a b
+      (client_facts.numbers config.addresses.server config.client_sizes config.client_setup (client_of all)
+      whole.client) a b
 
   module _ (w : List Entry) (later : LaterAll w) (law : Lawful config w) (x : Serving)
-      (from : (x.asked).from ≡ client_end) (k : Known config number all small whole in_range w x) where
+      (from : (x.asked).from ≡ config.addresses.client) (k : Known config number all small whole in_range w x) where
     abbrev clocks : Clocks
     clocks = law.clocks
 
@@ -112,7 +113,8 @@ module _ (config : Config) (number : ℕ) (all : List Entry) (small : config.cli
     AsItCame t = Sometime (ComesAt config x.asked (Asks x.question)) t × ((x.question).body ≡ payload_of k.transfer)
 
     -- a request with that token is the one that is asked
-    same_sending : (s : Sending) (con : Open) → Sent config s all → x.asked ≡ asked_of client_end (request_of con.id s)
+    same_sending : (s : Sending) (con : Open) → Sent config s all → x.asked
+        ≡ asked_of config.addresses.client (request_of con.id s)
         → s ≡ k.sending
     same_sending s con sent is = one_sending config clocks all small whole in_range s k.sending number sent k.sent k.of_call
         (sym (ap (λ (a : Asked). a.token) is) ∙ ap (λ (a : Asked). a.token) k.asked)

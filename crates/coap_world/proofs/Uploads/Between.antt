@@ -14,7 +14,7 @@ use Rattle.coap_client.specs.Follows.Order.{call_of}
 use Rattle.coap_client.specs.Follows.Words.{Taken, WasTaken, Sending}
 use Rattle.coap_server.specs.Follows.Takes.{Took}
 use Rattle.coap_server.specs.Trace as S
-use Rattle.coap_world.specs.Events.{client_end, server_end, Config}
+use Rattle.coap_world.specs.Events.{Config}
 use Rattle.coap_world.specs.Hops.{hops_in, hops_at, client_adds, server_adds}
 use Rattle.coap_world.specs.Legal.{IsRequest}
 use Rattle.coap_world.specs.Record.{Entry, OfClient, OfServer, client_of, server_trace}
@@ -61,9 +61,9 @@ module _ (config : Config) (clocks : Clocks) (all : List Entry) (small : config.
   -- a block that was taken, and came: freed from its place
   pub record Up (con : Open) (x : Sending) (k : ℕ) (w : List Entry) : Type 0 where
     pub known : KnownTo con x k
-    pub to : con.to ≡ server_end
+    pub to : con.to ≡ config.addresses.server
     pub begun_before : Begun config con w
-    pub up : Ever (OnFar (HandsUpAs clocks client_end con)) (hops_in config w)
+    pub up : Ever (OnFar (HandsUpAs clocks config.addresses.client con)) (hops_in config w)
 
   pub up_next : (con : Open) (x : Sending) (k : ℕ) (past : List Entry) (e : Entry) → Up con x k past
       → Up con x k (e ∷ past)
@@ -72,7 +72,8 @@ module _ (config : Config) (clocks : Clocks) (all : List Entry) (small : config.
         known = u.known;
         to = u.to;
         begun_before = begun_later config past e (Begins con) u.begun_before;
-        up = Ever_back (OnFar (HandsUpAs clocks client_end con)) (hops_at config past e) (hops_in config past) u.up;
+        up = Ever_back (OnFar (HandsUpAs clocks config.addresses.client con)) (hops_at config past e)
+            (hops_in config past) u.up;
       }
 
   up_later : (con : Open) (x : Sending) (k : ℕ) (later w : List Entry) → Up con x k w → Up con x k (later ++ w)
@@ -113,7 +114,7 @@ module _ (config : Config) (clocks : Clocks) (all : List Entry) (small : config.
         known = known_of z past c p o;
         to = (k.is).to;
         begun_before = begun_later config past (OfServer c) (Begins k.con) k.begun_before;
-        up = Ever_front (OnFar (HandsUpAs clocks client_end k.con)) (hops_at config past (OfServer c))
+        up = Ever_front (OnFar (HandsUpAs clocks config.addresses.client k.con)) (hops_at config past (OfServer c))
             (hops_in config past) (o.block).arrives;
       }
 
@@ -121,7 +122,7 @@ module _ (config : Config) (clocks : Clocks) (all : List Entry) (small : config.
   same_call : (a b : Open) (x y : Sending) (i j : ℕ) → KnownTo a x i → KnownTo b y j → a ≡ b → i ≡ j
   same_call a b x y i j k l same =
       let e : x ≡ y = is_that config clocks all small whole in_range b y x j l k.sent
-      (subst (λ z. IsRequestOf server_end z x) same (k.carries).is) in
+      (subst (λ z. IsRequestOf config.addresses.server z x) same (k.carries).is) in
       let numbers : Some i ≡ Some j = sym (call_is x i k.block)
       ∙ (ap (λ (s : Sending). call_of s.operation) e ∙ call_is y j l.block) in
       cc numbers
@@ -138,8 +139,9 @@ module _ (config : Config) (clocks : Clocks) (all : List Entry) (small : config.
       earlier order in
       let f = follows config clocks all small whole in_range k.con con k.sending y o.number j knows u.known differ
       ((k.is).to ∙ sym u.to) past earlier found in
-      apart_at clocks client_end k.con con (server_adds config (server_trace config past) c) (hops_in config past)
-      (cons_apart clocks config.client_setup config.server_setup client_end server_end
+      apart_at clocks config.addresses.client k.con con (server_adds config (server_trace config past) c)
+      (hops_in config past)
+      (cons_apart clocks config.client_setup config.server_setup config.addresses.client config.addresses.server
       (hops_in config (OfServer c ∷ past)) p.channel) f (o.block).arrives
 
   turn_of : (w : List Entry) → PartOf w → (a b : Open) (x y : Sending) (i j : ℕ) → KnownTo a x i → KnownTo b y j → i ≢ j

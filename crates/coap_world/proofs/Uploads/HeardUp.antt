@@ -23,7 +23,7 @@ use Rattle.coap_server.specs.Trace as S
 use Rattle.coap_server.proofs.Facts.Laws as server_facts
 use Rattle.coap_world.specs.Answers.{IsAnswer, AnswersAt, replies, continues, refuses, notifies}
 use Rattle.coap_world.specs.CameFrom.{request_of, ComesAt}
-use Rattle.coap_world.specs.Events.{client_end, server_end, Config}
+use Rattle.coap_world.specs.Events.{Config}
 use Rattle.coap_world.specs.Hops.{hops_in, hops_at, client_adds}
 use Rattle.coap_world.specs.Legal.{IsRequest}
 use Rattle.coap_world.specs.Record.{Entry, OfClient, OfServer, client_of, server_trace, Setting, DelayOf, PlainOf}
@@ -49,7 +49,7 @@ module _ (config : Config) (clocks : Clocks) (all : List Entry) (small : config.
   module _ (old : Open) (x : Sending) (k : ℕ) (of : call_of x.operation ≡ Some k) (sent : Sent config x all)
       (begun_all : Begun config old all) (carries : Carries config old x) where
     abbrev UpIn : List Hop → Type 0
-    UpIn hs = Ever (OnFar (HandsUpAs clocks client_end old)) hs
+    UpIn hs = Ever (OnFar (HandsUpAs clocks config.addresses.client old)) hs
 
     same_con : (con : Open) (n : Message) → Begun config con all → Spells con.bytes n
         → con.id ≡ n.id → n.token ≡ x.token → con ≡ old
@@ -57,21 +57,22 @@ module _ (config : Config) (clocks : Clocks) (all : List Entry) (small : config.
         (request_of old.id x) s carries.spells id refl token refl
 
     comes_up : (past : List Entry) (e : Entry) (a : Asked) (v : Verdict) → PartOf (e ∷ past) → ComesAt config a v past e
-        → a.from ≡ client_end → a.token ≡ x.token → UpIn (hops_in config (e ∷ past))
+        → a.from ≡ config.addresses.client → a.token ≡ x.token → UpIn (hops_in config (e ∷ past))
     comes_up past e a v p comes from token =
         let came = p.comes.0 a v comes from in
         let f = came.0 in
         let there = (part_back config clocks all small whole in_range past e p).begun_there f.con f.begun_before in
         let same = same_con f.con (request_of f.con.id f.sending) there f.spells refl
         (sym (ap (λ (z : Asked). z.token) f.asked) ∙ token) in
-        Ever_front (OnFar (HandsUpAs clocks client_end old)) (hops_at config past e) (hops_in config past)
-        (subst (λ z. Ever (OnFar (HandsUpAs clocks client_end z)) (hops_at config past e)) same came.1)
+        Ever_front (OnFar (HandsUpAs clocks config.addresses.client old)) (hops_at config past e) (hops_in config past)
+        (subst (λ z. Ever (OnFar (HandsUpAs clocks config.addresses.client z)) (hops_at config past e)) same came.1)
 
     later_up : (past : List Entry) (e : Entry) → UpIn (hops_in config past) → UpIn (hops_in config (e ∷ past))
-    later_up past e h = Ever_back (OnFar (HandsUpAs clocks client_end old)) (hops_at config past e) (hops_in config past) h
+    later_up past e h = Ever_back (OnFar (HandsUpAs clocks config.addresses.client old)) (hops_at config past e)
+        (hops_in config past) h
 
     brought_up : (a : Asked) (q : Question) (w : List Entry) → PartOf w → Sometime (BroughtAt config a q) w
-        → a.from ≡ client_end → a.token ≡ x.token → UpIn (hops_in config w)
+        → a.from ≡ config.addresses.client → a.token ≡ x.token → UpIn (hops_in config w)
     brought_up a q [] p h from token = absurd h
     brought_up a q (OfClient c ∷ w) p (inl h) from token = absurd h
     brought_up a q (OfServer c ∷ w) p (inl h) from token = comes_up w (OfServer c) a h.verdict p h.comes from token
@@ -80,7 +81,7 @@ module _ (config : Config) (clocks : Clocks) (all : List Entry) (small : config.
 
     served_up : (past : List Entry) (c : S.Call) → PartOf (OfServer c ∷ past) → (s : Serving)
         → serving (own_of config.limits config.server_szx (server_trace config past)) c ≡ Some s
-        → s.asked.from ≡ client_end → s.asked.token ≡ x.token
+        → s.asked.from ≡ config.addresses.client → s.asked.token ≡ x.token
         → UpIn (hops_in config (OfServer c ∷ past))
     served_up past c p s here from token =
         let w : List Entry = OfServer c ∷ past in
@@ -104,7 +105,8 @@ module _ (config : Config) (clocks : Clocks) (all : List Entry) (small : config.
         (MadeBy config.limits config.server_szx o.to o.token o.path) (λ past c k. k.made) t made
 
     made_up : (to : Endpoint) (token : List ℕ) (path : List (List ℕ)) (w : List Entry) → PartOf w
-        → MadeIn to token path (server_trace config w) → to ≡ client_end → token ≡ x.token → UpIn (hops_in config w)
+        → MadeIn to token path (server_trace config w) → to ≡ config.addresses.client → token ≡ x.token
+        → UpIn (hops_in config w)
     made_up to token path [] p h from is = absurd (none_made to token path (settings config) h)
     made_up to token path (OfClient c ∷ w) p h from is =
         later_up w (OfClient c) (made_up to token path w
@@ -149,12 +151,16 @@ module _ (config : Config) (clocks : Clocks) (all : List Entry) (small : config.
 
     -- .. and taken
     pub heard_taken : (past : List Entry) (c : C.Call) → PartOf (OfClient c ∷ past) → Begun config old past
-        → Ever (HearsBy x.token) (c ∷ client_of past) → Ever (OnFar (Takes clocks client_end old)) (hops_in config past)
+        → Ever (HearsBy x.token) (c ∷ client_of past) → Ever (OnFar (Takes clocks config.addresses.client old))
+        (hops_in config past)
     heard_taken past c p there h =
         let earlier = part_back config clocks all small whole in_range past (OfClient c) p in
-        let up = off_near (HandsUpAs clocks client_end old) (client_adds config (client_of past) c) (hops_in config past)
+        let up = off_near (HandsUpAs clocks config.addresses.client old) (client_adds config (client_of past) c)
+        (hops_in config past)
         (heard_up (OfClient c ∷ past) p h) in
-        Ever_by_law (λ q e. OnFar (HandsUpAs clocks client_end old) e → OnFar (Takes clocks client_end old) e)
-        (OnFar (HandsUpAs clocks client_end old)) (OnFar (Takes clocks client_end old)) (λ q e l k. l.0 k) (hops_in config past)
-        (only_that_con clocks config.client_setup config.server_setup client_end server_end
+        Ever_by_law (λ q e. OnFar (HandsUpAs clocks config.addresses.client old) e
+        → OnFar (Takes clocks config.addresses.client old) e)
+        (OnFar (HandsUpAs clocks config.addresses.client old)) (OnFar (Takes clocks config.addresses.client old))
+        (λ q e l k. l.0 k) (hops_in config past)
+        (only_that_con clocks config.client_setup config.server_setup config.addresses.client config.addresses.server
         (hops_in config past) earlier.channel old there) up

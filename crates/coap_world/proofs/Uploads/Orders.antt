@@ -20,7 +20,7 @@ use Rattle.coap_client.specs.Own.{Uploads, Operation, Calling}
 use Rattle.coap_client.specs.Trace as C
 use Rattle.coap_client.specs.Follows.Words.{Taken, WasTaken, Sending, sends}
 use Rattle.coap_client.proofs.Facts.Laws as client_facts
-use Rattle.coap_world.specs.Events.{client_end, server_end, Config}
+use Rattle.coap_world.specs.Events.{Config}
 use Rattle.coap_world.specs.Hops.{hops_in, hops_at, client_adds, server_adds}
 use Rattle.coap_world.specs.Legal.{IsRequest}
 use Rattle.coap_world.specs.Record.{Entry, OfClient, OfServer, client_of, server_trace}
@@ -79,11 +79,13 @@ module _ (config : Config) (clocks : Clocks) (all : List Entry) (small : config.
 
   -- what was begun was sent, by the call that began it
   pub sent_of : (w : List Entry) → PartOf w → (con : Open) → Begun config con w
-      → (y : Sending) × Sent config y w × IsRequestOf server_end con y
-  sent_of w p con h = client_facts.begins server_end config.client_sizes config.client_setup (client_of w) p.law.client con
+      → (y : Sending) × Sent config y w × IsRequestOf config.addresses.server con y
+  sent_of w p con h = client_facts.begins config.addresses.server config.client_sizes config.client_setup (client_of w)
+      p.law.client con
       (subst (Ever (λ b. begun b ≡ Some con)) (near_is config w) h)
 
-  pub is_that : (con : Open) (x z : Sending) (k : ℕ) → Known con x k → Sent config z all → IsRequestOf server_end con z
+  pub is_that : (con : Open) (x z : Sending) (k : ℕ) → Known con x k → Sent config z all
+      → IsRequestOf config.addresses.server con z
       → z ≡ x
   is_that con x z k known sent is = one_sending config clocks all small whole in_range z x k sent known.sent
       (call_is x k known.block) (sym (same_token config con x z known.carries is))
@@ -118,8 +120,9 @@ module _ (config : Config) (clocks : Clocks) (all : List Entry) (small : config.
 
         now_sent : (con : Open) → Ever (λ b. begun b ≡ Some con) adds
             → (z : Sending) × (sends (own_of config.client_sizes (client_of past)) c ≡ Some z)
-            × IsRequestOf server_end con z
-        now_sent con k = let s = (client_facts.begins_now server_end config.client_sizes config.client_setup
+            × IsRequestOf config.addresses.server con z
+        now_sent con k = let s = (client_facts.begins_now config.addresses.server config.client_sizes
+            config.client_setup
             (client_of (OfClient c ∷ past)) p.law.client).0 con k in (s.sending, s.sends_it, s.is)
 
         sends_y : sends (own_of config.client_sizes (client_of past)) c ≡ Some y
@@ -163,16 +166,18 @@ module _ (config : Config) (clocks : Clocks) (all : List Entry) (small : config.
     in_turn [] p h = absurd h
     in_turn (OfServer c ∷ past) p (inl h) = absurd h
     in_turn (OfClient c ∷ past) p (inl h) =
-        ((client_facts.order server_end config.client_sizes config.client_setup
+        ((client_facts.order config.addresses.server config.client_sizes config.client_setup
         (client_of (OfClient c ∷ past)) p.law.client).0).in_turn x y i j h.sends_it h.sent (turn_is x i knows.block)
         (turn_is y j known.block)
     in_turn (e ∷ past) p (inr h) = in_turn past (back past e p) h
 
     module _ (to : old.to ≡ new.to) where
       put : (adds : List T.Entry) (hs : List Hop) → Ever (λ b. begun b ≡ Some old) (near_of hs)
-          → Ever (OnFar (Takes clocks client_end old)) hs ⊎ Always (λ t e. SendsIt old t e → e.at + max_latency < new.first)
+          → Ever (OnFar (Takes clocks config.addresses.client old)) hs
+          ⊎ Always (λ t e. SendsIt old t e → e.at + max_latency < new.first)
           (adds ++ near_of hs)
-          → Ever (λ b. begun b ≡ Some new) adds → Sometime (OnNearAfter (Follows clocks client_end old new))
+          → Ever (λ b. begun b ≡ Some new) adds → Sometime (OnNearAfter
+          (Follows clocks config.addresses.client old new))
           (map Near adds ++ hs)
       put [] hs before gone h = absurd h
       put (e ∷ adds) hs before gone (inr h) = inr (put adds hs before (⊎_elim (λ k. inl k) (λ k. inr k.1) gone) h)
@@ -183,7 +188,7 @@ module _ (config : Config) (clocks : Clocks) (all : List Entry) (small : config.
             to_is = to;
             begun_before = subst (Ever (λ b. begun b ≡ Some old)) (sym (near_near adds hs))
                 (Ever_back (λ b. begun b ≡ Some old) adds (near_of hs) before);
-            gone = ⊎_elim (λ k. inl (Ever_back (OnFar (Takes clocks client_end old)) (map Near adds) hs k))
+            gone = ⊎_elim (λ k. inl (Ever_back (OnFar (Takes clocks config.addresses.client old)) (map Near adds) hs k))
                 (λ k. inr (subst (λ n. Always (λ t z. SendsIt old t z → z.at + max_latency < n)
                 (near_of (map Near adds ++ hs))) first
                 (subst (Always (λ t z. SendsIt old t z → z.at + max_latency < new.first))
@@ -192,21 +197,23 @@ module _ (config : Config) (clocks : Clocks) (all : List Entry) (small : config.
 
       -- the earlier one is gone there
       pub follows : (w : List Entry) → PartOf w → Sometime FindsAt w
-          → Sometime (OnNearAfter (Follows clocks client_end old new)) (hops_in config w)
+          → Sometime (OnNearAfter (Follows clocks config.addresses.client old new)) (hops_in config w)
       follows [] p h = absurd h
       follows (OfServer c ∷ past) p (inl h) = absurd h
-      follows (e ∷ past) p (inr h) = Sometime_back (OnNearAfter (Follows clocks client_end old new)) (hops_at config past e)
+      follows (e ∷ past) p (inr h) = Sometime_back (OnNearAfter (Follows clocks config.addresses.client old new))
+          (hops_at config past e)
           (hops_in config past) (follows past (back past e p) h)
       follows (OfClient c ∷ past) p (inl h) =
           put (client_adds config (client_of past) c) (hops_in config past) h.old_begun
           (⊎_elim (λ k. inl (heard_taken config clocks all small whole in_range old x i
           (call_is x i knows.block) knows.sent knows.begun_there knows.carries past c p h.old_begun k))
           (λ k. inr (quiet k))
-          ((blocks_apart server_end config.client_sizes config.client_setup (client_of (OfClient c ∷ past)) p.law.client).0
+          ((blocks_apart config.addresses.server config.client_sizes config.client_setup (client_of (OfClient c ∷ past))
+          p.law.client).0
           x y i j h.sends_it h.sent knows.block known.block differ))
           h.new_begun
         where
-          quiet : IsQuiet server_end config.client_sizes config.client_setup (client_of past) c x
+          quiet : IsQuiet config.addresses.server config.client_sizes config.client_setup (client_of past) c x
               → Always (λ t e. SendsIt old t e → e.at + max_latency < new.first)
               (client_adds config (client_of past) c ++ near_of (hops_in config past))
           quiet k =

@@ -22,7 +22,7 @@ use Rattle.coap_server.specs.Trace as S
 use Rattle.coap_client.proofs.Facts.Laws as client_facts
 use Rattle.coap_server.proofs.Facts.Laws as server_facts
 use Rattle.coap_world.specs.CameFrom.{request_of, CameFrom, IsChannel, ComesIn}
-use Rattle.coap_world.specs.Events.{client_end, server_end, Config}
+use Rattle.coap_world.specs.Events.{Config}
 use Rattle.coap_world.specs.Hops.{hops_in, hops_at}
 use Rattle.coap_world.specs.Legal.{IsRequest}
 use Rattle.coap_world.specs.Record.{Entry, OfServer, client_of, server_trace}
@@ -51,13 +51,14 @@ module _ (config : Config) where
 
   -- the CON is this request that was sent
   pub record Carries (con : Open) (x : Sending) : Type 0 where
-    pub is : IsRequestOf server_end con x
+    pub is : IsRequestOf config.addresses.server con x
     pub spells : Spells con.bytes (request_of con.id x)
 
   -- a CON has one token
-  pub same_token : (con : Open) (x y : Sending) → Carries con x → IsRequestOf server_end con y → x.token ≡ y.token
+  pub same_token : (con : Open) (x y : Sending) → Carries con x → IsRequestOf config.addresses.server con y → x.token
+      ≡ y.token
   same_token con x y k r = ap (λ (m : Message). m.token)
-      (same_request con (request_of con.id x) y r k.spells refl)
+      (same_request config.addresses con (request_of con.id x) y r k.spells refl)
 
   -- the block that is taken here, and the request of the client in which it came
   pub record CameBlock (clocks : Clocks) (z : Took) (past : List Entry) (c : S.Call) : Type 0 where
@@ -65,12 +66,12 @@ module _ (config : Config) where
     pub block : Block
     pub is : z ≡ took z.asked question block
     pub came : CameFrom config past (OfServer c) z.asked (Uploads question block)
-    pub arrives : Ever (OnFar (HandsUpAs clocks client_end came.con)) (hops_at config past (OfServer c))
+    pub arrives : Ever (OnFar (HandsUpAs clocks config.addresses.client came.con)) (hops_at config past (OfServer c))
 
   pub came_block : (clocks : Clocks) (z : Took) (past : List Entry) (c : S.Call) → Lawful config (OfServer c ∷ past)
       → ComesIn config clocks (OfServer c ∷ past)
       → takes_block (own_of config.limits config.server_szx (server_trace config past)) c ≡ Some z
-      → z.asked.from ≡ client_end → CameBlock clocks z past c
+      → z.asked.from ≡ config.addresses.client → CameBlock clocks z past c
   came_block clocks z past c law comes here from =
       let k = (server_facts.blocks config.limits config.server_szx config.server_setup
       (server_trace config (OfServer c ∷ past)) law.server).0 z here in
@@ -97,7 +98,8 @@ module _ (config : Config) where
     pub part_back : (past : List Entry) (e : Entry) → Part (e ∷ past) → Part past
     part_back past e p = record {
       law = lawful_back config past e p.law;
-      channel = channel_back clocks config.client_setup config.server_setup client_end server_end
+      channel = channel_back clocks config.client_setup config.server_setup config.addresses.client
+          config.addresses.server
           (hops_at config past e) (hops_in config past) p.channel;
       comes = p.comes.1;
       sent = λ x k. p.sent x (sent_later config x past e k);
@@ -109,7 +111,7 @@ module _ (config : Config) where
     pub one_sending : (x y : Sending) (number : ℕ) → Sent x all → Sent y all → call_of y.operation ≡ Some number
         → x.token ≡ y.token → x ≡ y
     one_sending x y number sent there of token =
-        by (client_facts.tokens server_end config.client_sizes config.client_setup
+        by (client_facts.tokens config.addresses.server config.client_sizes config.client_setup
         (client_of all) whole.client x y sent there token)
       where
         by : (x ≡ y) ⊎ (Deregisters x y ⊎ Deregisters y x) → x ≡ y
@@ -120,10 +122,11 @@ module _ (config : Config) where
     -- .. and of one CON
     not_registers : (k : Sending) (number : ℕ) → Sent k all → call_of k.operation ≡ Some number
         → (con other : Open) (m : Message) → Spells con.bytes m → con.id ≡ m.id → m.token ≡ k.token
-        → Ends server_end config.client_sizes (client_of all) con other → ⊥
+        → Ends config.addresses.server config.client_sizes (client_of all) con other → ⊥
     not_registers k number sent of con other m spells id token e =
         let same = one_sending e.first k number e.first_sent sent of
-        (sym (ap (λ (z : Message). z.token) (same_request con m e.first e.begins spells id)) ∙ token) in
+        (sym (ap (λ (z : Message). z.token) (same_request config.addresses con m e.first e.begins spells id))
+        ∙ token) in
         no_call e.first e.second number (ap (λ (z : Sending). call_of z.operation) same ∙ of) e.deregisters
 
     pub one_con : (k : Sending) (number : ℕ) → Sent k all → call_of k.operation ≡ Some number → (a b : Open)
@@ -132,12 +135,13 @@ module _ (config : Config) where
         → x.token ≡ k.token → y.token ≡ k.token → a ≡ b
     one_con k number sent of a b i j x y sa sb ia ib ta tb =
         let near = near_is config all in
-        by (client_facts.one_con server_end config.client_sizes config.client_setup (client_of all) whole.client a b
+        by (client_facts.one_con config.addresses.server config.client_sizes config.client_setup (client_of all)
+        whole.client a b
         (subst (Ever (λ e. begun e ≡ Some a)) near i) (subst (Ever (λ e. begun e ≡ Some b)) near j) x y sa sb
         (ta ∙ sym tb))
       where
-        by : (a ≡ b) ⊎ (Ends server_end config.client_sizes (client_of all) a b
-            ⊎ Ends server_end config.client_sizes (client_of all) b a) → a ≡ b
+        by : (a ≡ b) ⊎ (Ends config.addresses.server config.client_sizes (client_of all) a b
+            ⊎ Ends config.addresses.server config.client_sizes (client_of all) b a) → a ≡ b
         by (inl same) = same
         by (inr (inl e)) = absurd (not_registers k number sent of a b x sa ia ta e)
         by (inr (inr e)) = absurd (not_registers k number sent of b a y sb ib tb e)
@@ -152,7 +156,7 @@ module _ (config : Config) where
 
     pub of_upload : (z : Took) (past : List Entry) (c : S.Call) → Part (OfServer c ∷ past)
         → takes_block (own_of config.limits config.server_szx (server_trace config past)) c ≡ Some z
-        → z.asked.from ≡ client_end → OfUpload z past c
+        → z.asked.from ≡ config.addresses.client → OfUpload z past c
     of_upload z past c p here from = by (call_of k.came.sending.operation) refl
       where
         k : CameBlock clocks z past c

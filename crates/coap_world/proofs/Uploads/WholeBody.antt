@@ -25,7 +25,7 @@ use Rattle.coap_server.specs.Uploads.{continue}
 use Rattle.coap_client.proofs.Facts.Laws as client_facts
 use Rattle.coap_server.proofs.Facts.Laws as server_facts
 use Rattle.coap_world.specs.Answers.{IsAnswer, AnswersAt, replies, continues, refuses, notifies}
-use Rattle.coap_world.specs.Events.{client_end, server_end, Config}
+use Rattle.coap_world.specs.Events.{Config}
 use Rattle.coap_world.specs.Legal.{IsRequest}
 use Rattle.coap_world.specs.Record.{Entry, OfClient, OfServer, client_of, server_trace}
 use Rattle.coap_world.proofs.Reports.Answered.{all_answered}
@@ -73,7 +73,7 @@ module _ (config : Config) (clocks : Clocks) (all : List Entry) (small : config.
 
   -- a call of this number and request
   module _ (n : ℕ) (r : C.Request) (called : WasTaken (record { number = n; request = r }) (client_of all)) (key : Key)
-      (key_there : key.from ≡ client_end) where
+      (key_there : key.from ≡ config.addresses.client) where
     abbrev Good : Took → Type 0
     Good z = IsPieceOf r.body z.part
 
@@ -83,7 +83,8 @@ module _ (config : Config) (clocks : Clocks) (all : List Entry) (small : config.
     same_request z past c p o same =
         let earlier = part_back config clocks all small whole in_range past (OfServer c) p in
         one_request n (o.reads).request r (client_of all)
-        (client_facts.numbers server_end config.client_sizes config.client_setup (client_of all) whole.client)
+        (client_facts.numbers config.addresses.server config.client_sizes config.client_setup (client_of all)
+        whole.client)
         (subst (λ i. WasTaken (record { number = i; request = (o.reads).request }) (client_of all)) same
         (earlier.taken (record { number = o.number; request = (o.reads).request }) (o.reads).taken)) called
 
@@ -94,7 +95,8 @@ module _ (config : Config) (clocks : Clocks) (all : List Entry) (small : config.
         let earlier = part_back config clocks all small whole in_range past (OfServer c) p in
         let k = o.block in
         let g = sent_piece config.client_sizes (client_of all)
-        (client_facts.pieces server_end config.client_sizes config.client_setup (client_of all) whole.client)
+        (client_facts.pieces config.addresses.server config.client_sizes config.client_setup (client_of all)
+        whole.client)
         k.came.sending o.number (o.reads).upload (earlier.sent k.came.sending k.came.sent)
         (o.reads).carries k.question k.block (o.reads).block (o.reads).payload
         in
@@ -134,7 +136,7 @@ module _ (config : Config) (clocks : Clocks) (all : List Entry) (small : config.
         (of_this : k.number ≡ n) where
       -- each block of the key since block 0 is a piece of the body of the call
       good_at : (later w : List Entry) (d : S.Call) → past ≡ later ++ OfServer d ∷ w → PartOf (OfServer d ∷ w)
-          → (z : Took) → taken_at (server_trace config w) d ≡ Some z → (z.asked).from ≡ client_end
+          → (z : Took) → taken_at (server_trace config w) d ≡ Some z → (z.asked).from ≡ config.addresses.client
           → Sometime ZeroAt (OfServer d ∷ w) → Good z
       good_at later w d is q z here from h = by h
         where
@@ -205,7 +207,8 @@ module _ (config : Config) (clocks : Clocks) (all : List Entry) (small : config.
         (num : (zero.upload).num ≡ 0)
         (key_path : key.path ≡ r.path) (key_method : key.method ≡ r.method) where
       zero_here : (past : List Entry) (c : S.Call) → PartOf (OfServer c ∷ past) → (z : Took)
-          → taken_at (server_trace config past) c ≡ Some z → (z.asked).from ≡ client_end → (z.asked).token ≡ first.token
+          → taken_at (server_trace config past) c ≡ Some z → (z.asked).from ≡ config.addresses.client → (z.asked).token
+          ≡ first.token
           → Zero past c
       zero_here past c p z here from token =
           let o = of_upload config clocks all small whole in_range z past c p here from in
@@ -282,7 +285,7 @@ module _ (config : Config) (clocks : Clocks) (all : List Entry) (small : config.
         inr (zero_before y b is number some path method w
         (part_back config clocks all small whole in_range w (OfClient c) p) h)
     zero_before y b is number some path method (OfClient c ∷ w) p (inl h) =
-        let k = (client_facts.continued server_end config.client_sizes config.client_setup
+        let k = (client_facts.continued config.addresses.server config.client_sizes config.client_setup
         (client_of (OfClient c ∷ w)) p.law.client).0 y b h is some in
         zero_heard k.first (p.sent k.first (inr k.sent)) k.block k.carries
         ((of_carried (k.first).operation k.block k.carries).0 ∙ ap (λ i. Some i) (k.number_is ∙ number)) k.is_first
@@ -290,7 +293,7 @@ module _ (config : Config) (clocks : Clocks) (all : List Entry) (small : config.
 
   -- the body is that of the call
   module _ (past : List Entry) (c : S.Call) (p : PartOf (OfServer c ∷ past)) (x : Took)
-      (here : taken_at (server_trace config past) c ≡ Some x) (from : (x.asked).from ≡ client_end) where
+      (here : taken_at (server_trace config past) c ≡ Some x) (from : (x.asked).from ≡ config.addresses.client) where
     pub upload : Upload x past c
     upload = of_upload config clocks all small whole in_range x past c p here from
 
@@ -306,7 +309,7 @@ module _ (config : Config) (clocks : Clocks) (all : List Entry) (small : config.
     called : WasTaken (record { number = number; request = request }) (client_of all)
     called = earlier.taken (record { number = number; request = request }) (upload.reads).taken
 
-    key_there : (x.key).from ≡ client_end
+    key_there : (x.key).from ≡ config.addresses.client
     key_there = key_from past c p x here ∙ from
 
     all_pieces : (t : List S.Call) → taken_at t c ≡ Some x → IsPieceOf request.body x.part

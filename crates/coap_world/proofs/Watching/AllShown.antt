@@ -24,7 +24,7 @@ use Rattle.coap_server.specs.Law as servers
 use Rattle.coap_server.specs.Trace as S
 use Rattle.coap_server.proofs.Facts.Laws as server_facts
 use Rattle.coap_world.specs.Current.{FitsABlock, Alone}
-use Rattle.coap_world.specs.Events.{client_end, server_end, Config}
+use Rattle.coap_world.specs.Events.{Config}
 use Rattle.coap_world.specs.Record.{Entry, OfClient, OfServer, client_of, server_trace}
 use Rattle.coap_world.specs.Record.{Setting, DelayOf, PlainOf, gives_it}
 use Rattle.coap_world.specs.Words.{holds_at}
@@ -50,7 +50,7 @@ same_value a b t u f g p q i j k l = cc (i, j, k, l)
 module _ (config : Config) where
   -- the server tells it here, in whatever way
   abbrev Tells : Message → List S.Call → S.Call → Type 0
-  Tells m past c = (way : Way) × TellsIn config.limits config.server_szx way client_end m past c
+  Tells m past c = (way : Way) × TellsIn config.limits config.server_szx way config.addresses.client m past c
 
   not_first : (m : Message) (past : List S.Call) (s : Setting) → Tells m past (gives_it s) → ⊥
   not_first m past (DelayOf d) k = let here = k.1.here in cc here
@@ -130,9 +130,11 @@ module _ (config : Config) (small : config.server_szx ≤ 6) (x : Observed)
       → lacks_critical Response n.message.options ≡ false
   understood past c law n is =
       let t : List C.Call = client_of past in
-      elim ((are_taken server_end config.client_sizes config.client_setup (c ∷ t) law.client).0 n is).comes [
-        | inl first ↦ heard_understood server_end config.client_sizes config.client_setup t c law.client n.message first.heard
-        | inr later ↦ noted_understood server_end config.client_sizes config.client_setup t c law.client n.message later.noted
+      elim ((are_taken config.addresses.server config.client_sizes config.client_setup (c ∷ t) law.client).0 n is).comes [
+        | inl first ↦ heard_understood config.addresses.server config.client_sizes config.client_setup t c law.client
+            n.message first.heard
+        | inr later ↦ noted_understood config.addresses.server config.client_sizes config.client_setup t c law.client
+            n.message later.noted
       ]
 
   pub shows_here : (past : List Entry) (c : C.Call) → Stands (OfClient c ∷ past) → (n : Newly)

@@ -22,7 +22,7 @@ use Rattle.coap_client.specs.Own.{Registering, Cancelling, Observation}
 use Rattle.coap_client.specs.Requests.{path_options, message_of}
 use Rattle.coap_client.proofs.Facts.Laws as client_facts
 use Rattle.coap_world.specs.Current.{Alone}
-use Rattle.coap_world.specs.Events.{server_end, Config}
+use Rattle.coap_world.specs.Events.{Config}
 use Rattle.coap_world.specs.Record.{Entry, client_of}
 use Rattle.coap_world.proofs.Delivery.EntriesInTime.{Every}
 use Rattle.coap_world.proofs.Reports.OfObservations.{of_observation, one_of_observation}
@@ -66,7 +66,8 @@ module _ (config : Config) (all : List Entry) (law : Lawful config all) (x : Obs
 
   either : (y : Sending) → WasSent config.client_sizes y (client_of all) → y.token ≡ token → Either y
   either y sent same =
-      by (client_facts.tokens server_end config.client_sizes config.client_setup (client_of all) law.client y
+      by (client_facts.tokens config.addresses.server config.client_sizes config.client_setup (client_of all) law.client
+      y
       registered.sending sent registered.sent (same ∙ sym registered.token_is))
     where
       by : (y ≡ registered.sending) ⊎ (Deregisters y registered.sending ⊎ Deregisters registered.sending y) → Either y

@@ -16,7 +16,7 @@ use Rattle.coap_layer.proofs.Facts.Laws.{begins_of}
 use Rattle.coap_client.specs.Trace as C
 use Rattle.coap_server.specs.Trace as S
 use Rattle.coap_server.proofs.Facts.Laws as server_facts
-use Rattle.coap_world.specs.Events.{client_end, server_end, Config}
+use Rattle.coap_world.specs.Events.{Config}
 use Rattle.coap_world.specs.Hops.{client_adds, server_adds, hops_at, hops_in, across}
 use Rattle.coap_world.specs.Record.{Entry, OfClient, OfServer, client_of, server_trace}
 use Rattle.coap_world.specs.Smooth.{max_age}
@@ -27,12 +27,13 @@ use Rattle.coap_world.proofs.Smoothly.ArrivesInTime.{to_far}
 use Rattle.coap_world.proofs.Delivery.End.{front, front_is}
 use Rattle.coap_world.proofs.Smoothly.Standing.{ForServer}
 use Rattle.coap_world.proofs.Smoothly.WhereItArrives.{near_found, no_near}
+use Rattle.coap_world.specs.declared.addresses.Addresses.{Addresses}
 
 -- an entry of the client's layer hands up this response of the server, at most 1,000 ms behind that moment
-pub record HandsUpSoon (m : Message) (since : ℕ) (e : L.Entry) : Type 0 where
+pub record HandsUpSoon (addresses : Addresses) (m : Message) (since : ℕ) (e : L.Entry) : Type 0 where
   pub bytes : List ℕ
   pub spells : Spells bytes m
-  pub call : e.call ≡ L.Receive server_end bytes
+  pub call : e.call ≡ L.Receive addresses.server bytes
   pub answer : e.answer ≡ L.Becomes (L.Response m)
   pub from : since ≤ e.at
   pub till : e.at ≤ since + max_age
@@ -42,7 +43,7 @@ pub record GaveLately (id since : ℕ) (e : L.Entry) : Type 0 where
   pub answer : e.answer ≡ L.Sent id
   pub young : since ≤ e.at + id_reuse_after
 
-module _ (m : Message) (since : ℕ) (kind : (m.kind ≡ Con) ⊎ (m.kind ≡ Non)) where
+module _ (addresses : Addresses) (m : Message) (since : ℕ) (kind : (m.kind ≡ Con) ⊎ (m.kind ≡ Non)) where
   con_gave : (c : Open) (when : ℕ) → c.id ≡ m.id → since ≤ when → when ≤ c.first + last_arrival → (y : L.Entry)
       → begun y ≡ Some c → GaveLately m.id since y
   con_gave c when id least till y h =
@@ -51,7 +52,7 @@ module _ (m : Message) (since : ℕ) (kind : (m.kind ≡ Con) ⊎ (m.kind ≡ No
       record { answer = b.answer_is ∙ ap L.Sent id; young = omega (arith, first, least, till) }
 
   non_gave : (bytes : List ℕ) (when : ℕ) → Spells bytes m → since ≤ when → (y : L.Entry)
-      → PlainSent client_end bytes when y → GaveLately m.id since y
+      → PlainSent addresses.client bytes when y → GaveLately m.id since y
   non_gave bytes when spells least y p =
       let till = p.till in
       let same = one_message bytes _ m p.goes.spells spells in
@@ -61,8 +62,9 @@ module _ (m : Message) (since : ℕ) (kind : (m.kind ≡ Con) ⊎ (m.kind ≡ No
       }
 
   -- where it arrives, its Message ID was given before
-  given_before : (hs : List Hop) → ConsBegun server_end client_end hs → NonsSent server_end client_end hs
-      → Ever (OnFar (HandsUpSoon m since)) hs → Ever (GaveLately m.id since) (near_of hs)
+  given_before : (hs : List Hop) → ConsBegun addresses.server addresses.client hs
+      → NonsSent addresses.server addresses.client hs
+      → Ever (OnFar (HandsUpSoon addresses m since)) hs → Ever (GaveLately m.id since) (near_of hs)
   given_before [] cons nons h = h
   given_before (Near e ∷ hs) cons nons (inl h) = absurd h
   given_before (Near e ∷ hs) cons nons (inr h) = inr (given_before hs cons.1 nons.1 h)
@@ -71,11 +73,12 @@ module _ (m : Message) (since : ℕ) (kind : (m.kind ≡ Con) ⊎ (m.kind ≡ No
     where
       by : (m.kind ≡ Con) ⊎ (m.kind ≡ Non) → Ever (GaveLately m.id since) (near_of hs)
       by (inl con) =
-          let b : BegunAs client_end r.bytes m.id e.at (near_of hs) = cons.0 e r.bytes m refl r.call r.spells con in
+          let b : BegunAs addresses.client r.bytes m.id e.at (near_of hs) = cons.0 e r.bytes m refl r.call r.spells
+          con in
           Ever_map (λ y. begun y ≡ Some b.con) (GaveLately m.id since) (con_gave b.con e.at b.id_is r.from b.till)
           (near_of hs) b.begun
       by (inr non) =
-          Ever_map (PlainSent client_end r.bytes e.at) (GaveLately m.id since)
+          Ever_map (PlainSent addresses.client r.bytes e.at) (GaveLately m.id since)
           (non_gave r.bytes e.at r.spells r.from) (near_of hs)
           (nons.0 e r.bytes m refl r.call r.spells non)
 
@@ -114,16 +117,17 @@ module _ (config : Config) where
 
   -- So what is sent now did not arrive before.
   pub not_before : (older : List Entry) (c : S.Call) → ForServer config (OfServer c ∷ older)
-      → ConsBegun server_end client_end (across (hops_in config older))
-      → NonsSent server_end client_end (across (hops_in config older)) → (m : Message)
+      → ConsBegun config.addresses.server config.addresses.client (across (hops_in config older))
+      → NonsSent config.addresses.server config.addresses.client (across (hops_in config older)) → (m : Message)
       → (m.kind ≡ Con) ⊎ (m.kind ≡ Non) → (y : L.Entry)
       → Ever (λ z. z ≡ y) (server_adds config (server_trace config older) c) → y.answer ≡ L.Sent m.id
-      → Ever (OnNear (HandsUpSoon m y.at)) (hops_in config older) → ⊥
+      → Ever (OnNear (HandsUpSoon config.addresses m y.at)) (hops_in config older) → ⊥
   not_before older c law cons nons m kind y among answer h =
       let t : List S.Call = server_trace config older in
       let hs : List Hop = hops_in config older in
       let given : Ever (GaveLately m.id y.at) (near_of (across hs)) =
-      given_before m y.at kind (across hs) cons nons (to_far config (HandsUpSoon m y.at) hs h) in
+      given_before config.addresses m y.at kind (across hs) cons nons
+      (to_far config (HandsUpSoon config.addresses m y.at) hs h) in
       let layer = server_facts.layer config.limits config.server_szx config.server_setup (c ∷ t) law in
       let apart = subst (λ l. AreApart (numbers l)) (server_next config t c)
       (ids_apart config.server_setup (server_layer config (c ∷ t)) layer) in

@@ -18,7 +18,7 @@ use Rattle.coap_server.specs.Follows.Told.{ServesPair}
 use Rattle.coap_server.specs.Law.{own_of}
 use Rattle.coap_server.specs.Trace as S
 use Rattle.coap_server.proofs.Facts.Laws as server_facts
-use Rattle.coap_world.specs.Events.{client_end, server_end, Config}
+use Rattle.coap_world.specs.Events.{Config}
 use Rattle.coap_world.specs.Hops.{server_adds}
 use Rattle.coap_world.specs.Record.{Entry, OfServer, client_of, server_of, server_trace}
 use Rattle.coap_world.proofs.Observations.OneRegistration.{ServedOnce, served_once}
@@ -35,7 +35,8 @@ module _ (config : Config) (x : Observed) (es : List Entry) (law : Lawful config
       → WasRegistered config.client_sizes x.number b (client_of es) → a ≡ b
   one_token a b r s =
       let same = one_registration config.client_sizes x.number r.path s.path r.sending s.sending (client_of es)
-      (ask_once server_end config.client_sizes config.client_setup (client_of es) law.client) r.sent s.sent r.registers
+      (ask_once config.addresses.server config.client_sizes config.client_setup (client_of es) law.client) r.sent s.sent
+      r.registers
       s.registers in
       sym r.token_is ∙ (ap (λ (z : Sending). z.token) same ∙ s.token_is)
 
@@ -44,7 +45,8 @@ module _ (config : Config) (x : Observed) (es : List Entry) (law : Lawful config
       (none_fetched : (s : Sending) → WasSent config.client_sizes s (client_of es) → s.operation ≡ Fetching x.number → ⊥)
       (requests : RequestsAreOfIt config x es) where
     abbrev Serves : List S.Call → S.Call → Type 0
-    Serves past c = ServesPair config.limits config.server_szx (record { to = client_end; token = token }) past c
+    Serves past c = ServesPair config.limits config.server_szx (record { to = config.addresses.client; token = token })
+        past c
 
     abbrev Once : List S.Call → Type 0
     Once t = ServedOnce config es law x.number token first.sending first.sent first.path first.registers first.token_is
@@ -62,11 +64,13 @@ module _ (config : Config) (x : Observed) (es : List Entry) (law : Lawful config
           none_cancelled))
 
       -- no request is answered
-      none_answered : RespondsTo (own_of config.limits config.server_szx (server_trace config older)) c client_end → ⊥
+      none_answered : RespondsTo (own_of config.limits config.server_szx (server_trace config older)) c
+          config.addresses.client → ⊥
       none_answered r =
           let next = ((server_facts.begins config.limits config.server_szx config.server_setup
           (c ∷ server_trace config older) here).0 r.now r.answer r.tick).responds r.asked r.answers in
-          let from : next.serves.asked.from ≡ client_end = ap (λ (a : Asked). a.from) next.asks.0 ∙ r.from in
+          let from : next.serves.asked.from ≡ config.addresses.client = ap (λ (a : Asked). a.from) next.asks.0
+          ∙ r.from in
           let q = requests newer older c next.serves split next.here from in
           let sent = subst (λ l. WasSent config.client_sizes q.sending (client_of l)) (sym split)
           (sent_before config newer (OfServer c ∷ older) q.sending q.sent) in
@@ -74,14 +78,14 @@ module _ (config : Config) (x : Observed) (es : List Entry) (law : Lawful config
         where
           by : (y : Sending) → WasSent config.client_sizes y (client_of es) → (s : Serving) → y.token ≡ s.asked.token
               → IsForIt x y.operation → serving (own_of config.limits config.server_szx (server_trace config older)) c ≡ Some s
-              → s.asked.from ≡ client_end → ⊥
+              → s.asked.from ≡ config.addresses.client → ⊥
           by y sent s same (inr fetches) is from = none_fetched y sent fetches
           by y sent s same (inl registers) is from =
               let token_is = one_token y.token token
               (record { path = x.path; sending = y; sent = sent; registers = registers; token_is = refl }) first in
               once_here.0 (record { request = s; here = is; from = from; under = sym same ∙ token_is }) served
 
-      pub con_tells : (con : Open) → con.to ≡ client_end
+      pub con_tells : (con : Open) → con.to ≡ config.addresses.client
           → Ever (λ b. begun b ≡ Some con) (server_adds config (server_trace config older) c)
           → (n : Notice) × (notice c ≡ Some n)
       con_tells con to h =

@@ -20,7 +20,7 @@ use Rattle.coap_server.specs.Follows.Observes.{AreObservers}
 use Rattle.coap_server.specs.Law.{own_of}
 use Rattle.coap_server.specs.Trace as S
 use Rattle.coap_server.proofs.Facts.Laws as server_facts
-use Rattle.coap_world.specs.Events.{client_end, server_end, Config, TickServer}
+use Rattle.coap_world.specs.Events.{Config, TickServer}
 use Rattle.coap_world.specs.Hops.{hops_of, across, server_asked}
 use Rattle.coap_world.specs.Record.{Entry, OfClient, OfServer, Turn, entries_of, server_trace}
 use Rattle.coap_world.specs.Smooth.{max_age, most_that_come, NoStranger}
@@ -30,7 +30,7 @@ use Rattle.coap_world.proofs.Delivery.HopsAreAChannel as joined
 use Rattle.coap_world.proofs.Delivery.HopsAreEntries.{server_layer}
 use Rattle.coap_world.proofs.Smoothly.AllTaken.{Beneath, Goes, goes_before, taken_here}
 use Rattle.coap_world.proofs.Smoothly.FewArrive.{few_arrive}
-use Rattle.coap_world.proofs.Smoothly.Standing.{ran, record_of}
+use Rattle.coap_world.proofs.Smoothly.Standing.{ran, legal_of, record_of}
 use Rattle.coap_world.proofs.Smoothly.Young.{front_of}
 use Rattle.coap_world.specs.HadIds.{HadIds}
 use Rattle.coap_world.proofs.Watching.CountedById.{HandsUpSoon, few_issued}
@@ -81,9 +81,9 @@ module _ (config : Config) (laws : IdLaws) (turn : Turn) (past : List Turn) (g :
   sent_up =
       let hops = hops_of config past in
       all_up config turn past g (taken_here config laws.beneath turn past g)
-      (laws.nons config.server_setup config.client_setup server_end client_end (across hops)
-      (channel_across config.client_setup config.server_setup client_end server_end hops
-      (joined.channel config _ past (record_of config past old.stands) old.stands.legal)))
+      (laws.nons config.server_setup config.client_setup config.addresses.server config.addresses.client (across hops)
+      (channel_across config.client_setup config.server_setup config.addresses.client config.addresses.server hops
+      (joined.channel config _ past (record_of config past old.stands) (legal_of config past old.stands))))
       (laws.observers config) none
 
   -- at one of its ticks, behind these calls

@@ -10,7 +10,7 @@ use Rattle.coap_client.specs.Own.{Fetching}
 use Rattle.coap_client.specs.Law.{ClientLaw}
 use Rattle.coap_client.specs.Trace as C
 use Rattle.coap_world.specs.Current.{FitsABlock, Watches, Alone}
-use Rattle.coap_world.specs.Events.{server_end, Config}
+use Rattle.coap_world.specs.Events.{Config}
 use Rattle.coap_world.specs.Record.{Turn, RecordOf, entries_of, client_of}
 use Rattle.coap_world.specs.TakenInTime.{AllTakenInTime}
 use Rattle.coap_world.specs.NoticesCome.{NoticesAreOfIt}
@@ -58,9 +58,10 @@ pub record Parts (config : Config) (x : Observed) : Type 0 where
       → RequestsAreOfIt config x (entries_of turns)
   pub notices : (turns : List Turn) → SmoothRun config turns → Alone x (client_of (entries_of turns))
       → Always (NoticesAreTaken config x) turns
-  pub sent : (t : List C.Call) → ClientLaw server_end config.client_sizes config.client_setup t → Alone x t → (s : Sending)
+  pub sent : (t : List C.Call) → ClientLaw config.addresses.server config.client_sizes config.client_setup t → Alone x t
+      → (s : Sending)
       → WasSent config.client_sizes s t → IsForIt x s.operation
-  pub none_fetched : (t : List C.Call) → ClientLaw server_end config.client_sizes config.client_setup t
+  pub none_fetched : (t : List C.Call) → ClientLaw config.addresses.server config.client_sizes config.client_setup t
       → HaveAll config.client_sizes x.number t → (s : Sending) → WasSent config.client_sizes s t
       → s.operation ≡ Fetching x.number → ⊥
   pub shown : (turns : List Turn) → SmoothRun config turns → Alone x (client_of (entries_of turns))

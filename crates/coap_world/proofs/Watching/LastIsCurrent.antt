@@ -20,7 +20,7 @@ use Rattle.coap_server.specs.Follows.Tells.{Pair, Way}
 use Rattle.coap_server.specs.Trace as S
 use Rattle.coap_server.proofs.Facts.EachCall.{are_under}
 use Rattle.coap_world.specs.Current.{settles, FitsABlock, HoldsFor, WasShown, Watches, last_shown, shown_as, LastIsCurrent, Alone}
-use Rattle.coap_world.specs.Events.{client_end, server_end, Config}
+use Rattle.coap_world.specs.Events.{Config}
 use Rattle.coap_world.specs.Record.{Entry, Turn, entries_of, client_of, server_trace}
 use Rattle.coap_world.specs.Words.{holds_at}
 use Rattle.coap_world.proofs.Observations.Chain.{newest_taken}
@@ -63,7 +63,11 @@ module _ (config : Config) (x : Observed) (parts : Parts config x) (limits : con
   -- what was taken was told under a registration that was made
   served : (turns : List Turn) → SmoothRun config turns → (n : Newly)
       → newest config.client_sizes x.number (client_of (entries_of turns)) ≡ Some n
-      → Sometime (ServesPair config.limits config.server_szx (record { to = client_end; token = n.message.token }))
+      → Sometime (ServesPair config.limits config.server_szx (record {
+        to = config.addresses.client;
+        token
+            = n.message.token;
+      }))
       (server_trace config (entries_of turns))
   served turns r n is = by told.told
     where
@@ -75,33 +79,40 @@ module _ (config : Config) (x : Observed) (parts : Parts config x) (limits : con
 
       told : TakenTold config (turned (lawful_of config turns r).clocks) n es
       told = taken_told config r.legal.range.server_szx es (lawful_of config turns r)
-          (formats_in turns r.run.made r.legal.events) n
+          (formats_in config.addresses turns r.run.made r.legal.events) n
           (client_entries config (λ p b. notifies (C.own_of config.client_sizes p) b ≡ Some n) es
           (newest_taken config.client_sizes x.number (client_of es) n is))
 
       Pairs : List S.Call → S.Call → Type 0
-      Pairs = ServesPair config.limits config.server_szx (record { to = client_end; token = n.message.token })
+      Pairs = ServesPair config.limits config.server_szx (record {
+        to = config.addresses.client;
+        token = n.message.token;
+      })
 
-      made : (way : Way) → Sometime (TellsIn config.limits config.server_szx way client_end n.message) calls → Sometime Pairs calls
+      made : (way : Way) → Sometime (TellsIn config.limits config.server_szx way config.addresses.client n.message)
+          calls → Sometime Pairs calls
       made way s = pairs calls (are_under config.limits config.server_szx config.server_setup calls r.run.server) s
         where
           pairs : (t : List S.Call) → Always (IsUnder config.limits config.server_szx) t
-              → Sometime (TellsIn config.limits config.server_szx way client_end n.message) t → Sometime Pairs t
+              → Sometime (TellsIn config.limits config.server_szx way config.addresses.client n.message) t
+              → Sometime Pairs t
           pairs [] under h = absurd h
           pairs (c ∷ t) under (inr h) = inr (pairs t under.1 h)
           pairs (c ∷ t) under (inl h) =
               let same : pair_of config.limits config.server_szx h.told
-              ≡ record { to = client_end; token = n.message.token } =
+              ≡ record { to = config.addresses.client; token = n.message.token } =
               ap {B = Pair} (λ z. record { to = z; token = h.told.token }) h.conveys.to_is
-              ∙ ap {B = Pair} (λ z. record { to = client_end; token = z }) h.conveys.token_is in
+              ∙ ap {B = Pair} (λ z. record { to = config.addresses.client; token = z }) h.conveys.token_is in
               subst (λ p. Sometime (ServesPair config.limits config.server_szx p) (c ∷ t)) same
               (told_since config.limits config.server_szx config.server_setup t c h.told under.0 h.here)
 
       by : HeardTold config (turned (lawful_of config turns r).clocks) n.message n.mark.at es → Sometime Pairs calls
-      by (in_con con from up s) = made _ (Sometime_map _ (TellsIn config.limits config.server_szx _ client_end n.message)
+      by (in_con con from up s) = made _ (Sometime_map _ (TellsIn config.limits config.server_szx _
+          config.addresses.client n.message)
           (λ p b h. h.0) calls s)
       by (in_ack s) = made _ s
-      by (in_non s) = made _ (Sometime_map _ (TellsIn config.limits config.server_szx _ client_end n.message)
+      by (in_non s) = made _ (Sometime_map _ (TellsIn config.limits config.server_szx _ config.addresses.client
+          n.message)
           (λ p b h. h.tells) calls s.told)
 
   known : (turn : Turn) (past : List Turn) → SmoothRun config (turn ∷ past)
@@ -134,7 +145,8 @@ module _ (config : Config) (x : Observed) (parts : Parts config x) (limits : con
       → FitsABlock config x.path (entries_of turns)
       → last_shown config x.number turns ≡ option_map shown_by (newest config.client_sizes x.number (client_of (entries_of turns)))
   last turns r alone fits =
-      last_is_newest server_end config.client_sizes config.client_setup (client_of (entries_of turns)) r.run.client x.number
+      last_is_newest config.addresses.server config.client_sizes config.client_setup (client_of (entries_of turns))
+      r.run.client x.number
       (parts.have_all turns r alone fits limits)
 
   module _ (held : Held) (turn : Turn) (newer : List Turn) (first : Turn) (older : List Turn)
@@ -199,7 +211,8 @@ module _ (config : Config) (x : Observed) (parts : Parts config x) (limits : con
               (registered config x base base_run n0.0 n0.1);
           newly = n0.0;
           is_newest = n0.1;
-          served = subst (λ t. Sometime (ServesPair config.limits config.server_szx (record { to = client_end; token = t }))
+          served = subst (λ t. Sometime (ServesPair config.limits config.server_szx
+              (record { to = config.addresses.client; token = t }))
               (server_trace config (entries_of base))) same (served base base_run n0.0 n0.1);
         }
 

@@ -11,7 +11,7 @@ use Rattle.coap_client.specs.Law as C
 use Rattle.coap_client.specs.Law.{ClientLaw}
 use Rattle.coap_client.specs.Trace.{Call}
 use Rattle.coap_client.proofs.Facts.EachCall.{are_taken}
-use Rattle.coap_world.specs.Events.{server_end, Config}
+use Rattle.coap_world.specs.Events.{Config}
 use Rattle.coap_world.specs.Record.{Entry, OfClient, OfServer, Turn, entries_of, client_of}
 use Rattle.coap_world.proofs.Observations.Chain.{newest_taken}
 use Rattle.coap_world.proofs.Observations.TagOfAValue.{newest_number}
@@ -58,5 +58,5 @@ module _ (config : Config) (x : Observed) where
   pub registered : (turns : List Turn) → SmoothRun config turns → (n : Newly)
       → newest config.client_sizes x.number (client_of (entries_of turns)) ≡ Some n
       → WasRegistered config.client_sizes x.number n.message.token (client_of (entries_of turns))
-  registered turns r n is = newest_registered server_end config.client_sizes config.client_setup x.number n
+  registered turns r n is = newest_registered config.addresses.server config.client_sizes config.client_setup x.number n
       (client_of (entries_of turns)) r.run.client is

@@ -85,6 +85,7 @@ module _ (config : Config) where
       → NoId config.limits config.server_szx config.server_setup t turn.event.at → ⊥)
       → Nobody (server_trace config (entries_of (turn ∷ past)))
   nobody_left turn past s what ids =
-      let m = subst (λ w. Makes past turn.event.at turn.event.word w turn.refused turn.entries) what s.made.0 in
+      let m = subst (λ w. Makes config.addresses past turn.event.at turn.event.word w turn.refused turn.entries) what
+      s.made.0 in
       let ticks = subst (λ r. AreTicks (ServerTick turn.event.at turn.event.word) r m.0) s.goes.0.all_made m.1 in
       behind_ticks (entries_of past) turn.entries turn.event.at turn.event.word s.server ids m.0 ticks m.2

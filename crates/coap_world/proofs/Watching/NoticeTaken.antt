@@ -25,7 +25,7 @@ use Rattle.coap_layer.proofs.Facts.Hops.{far_ever}
 use Rattle.coap_layer.proofs.Facts.Laws.{handed_spelled}
 use Rattle.coap_server.specs.Follows.Observes.{Notice}
 use Rattle.coap_server.specs.Trace as S
-use Rattle.coap_world.specs.Events.{client_end, server_end, Config}
+use Rattle.coap_world.specs.Events.{Config}
 use Rattle.coap_world.specs.Hops.{server_adds, hops_at, hops_in, hops_of, across}
 use Rattle.coap_world.specs.Record.{Entry, OfServer, Turn, entries_of, server_trace}
 use Rattle.coap_world.specs.Smooth.{max_age}
@@ -37,12 +37,13 @@ use Rattle.coap_world.proofs.Smoothly.ArrivesInTime.{arrive_in_time}
 use Rattle.coap_world.proofs.Smoothly.FewArrive.{few_arrive}
 use Rattle.coap_world.proofs.Smoothly.HandedAs.{as_response}
 use Rattle.coap_world.proofs.Smoothly.SeparateEnds.{ever_at}
-use Rattle.coap_world.proofs.Smoothly.Standing.{record_of}
+use Rattle.coap_world.proofs.Smoothly.Standing.{legal_of, record_of}
 use Rattle.coap_world.specs.NoticesCome.{server_moment, notice_message}
 use Rattle.coap_world.proofs.Watching.BehindSending.{HandsUpSoon}
 use Rattle.coap_world.proofs.Watching.NoticeSent.{NoticeSent, Way, confirms, plain, content_of}
 use Rattle.coap_world.proofs.Watching.ResponsesUp.{up_as_response}
 use Rattle.coap_world.proofs.Smoothly.TakenInTime.{near_back}
+use Rattle.coap_world.specs.declared.addresses.Addresses.{Addresses}
 
 -- the near layer's law, where something happened there
 near_by_law : (setup : Setup) (P Q : L.Entry → Type 0)
@@ -56,33 +57,36 @@ near_by_law setup P Q f (Far e ∷ hs) law (inr h) = inr (near_by_law setup P Q 
 
 -- what is taken is handed up as that response
 
-module _ (setup : Setup) (m : Message) (response : role_of m.code ≡ role.Response) (past : List L.Entry) (e : L.Entry)
+module _ (addresses : Addresses) (setup : Setup) (m : Message) (response : role_of m.code ≡ role.Response)
+    (past : List L.Entry) (e : L.Entry)
     (law : LayerLaw setup (e ∷ past)) where
-  con_up : (con : Open) → Spells con.bytes m → m.kind ≡ Con → TakesWithin max_age server_end con e
-      → HandsUpSoon m con.first e
+  con_up : (con : Open) → Spells con.bytes m → m.kind ≡ Con → TakesWithin max_age addresses.server con e
+      → HandsUpSoon addresses m con.first e
   con_up con spells kind k =
       record {
         bytes = con.bytes;
         spells = spells;
         call = k.takes.call;
-        answer = as_response setup past e server_end con.id con.bytes m law.0 k.takes.call spells kind k.takes.up response;
+        answer = as_response setup past e addresses.server con.id con.bytes m law.0 k.takes.call spells kind k.takes.up
+            response;
         from = k.takes.from;
         till = k.soon;
       }
 
-  non_up : (non : SentNon) → Spells non.bytes m → HandsUpWithin max_age server_end non e → HandsUpSoon m non.at e
+  non_up : (non : SentNon) → Spells non.bytes m → HandsUpWithin max_age addresses.server non e
+      → HandsUpSoon addresses m non.at e
   non_up non spells k =
       let by = (handed_spelled setup (e ∷ past) law).0 _ k.up.up in
       let bytes_are : non.bytes ≡ by.bytes = one_spelling k.up.message non.bytes by.bytes k.up.spells by.spells in
       let same : k.up.message ≡ m = one_message by.bytes k.up.message m by.spells
       (subst (λ b. Spells b m) bytes_are spells) in
-      let up : handed e ≡ Some (record { from = server_end; message = m }) =
-      subst (λ x. handed e ≡ Some (record { from = server_end; message = x })) same k.up.up in
+      let up : handed e ≡ Some (record { from = addresses.server; message = m }) =
+      subst (λ x. handed e ≡ Some (record { from = addresses.server; message = x })) same k.up.up in
       record {
         bytes = by.bytes;
         spells = subst (λ b. Spells b m) bytes_are spells;
         call = by.call;
-        answer = up_as_response setup past e server_end by.bytes m law.0 by.call
+        answer = up_as_response setup past e addresses.server by.bytes m law.0 by.call
             (subst (λ b. Spells b m) bytes_are spells) up response;
         from = k.up.from;
         till = k.soon;
@@ -99,7 +103,8 @@ module _ (config : Config) (beneath : Beneath)
       Ever_back P (hops_at config (newer ++ es) e) (hops_in config (newer ++ es)) (hops_later P newer es h)
 
   module _ (turn : Turn) (past : List Turn) (g : Goes config (turn ∷ past)) (newer older : List Entry) (c : S.Call)
-      (split : entries_of past ≡ newer ++ OfServer c ∷ older) (n : Notice) (to : n.observer.to ≡ client_end)
+      (split : entries_of past ≡ newer ++ OfServer c ∷ older) (n : Notice)
+      (to : n.observer.to ≡ config.addresses.client)
       (sent : NoticeSent config n older c) (late : server_moment config older c + max_age < turn.event.at) where
     abbrev hs : List Hop
     hs = hops_of config past
@@ -116,8 +121,8 @@ module _ (config : Config) (beneath : Beneath)
     old : Goes config past
     old = goes_before config turn past g
 
-    channel : ChannelLaw config.client_setup config.server_setup client_end server_end hs
-    channel = joined.channel config _ past (record_of config past old.stands) old.stands.legal
+    channel : ChannelLaw config.client_setup config.server_setup config.addresses.client config.addresses.server hs
+    channel = joined.channel config _ past (record_of config past old.stands) (legal_of config past old.stands)
 
     late_entry : y.at + max_age < turn.event.at
     late_entry = let k = sent.at_is in omega (arith, k, late)
@@ -131,7 +136,7 @@ module _ (config : Config) (beneath : Beneath)
         (on_far P adds (hops_in config older) (ever_at P y adds sent.among p))))
 
     in_con : (word : ℕ) → y.call ≡ L.Confirm n.observer.to content word → sent.kind ≡ Con
-        → Ever (OnNear (HandsUpSoon message y.at)) hs
+        → Ever (OnNear (HandsUpSoon config.addresses message y.at)) hs
     in_con word call kind =
         let con : Open =
         record {
@@ -147,12 +152,15 @@ module _ (config : Config) (beneath : Beneath)
         ∙ ap (λ z. begun_in y.at (L.Confirm n.observer.to content word) z) sent.answer in
         let spells : Spells con.bytes message =
         subst (λ (k : Kind). Spells (message_bytes (with_head k sent.id content)) message) kind sent.spells in
-        near_by_law config.client_setup (TakesWithin max_age server_end con) (HandsUpSoon message y.at)
-        (λ before e law k. con_up config.client_setup message sent.response before e law con spells kind k)
+        near_by_law config.client_setup (TakesWithin max_age config.addresses.server con)
+        (HandsUpSoon config.addresses message y.at)
+        (λ before e law k. con_up config.addresses config.client_setup message sent.response before e law con spells
+        kind k)
         hs channel.near_law
         ((taken_here config beneath turn past g).by_client con (in_layer (λ b. begun b ≡ Some con) begins) to late_entry)
 
-    in_non : y.call ≡ L.Plain n.observer.to content → sent.kind ≡ Non → Ever (OnNear (HandsUpSoon message y.at)) hs
+    in_non : y.call ≡ L.Plain n.observer.to content → sent.kind ≡ Non
+        → Ever (OnNear (HandsUpSoon config.addresses message y.at)) hs
     in_non call kind =
         let non : SentNon =
         record { to = n.observer.to; id = sent.id; bytes = message_bytes (with_head Non sent.id content); at = y.at } in
@@ -161,19 +169,23 @@ module _ (config : Config) (beneath : Beneath)
         let spells : Spells non.bytes message =
         subst (λ (k : Kind). Spells (message_bytes (with_head k sent.id content)) message) kind sent.spells in
         let few = few_arrive config past old.stands old.few_client old.few_server in
-        let up = within_nons config.server_setup config.client_setup server_end client_end (across hs)
-        (channel_across config.client_setup config.server_setup client_end server_end hs channel)
+        let up = within_nons config.server_setup config.client_setup config.addresses.server config.addresses.client
+        (across hs)
+        (channel_across config.client_setup config.server_setup config.addresses.client config.addresses.server hs
+        channel)
         max_age turn.event.at non (omega arith) (arrive_in_time config past turn g.stands).to_client
         (λ since. (let a = few.at_client since in let b = ap (came since) (far_across hs) in omega (arith, a, b)))
         (subst (Ever (SendsNon non)) (sym (near_across hs)) (in_layer (SendsNon non) sends)) to
         (record { message = message; spells = spells; class = inr sent.response }) late_entry in
-        near_by_law config.client_setup (HandsUpWithin max_age server_end non) (HandsUpSoon message y.at)
-        (λ before e law k. non_up config.client_setup message sent.response before e law non spells k) hs
-        channel.near_law (near_back (HandsUpWithin max_age server_end non) hs up)
+        near_by_law config.client_setup (HandsUpWithin max_age config.addresses.server non)
+        (HandsUpSoon config.addresses message y.at)
+        (λ before e law k. non_up config.addresses config.client_setup message sent.response before e law non spells k)
+        hs
+        channel.near_law (near_back (HandsUpWithin max_age config.addresses.server non) hs up)
 
-    pub notice_taken : Ever (OnNear (HandsUpSoon message y.at)) hs
+    pub notice_taken : Ever (OnNear (HandsUpSoon config.addresses message y.at)) hs
     notice_taken = by sent.way
       where
-        by : Way n.observer.to content y.call sent.kind → Ever (OnNear (HandsUpSoon message y.at)) hs
+        by : Way n.observer.to content y.call sent.kind → Ever (OnNear (HandsUpSoon config.addresses message y.at)) hs
         by (confirms word call kind) = in_con word call kind
         by (plain call kind) = in_non call kind

@@ -17,7 +17,7 @@ use Rattle.coap_layer.specs.declared.setup.Setup.{Setup}
 use Rattle.coap_client.specs.Trace as C
 use Rattle.coap_server.specs.Follows.Observes.{Notice, notice}
 use Rattle.coap_server.specs.Trace as S
-use Rattle.coap_world.specs.Events.{client_end, server_end, Config}
+use Rattle.coap_world.specs.Events.{Config}
 use Rattle.coap_world.specs.Hops.{client_adds, server_adds, hops_at, hops_in, hops_of, across}
 use Rattle.coap_world.specs.Record.{Entry, OfClient, OfServer, Turn, entries_of, client_of, server_trace}
 use Rattle.coap_world.specs.Smooth.{max_age}
@@ -26,7 +26,7 @@ use Rattle.coap_world.proofs.Delivery.ClientInTime as client
 use Rattle.coap_world.proofs.Delivery.ClientTurns as client_turns
 use Rattle.coap_world.proofs.Delivery.HopsAreAChannel as joined
 use Rattle.coap_world.proofs.Smoothly.AllTaken.{Beneath, Goes, goes_before}
-use Rattle.coap_world.proofs.Smoothly.Standing.{ForClient, ForServer, client_behind, server_behind, record_of}
+use Rattle.coap_world.proofs.Smoothly.Standing.{ForClient, ForServer, client_behind, server_behind, legal_of, record_of}
 use Rattle.coap_world.proofs.Smoothly.WhereItArrives.{at_client, no_near}
 use Rattle.coap_world.specs.NoticesCome.{AllNoticesCome, IsFed, NoticeComes, notice_message, server_moment}
 use Rattle.coap_world.proofs.Watching.AtItsMoment.{AtMoment, ClientAt, ServerAt, at_moments}
@@ -53,14 +53,15 @@ con_or_non to content call kind (plain is non) = inr non
 module _ (config : Config) where
   -- the call of the client in which a response is handed up is fed it, at that moment
   fed_so : (m : Message) (since : ℕ) (past : List C.Call) (c : C.Call) → client_turns.IsGood config (c ∷ past)
-      → ClientAt config past c → (e : L.Entry) → Ever (λ z. z ≡ e) (client_adds config past c) → HandsUpSoon m since e
-      → IsFed m since c
+      → ClientAt config past c → (e : L.Entry) → Ever (λ z. z ≡ e) (client_adds config past c)
+      → HandsUpSoon config.addresses m since e
+      → IsFed config.addresses m since c
   fed_so m since past c good at e among up =
-      let f = (at_client config past c good server_end up.bytes e among up.call).fed in
+      let f = (at_client config past c good config.addresses.server up.bytes e among up.call).fed in
       let k = (always_in _ (client_adds config past c) e at.timely among).1 in
       let now_is : f.now ≡ at.moment = subst (client.IsAt at.moment) f.is at.at in
       let till = k.till in
-      let least = (k.fed server_end up.bytes up.call).1 in
+      let least = (k.fed config.addresses.server up.bytes up.call).1 in
       let from = up.from in
       let late = up.till in
       record {
@@ -73,97 +74,100 @@ module _ (config : Config) where
         token = f.token;
         kept = f.kept;
         is = f.is
-            ∙ ap (λ u. C.Feeds f.now server_end up.bytes f.word u f.settled f.event f.sent f.token f.kept) up.answer;
+            ∙ ap (λ u. C.Feeds f.now config.addresses.server up.bytes f.word u f.settled f.event f.sent f.token f.kept)
+            up.answer;
         from = omega (arith, now_is, till, least, from);
         till = omega (arith, now_is, till, least, late);
       }
 
   module _ (laws : Laws) (turn : Turn) (past : List Turn) (g : Goes config (turn ∷ past)) (newer older : List Entry)
       (c : S.Call) (n : Notice) (split : entries_of past ≡ newer ++ OfServer c ∷ older) (is : notice c ≡ Some n)
-      (to : n.observer.to ≡ client_end) (late : server_moment config older c + max_age < turn.event.at) where
-    abbrev rest : List Entry
-    rest = OfServer c ∷ older
+      (to : n.observer.to ≡ config.addresses.client) (late : server_moment config older c + max_age < turn.event.at)
+    where
+      abbrev rest : List Entry
+      rest = OfServer c ∷ older
 
-    old : Goes config past
-    old = goes_before config turn past g
+      old : Goes config past
+      old = goes_before config turn past g
 
-    back : ChannelLaw config.server_setup config.client_setup server_end client_end
-        (across (hops_of config past))
-    back = channel_across config.client_setup config.server_setup client_end server_end (hops_of config past)
-        (joined.channel config _ past (record_of config past old.stands) old.stands.legal)
+      back : ChannelLaw config.server_setup config.client_setup config.addresses.server config.addresses.client
+          (across (hops_of config past))
+      back = channel_across config.client_setup config.server_setup config.addresses.client config.addresses.server
+          (hops_of config past)
+          (joined.channel config _ past (record_of config past old.stands) (legal_of config past old.stands))
 
-    moments : Always (AtMoment config) (newer ++ rest)
-    moments = subst (Always (AtMoment config)) split (at_moments config past old.stands)
+      moments : Always (AtMoment config) (newer ++ rest)
+      moments = subst (Always (AtMoment config)) split (at_moments config past old.stands)
 
-    server_law : ForServer config rest
-    server_law = server_behind config newer rest (subst (ForServer config) split old.stands.server)
+      server_law : ForServer config rest
+      server_law = server_behind config newer rest (subst (ForServer config) split old.stands.server)
 
-    at_server : ServerAt config (server_trace config older) c
-    at_server = (Always_back (AtMoment config) newer rest moments).0
+      at_server : ServerAt config (server_trace config older) c
+      at_server = (Always_back (AtMoment config) newer rest moments).0
 
-    sent : NoticeSent config n older c
-    sent = notice_sent config (laws.small config.server_setup) older c server_law at_server n is
+      sent : NoticeSent config n older c
+      sent = notice_sent config (laws.small config.server_setup) older c server_law at_server n is
 
-    abbrev message : Message
-    message = notice_message config sent.kind sent.id older n
+      abbrev message : Message
+      message = notice_message config sent.kind sent.id older n
 
-    abbrev Up : L.Entry → Type 0
-    Up = HandsUpSoon message sent.entry.at
+      abbrev Up : L.Entry → Type 0
+      Up = HandsUpSoon config.addresses message sent.entry.at
 
-    kind_is : (sent.kind ≡ Con) ⊎ (sent.kind ≡ Non)
-    kind_is = con_or_non n.observer.to (content_of config older n) sent.entry.call sent.kind sent.way
+      kind_is : (sent.kind ≡ Con) ⊎ (sent.kind ≡ Non)
+      kind_is = con_or_non n.observer.to (content_of config older n) sent.entry.call sent.kind sent.way
 
-    -- not before it is sent
+      -- not before it is sent
 
-    cons : ConsBegun server_end client_end (across (hops_in config older))
-    cons = hops_before config _ (OfServer c ∷ []) older (hops_before config _ newer rest
-        (subst (λ es. ConsBegun server_end client_end (across (hops_in config es))) split
-        (laws.begun config.server_setup config.client_setup server_end client_end
-        (across (hops_of config past)) back)))
+      cons : ConsBegun config.addresses.server config.addresses.client (across (hops_in config older))
+      cons = hops_before config _ (OfServer c ∷ []) older (hops_before config _ newer rest
+          (subst (λ es. ConsBegun config.addresses.server config.addresses.client (across (hops_in config es))) split
+          (laws.begun config.server_setup config.client_setup config.addresses.server config.addresses.client
+          (across (hops_of config past)) back)))
 
-    nons : NonsSent server_end client_end (across (hops_in config older))
-    nons = hops_before config _ (OfServer c ∷ []) older (hops_before config _ newer rest
-        (subst (λ es. NonsSent server_end client_end (across (hops_in config es))) split
-        (laws.nons config.server_setup config.client_setup server_end client_end
-        (across (hops_of config past)) back)))
+      nons : NonsSent config.addresses.server config.addresses.client (across (hops_in config older))
+      nons = hops_before config _ (OfServer c ∷ []) older (hops_before config _ newer rest
+          (subst (λ es. NonsSent config.addresses.server config.addresses.client (across (hops_in config es))) split
+          (laws.nons config.server_setup config.client_setup config.addresses.server config.addresses.client
+          (across (hops_of config past)) back)))
 
-    none : Ever (OnNear Up) (hops_in config rest) → ⊥
-    none h = ⊎_elim (λ l. no_near Up (server_adds config (server_trace config older) c) l)
-        (λ r. not_before config older c server_law cons nons message kind_is sent.entry sent.among sent.answer r)
-        (Ever_append (OnNear Up) (hops_at config older (OfServer c)) (hops_in config older) h)
+      none : Ever (OnNear Up) (hops_in config rest) → ⊥
+      none h = ⊎_elim (λ l. no_near Up (server_adds config (server_trace config older) c) l)
+          (λ r. not_before config older c server_law cons nons message kind_is sent.entry sent.among sent.answer r)
+          (Ever_append (OnNear Up) (hops_at config older (OfServer c)) (hops_in config older) h)
 
-    came_behind : Behind config Up newer rest
-    came_behind = behind config Up newer rest
-        (subst (λ es. Ever (OnNear Up) (hops_in config es)) split
-        (notice_taken config laws.beneath laws.within_nons turn past g newer older c split n to sent late)) none
+      came_behind : Behind config Up newer rest
+      came_behind = behind config Up newer rest
+          (subst (λ es. Ever (OnNear Up) (hops_in config es)) split
+          (notice_taken config laws.beneath laws.within_nons turn past g newer older c split n to sent late)) none
 
-    -- so in a call of the client behind it
-    comes : Behind config Up newer rest → NoticeComes config n newer older c
-    comes b =
-        let behind_it : List Entry = b.between ++ rest in
-        let whole : newer ++ rest ≡ b.newest ++ (OfClient b.call ∷ behind_it) =
-        ap (λ l. l ++ rest) b.split ∙ append_assoc b.newest (OfClient b.call ∷ b.between) rest in
-        let law : ForClient config (OfClient b.call ∷ behind_it) =
-        client_behind config b.newest (OfClient b.call ∷ behind_it)
-        (subst (ForClient config) (split ∙ whole) old.stands.client) in
-        let at : ClientAt config (client_of behind_it) b.call =
-        (Always_back (AtMoment config) b.newest (OfClient b.call ∷ behind_it)
-        (subst (Always (AtMoment config)) whole moments)).0 in
-        record {
-          kind = sent.kind;
-          kind_is = kind_is;
-          id = sent.id;
-          newest = b.newest;
-          call = b.call;
-          between = b.between;
-          split = b.split;
-          fed = subst (λ (since : ℕ). IsFed message since b.call) sent.at_is
-              (fed_so message sent.entry.at (client_of behind_it) b.call (law.exchanges.left, law.exchanges.layer) at
-              b.entry b.among b.is);
-        }
+      -- so in a call of the client behind it
+      comes : Behind config Up newer rest → NoticeComes config n newer older c
+      comes b =
+          let behind_it : List Entry = b.between ++ rest in
+          let whole : newer ++ rest ≡ b.newest ++ (OfClient b.call ∷ behind_it) =
+          ap (λ l. l ++ rest) b.split ∙ append_assoc b.newest (OfClient b.call ∷ b.between) rest in
+          let law : ForClient config (OfClient b.call ∷ behind_it) =
+          client_behind config b.newest (OfClient b.call ∷ behind_it)
+          (subst (ForClient config) (split ∙ whole) old.stands.client) in
+          let at : ClientAt config (client_of behind_it) b.call =
+          (Always_back (AtMoment config) b.newest (OfClient b.call ∷ behind_it)
+          (subst (Always (AtMoment config)) whole moments)).0 in
+          record {
+            kind = sent.kind;
+            kind_is = kind_is;
+            id = sent.id;
+            newest = b.newest;
+            call = b.call;
+            between = b.between;
+            split = b.split;
+            fed = subst (λ (since : ℕ). IsFed config.addresses message since b.call) sent.at_is
+                (fed_so message sent.entry.at (client_of behind_it) b.call (law.exchanges.left, law.exchanges.layer) at
+                b.entry b.among b.is);
+          }
 
-    comes_here : NoticeComes config n newer older c
-    comes_here = comes came_behind
+      comes_here : NoticeComes config n newer older c
+      comes_here = comes came_behind
 
   pub notices_come : (laws : Laws) (turns : List Turn) → Goes config turns → AllNoticesCome config turns
   notices_come laws [] g = tt

@@ -29,7 +29,7 @@ use Rattle.coap_server.specs.Follows.Observes.{AreObservers}
 use Rattle.coap_server.specs.Law.{lower_of}
 use Rattle.coap_server.specs.Trace as S
 use Rattle.coap_server.proofs.Facts.Laws as server_facts
-use Rattle.coap_world.specs.Events.{client_end, server_end, Config}
+use Rattle.coap_world.specs.Events.{Config}
 use Rattle.coap_world.specs.Hops.{hops_of, across}
 use Rattle.coap_world.specs.Record.{Turn, entries_of, server_trace}
 use Rattle.coap_world.specs.Smooth.{max_age, NoStranger}
@@ -69,7 +69,8 @@ IsUp config past now e =
 
 module _ (config : Config) (turn : Turn) (past : List Turn) (g : Goes config (turn ∷ past))
     (taken : TakenInTime config past turn)
-    (nons : NonsTakenWithin config.client_setup.remembered server_end client_end (across (hops_of config past)))
+    (nons : NonsTakenWithin config.client_setup.remembered config.addresses.server config.addresses.client
+    (across (hops_of config past)))
     (observers : (t : List S.Call) → AreObservers config.limits config.server_szx t) (none : NoStranger past) where
   abbrev trace : List S.Call
   trace = server_trace config (entries_of past)
@@ -91,15 +92,15 @@ module _ (config : Config) (turn : Turn) (past : List Turn) (g : Goes config (tu
   con_up con h late =
       let to = cons_to config observers trace old.stands.server
       (heard_client config observers past old.stands none) con h in
-      Ever_map (TakesWithin max_age server_end con) (HandsUpSoon (record { at = con.first; id = con.id }))
-      (λ e t. (let k = kept_by server_end con.id e t.takes.up in record {
+      Ever_map (TakesWithin max_age config.addresses.server con) (HandsUpSoon (record { at = con.first; id = con.id }))
+      (λ e t. (let k = kept_by config.addresses.server con.id e t.takes.up in record {
         message = k.message;
         up = taken_handed e k.message k.is;
         id_is = k.id_is;
         from = t.takes.from;
         till = t.soon;
       })) (come config past)
-      (near_ever (TakesWithin max_age server_end con) (hops_of config past)
+      (near_ever (TakesWithin max_age config.addresses.server con) (hops_of config past)
       (taken.by_client con (subst (Ever (λ b. begun b ≡ Some con)) (sym far) h) to late))
 
   few_here : FewCome config.client_setup.remembered (far_of (across (hops_of config past)))
@@ -108,26 +109,28 @@ module _ (config : Config) (turn : Turn) (past : List Turn) (g : Goes config (tu
       let b = ap (came since) (far_across (hops_of config past)) in
       omega (arith, a, b)
 
-  non_up : (non : SentNon) → Ever (SendsNon non) sent → non.to ≡ client_end → (m : Message) → Spells non.bytes m
+  non_up : (non : SentNon) → Ever (SendsNon non) sent → non.to ≡ config.addresses.client → (m : Message)
+      → Spells non.bytes m
       → m.id ≡ non.id → IsTold non.bytes → non.at + max_age < turn.event.at
       → IsHandedUp (record { at = non.at; id = non.id })
   non_up non h to m spells id told late =
-      Ever_map (HandsUpWithin max_age server_end non) (HandsUpSoon (record { at = non.at; id = non.id }))
+      Ever_map (HandsUpWithin max_age config.addresses.server non) (HandsUpSoon (record { at = non.at; id = non.id }))
       (λ e t. record {
-        message = record { from = server_end; message = t.up.message };
+        message = record { from = config.addresses.server; message = t.up.message };
         up = t.up.up;
         id_is = same_id non.bytes t.up.message m t.up.spells spells ∙ id;
         from = t.up.from;
         till = t.soon;
       }) (come config past)
-      (subst (Ever (HandsUpWithin max_age server_end non)) (far_across (hops_of config past))
-      (far_ever (HandsUpWithin max_age server_end non) (across (hops_of config past))
+      (subst (Ever (HandsUpWithin max_age config.addresses.server non)) (far_across (hops_of config past))
+      (far_ever (HandsUpWithin max_age config.addresses.server non) (across (hops_of config past))
       (nons max_age turn.event.at non (omega arith) (arrive_in_time config past turn g.stands).to_client few_here
       (subst (Ever (SendsNon non)) (sym (near_across (hops_of config past) ∙ far)) h) to told late)))
 
   module _ (es : List L.Entry) (e : L.Entry) (lift : (P : L.Entry → Type 0) → P e → Ever P sent)
       (stands : Stands_in config.server_setup es e) (so : IsEntrySo IsResponse IsResponse e)
-      (goes : GoesToClient e) (id : ℕ) (answer : e.answer ≡ L.Sent id) (late : e.at + max_age < turn.event.at) where
+      (goes : GoesToClient config.addresses e) (id : ℕ) (answer : e.answer ≡ L.Sent id)
+      (late : e.at + max_age < turn.event.at) where
     by_con : (to : Endpoint) (content : L.Content) (word : ℕ) → e.call ≡ L.Confirm to content word
         → IsHandedUp (record { at = e.at; id = id })
     by_con to content word call =
@@ -159,7 +162,7 @@ module _ (config : Config) (turn : Turn) (past : List Turn) (g : Goes config (tu
             let whole : Message = with_head Non id content in
             let spelled : Spells (message_bytes whole) whole = row.0 Non id bound in
             let packet : L.Packet = record { to = to; bytes = message_bytes (with_head Non r.id content) } in
-            let client : to ≡ client_end = goes packet (subst (IsIn packet) (sym r.out) (inl refl)) in
+            let client : to ≡ config.addresses.client = goes packet (subst (IsIn packet) (sym r.out) (inl refl)) in
             let non : SentNon = record { to = to; id = id; bytes = message_bytes whole; at = e.at } in
             non_up non (lift (SendsNon non)
             (record { content = content; call = call; answer = answer; at_is = refl; bytes_are = refl })) client whole
@@ -170,7 +173,8 @@ module _ (config : Config) (turn : Turn) (past : List Turn) (g : Goes config (tu
     here (in_non to content call) = by_non to content call
 
   each_up : (later es : List L.Entry) → sent ≡ later ++ es → LayerLaw config.server_setup es
-      → Every (IsEntrySo IsResponse IsResponse) es → Every GoesToClient es → Every IsOfNew es → Every (IsUp config past turn.event.at) es
+      → Every (IsEntrySo IsResponse IsResponse) es → Every (GoesToClient config.addresses) es → Every IsOfNew es
+      → Every (IsUp config past turn.event.at) es
   each_up later [] is law so goes new = tt
   each_up later (e ∷ es) is law so goes new = (
     λ id answer late. here es e (λ P h. subst (Ever P) (sym is) (Ever_back P later (e ∷ es) (inl h))) law.0 so.0 goes.0

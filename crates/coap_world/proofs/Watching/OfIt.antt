@@ -19,7 +19,7 @@ use Rattle.coap_server.specs.Law.{ServerLaw, own_of}
 use Rattle.coap_server.specs.Trace as S
 use Rattle.coap_server.proofs.Facts.Laws as server_facts
 use Rattle.coap_world.specs.Current.{Alone}
-use Rattle.coap_world.specs.Events.{client_end, server_end, Config}
+use Rattle.coap_world.specs.Events.{Config}
 use Rattle.coap_world.specs.Record.{Entry, OfClient, OfServer, Turn, entries_of, client_of, server_trace}
 use Rattle.coap_world.specs.Words.{ServesAt}
 use Rattle.coap_world.specs.Smooth.{NoStranger}
@@ -77,11 +77,13 @@ module _ (config : Config) (x : Observed) where
   number_of op (inr h) = ap observation_for h
 
   pub request_of_it : (past : List Entry) (c : S.Call) → Lawful config (OfServer c ∷ past) → Alone x (client_of past)
-      → (s : Serving) → ServesAt config s past (OfServer c) → s.asked.from ≡ client_end → IsRequestOfIt config x past s
+      → (s : Serving) → ServesAt config s past (OfServer c) → s.asked.from ≡ config.addresses.client
+      → IsRequestOfIt config x past s
   request_of_it past c law alone s here from =
       let old = lawful_back config past (OfServer c) law in
       let k = asked_by config past c law s here from in
-      let f = sent_for_it server_end config.client_sizes config.client_setup x (client_of past) old.client alone k.sending
+      let f = sent_for_it config.addresses.server config.client_sizes config.client_setup x (client_of past) old.client
+      alone k.sending
       k.sent in
       let o = of_observation config x.number k.sending past old k.sent (number_of k.sending.operation f.for_it) in
       let same = one_observed x (record { number = x.number; path = o.path }) (client_of past) alone o.observed in
@@ -105,7 +107,8 @@ module _ (config : Config) (x : Observed) where
   made_later o e w k =
       record { path_is = k.path_is; registered = registered_before config x.number o.token (e ∷ []) w k.registered }
 
-  made_of_it : (o : Observer) (w : List Entry) → Lawful config w → Alone x (client_of w) → o.to ≡ client_end
+  made_of_it : (o : Observer) (w : List Entry) → Lawful config w → Alone x (client_of w) → o.to
+      ≡ config.addresses.client
       → WasMade config.limits config.server_szx (server_trace config w) o → IsMadeOfIt o w
   made_of_it o [] law alone to h = absurd (registered_by config o [] law to h).sent
   made_of_it o (OfClient c ∷ past) law alone to h =

@@ -37,7 +37,7 @@ use Rattle.coap_server.proofs.Facts.EachCall.{refusals_are_errors}
 use Rattle.coap_server.proofs.Facts.Laws as server_facts
 use Rattle.coap_world.specs.Answers.{IsResponse, IsAnswer, replies, continues, refuses, notifies}
 use Rattle.coap_world.specs.Current.{FitsABlock, Alone}
-use Rattle.coap_world.specs.Events.{client_end, Config}
+use Rattle.coap_world.specs.Events.{Config}
 use Rattle.coap_world.specs.Record.{Entry, OfClient, OfServer, client_of, server_trace}
 use Rattle.coap_world.specs.Record.{Setting, DelayOf, PlainOf, gives_it}
 use Rattle.coap_world.specs.Words.{ServesAt, holds_at, last_at}
@@ -85,7 +85,8 @@ module _ (config : Config) (small : config.server_szx ≤ 6) (all : List Entry) 
     some : w ≡ [] → ⊥
 
   served : (w : List Entry) (c : S.Call) → Within config (OfServer c ∷ w) all → Lawful config (OfServer c ∷ w)
-      → (y : Serving) → ServesAt config y w (OfServer c) → y.asked.from ≡ client_end → y.asked.token ≡ m.token
+      → (y : Serving) → ServesAt config y w (OfServer c) → y.asked.from ≡ config.addresses.client → y.asked.token
+      ≡ m.token
       → IsServed w y
   served w c in_all law y here from under =
       let k = asked_by config w c law y here from in
@@ -100,7 +101,8 @@ module _ (config : Config) (small : config.server_szx ≤ 6) (all : List Entry) 
       }
 
   -- .. and who observes under it
-  observed : (o : Observer) → o.to ≡ client_end → o.token ≡ m.token → (w : List Entry) → Within config w all
+  observed : (o : Observer) → o.to ≡ config.addresses.client → o.token ≡ m.token → (w : List Entry)
+      → Within config w all
       → Lawful config w
       → Sometime (AtServer config (MadeWith config.limits config.server_szx o.to o.token o.path o.szx)) w
       → (o.path ≡ x.path) × (o.szx ≡ config.server_szx)
@@ -142,7 +144,8 @@ module _ (config : Config) (small : config.server_szx ≤ 6) (all : List Entry) 
         (one_block config.server_szx (length held.body) (fits_behind config x.path w fits some held is)) says.block
 
     by_reply : (y : Serving) → serving own c ≡ Some y
-        → IsResponse m y.asked.from y.asked.token (response_with y.reply y.sequence (last_block y.question))
+        → IsResponse config.addresses m y.asked.from y.asked.token
+        (response_with y.reply y.sequence (last_block y.question))
         → value_of block2 (said m) ≡ None
     by_reply y here r =
         let k = served w c in_all law y here r.to_client r.token_is in
@@ -165,7 +168,8 @@ module _ (config : Config) (small : config.server_szx ≤ 6) (all : List Entry) 
 
     by_notice : (o : Observer) (reply : Reply) (h : Option Held) → own.store.holds o.path ≡ h
         → Sometime (AtServer config (MadeWith config.limits config.server_szx o.to o.token o.path o.szx)) w
-        → NoticeOf o.szx h (notification own.store o reply) → IsResponse m o.to o.token (notification own.store o reply)
+        → NoticeOf o.szx h (notification own.store o reply) → IsResponse config.addresses m o.to o.token
+        (notification own.store o reply)
         → value_of block2 (said m) ≡ None
     by_notice o reply None is made notice r =
         absurd (no_code codes.NOT_FOUND.0 (r.code ∙ ap (λ (z : E.Response). z.code) notice) refl)

@@ -31,7 +31,7 @@ use Rattle.coap_server.specs.Trace as S
 use Rattle.coap_server.proofs.Facts.Laws as server_facts
 use Rattle.coap_client.specs.Follows.Gives.{forgotten}
 use Rattle.coap_world.specs.Current.{Watches, Alone}
-use Rattle.coap_world.specs.Events.{server_end, Config}
+use Rattle.coap_world.specs.Events.{Config}
 use Rattle.coap_world.specs.Record.{Entry, OfClient, OfServer, Turn, entries_of, client_of, server_trace}
 use Rattle.coap_world.specs.Words.{ReportsAt}
 use Rattle.coap_world.specs.Smooth.{NoStranger}
@@ -59,7 +59,7 @@ module _ (config : Config) where
       → is_value report ≡ true) es
 
   none_final : (number : ℕ) (es : List Entry) → Goes number es
-      → HasReport server_end config.client_sizes config.client_setup number (client_of es) → ⊥
+      → HasReport config.addresses.server config.client_sizes config.client_setup number (client_of es) → ⊥
   none_final number [] goes h = h
   none_final number (OfServer c ∷ past) goes h = none_final number past goes.1 h
   none_final number (OfClient c ∷ past) goes (inr h) = none_final number past goes.1 h
@@ -75,7 +75,7 @@ module _ (config : Config) (x : Observed)
     (notices : (server : Endpoint) (sizes : Sizes) (setup : Setup) (t : List C.Call) → ClientLaw server sizes setup t
     → NoticesAreHeard server sizes setup t) where
   abbrev Law : List C.Call → Type 0
-  Law t = ClientLaw server_end config.client_sizes config.client_setup t
+  Law t = ClientLaw config.addresses.server config.client_sizes config.client_setup t
 
   registers_it : (op : Operation) (path : List (List ℕ)) → IsForIt x op → op ≡ Registering x.number path
       → op ≡ Registering x.number x.path
@@ -83,23 +83,26 @@ module _ (config : Config) (x : Observed)
   registers_it op path (inr h) is = let e : Registering x.number path ≡ Fetching x.number = sym is ∙ h in absurd (cc e)
 
   taken_here : (t : List C.Call) (d : C.Call) → Law (d ∷ t) → Alone x t → (WasForgotten x.number t → ⊥)
-      → (HasReport server_end config.client_sizes config.client_setup x.number t → ⊥) → (m : Message) (since : ℕ)
-      → IsFed m since d → (m.kind ≡ Con) ⊎ (m.kind ≡ Non) → WasRegistered config.client_sizes x.number m.token t
+      → (HasReport config.addresses.server config.client_sizes config.client_setup x.number t → ⊥)
+      → (m : Message) (since : ℕ)
+      → IsFed config.addresses m since d → (m.kind ≡ Con) ⊎ (m.kind ≡ Non)
+      → WasRegistered config.client_sizes x.number m.token t
       → lacks_critical Response m.options ≡ false → IsTakenIn config x m t d
   taken_here t d law alone kept none m since fed kind w understood =
-      by (registered server_end config.client_sizes config.client_setup t old x it.taken kept none w.sending w.sent op)
+      by (registered config.addresses.server config.client_sizes config.client_setup t old x it.taken kept none
+      w.sending w.sent op)
     where
       old : Law t
-      old = client_facts.back server_end config.client_sizes config.client_setup (d ∷ []) t law
+      old = client_facts.back config.addresses.server config.client_sizes config.client_setup (d ∷ []) t law
 
-      it : SentForIt server_end config.client_sizes config.client_setup x w.sending t
-      it = sent_for_it server_end config.client_sizes config.client_setup x t old alone w.sending w.sent
+      it : SentForIt config.addresses.server config.client_sizes config.client_setup x w.sending t
+      it = sent_for_it config.addresses.server config.client_sizes config.client_setup x t old alone w.sending w.sent
 
       op : w.sending.operation ≡ Registering x.number x.path
       op = registers_it w.sending.operation w.path it.for_it w.registers
 
-      sound : IsSound server_end config.client_setup server_end m
-      sound = record { there = same_endpoint_self server_end; understood = understood }
+      sound : IsSound config.addresses.server config.client_setup config.addresses.server m
+      sound = record { there = same_endpoint_self config.addresses.server; understood = understood }
 
       -- a registration has no token of its own
       no_cancel_of : is_some w.sending.request.token ≡ false
@@ -107,21 +110,24 @@ module _ (config : Config) (x : Observed)
           let k : IsMessage w.sending = was_message config.client_sizes w.sending t w.sent in
           ap (λ r. is_some r.token) (k.is ∙ ap (message_of k.observations) op)
 
-      by : IsAwaited server_end config.client_sizes config.client_setup w.sending t
+      by : IsAwaited config.addresses.server config.client_sizes config.client_setup w.sending t
           ⊎ IsLive config.client_sizes x.number x.path w.sending.token t → IsTakenIn config x m t d
       by (inl a) = inl (
         a.operates ∙ ap (λ o. Some o) op,
-        (answers server_end config.client_sizes config.client_setup (d ∷ t) law).0 fed.now server_end
+        (answers config.addresses.server config.client_sizes config.client_setup (d ∷ t) law).0 fed.now
+            config.addresses.server
             fed.bytes fed.word m fed.settled fed.event fed.sent fed.token fed.kept a.exchange fed.is sound a.runs
             (sym w.token_is ∙ sym a.token) (inr (kind, inl (a.cancel ∙ no_cancel_of))),
       )
       by (inr live) = inr (
         subst (λ k. IsLive config.client_sizes x.number x.path k t) w.token_is live,
-        (notices server_end config.client_sizes config.client_setup (d ∷ t) law).0 fed.now server_end
+        (notices config.addresses.server config.client_sizes config.client_setup (d ∷ t) law).0 fed.now
+            config.addresses.server
             fed.bytes fed.word m fed.settled fed.event fed.sent fed.token fed.kept x.number x.path fed.is sound
             (subst (λ k. IsLive config.client_sizes x.number x.path k t) w.token_is live)
             (λ runs. no_cancel x x.number t alone
-            (cancels_are_taken config.client_sizes server_end config.client_setup t old x.number runs)) kind,
+            (cancels_are_taken config.client_sizes config.addresses.server config.client_setup t old x.number runs))
+            kind,
       )
 
   pub responses_are_taken : (turns : List Turn) → Stands config turns → Alone x (client_of (entries_of turns))

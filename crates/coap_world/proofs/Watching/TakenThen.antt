@@ -35,7 +35,7 @@ use Rattle.coap_server.specs.Responses.{response_with}
 use Rattle.coap_server.specs.Trace as S
 use Rattle.coap_server.proofs.Facts.Laws as server_facts
 use Rattle.coap_world.specs.Current.{shown_as}
-use Rattle.coap_world.specs.Events.{client_end, server_end, Config}
+use Rattle.coap_world.specs.Events.{Config}
 use Rattle.coap_world.specs.Record.{Entry, OfClient, OfServer, Turn, entries_of, client_of, server_of, server_trace}
 use Rattle.coap_world.specs.Rising.{Names}
 use Rattle.coap_world.specs.Smooth.{max_age}
@@ -97,7 +97,7 @@ module _ (config : Config) (x : Observed) (held : Held) (turn : Turn) (past : Li
   lawful = lawful_of config (turn ∷ past) k.run
 
   formats : FormatsIn es
-  formats = formats_in (turn ∷ past) k.run.run.made k.run.legal.events
+  formats = formats_in config.addresses (turn ∷ past) k.run.run.made k.run.legal.events
 
   abbrev own : List Entry → S.Own
   own l = own_of config.limits config.server_szx (server_trace config l)
@@ -128,7 +128,7 @@ module _ (config : Config) (x : Observed) (held : Held) (turn : Turn) (past : Li
     shown : shown_by n ≡ shown_as shows
     same : IsOrFollows held shows
     told : Telling
-    told_at : Sometime (Tells config client_end n.message.token told) calls
+    told_at : Sometime (Tells config config.addresses.client n.message.token told) calls
     version : told.version ≡ shows.version
 
   at_client : (n : Newly) (older : List Entry) (e : Entry)
@@ -161,7 +161,8 @@ module _ (config : Config) (x : Observed) (held : Held) (turn : Turn) (past : Li
         shown = s.shown;
         same = no_later front (OfServer s.call ∷ s.oldest) s.held where_told s.told.behind;
         told = s.told.told;
-        told_at = some_at (Tells config client_end n.message.token s.told.told) front s.oldest s.call where_told
+        told_at = some_at (Tells config config.addresses.client n.message.token s.told.told) front s.oldest s.call
+            where_told
             (record { is = s.told.here; to_is = s.told.to_is; token_is = s.told.token_is });
         version = s.told.version_is;
       }
@@ -183,7 +184,7 @@ module _ (config : Config) (x : Observed) (held : Held) (turn : Turn) (past : Li
   next = each_next config k.run.legal.range.server_szx k.run.legal.range.limit x.number es lawful formats k.none_cancelled
 
   taken_all : AreTaken config.client_sizes (client_of es)
-  taken_all = are_taken server_end config.client_sizes config.client_setup (client_of es) lawful.client
+  taken_all = are_taken config.addresses.server config.client_sizes config.client_setup (client_of es) lawful.client
 
   module _ (n : Newly) (is_newest : newest config.client_sizes x.number (client_of es) ≡ Some n) where
     of_n : n.number ≡ x.number
@@ -231,10 +232,10 @@ module _ (config : Config) (x : Observed) (held : Held) (turn : Turn) (past : Li
       is_h = ap (λ l. turn.entries ++ l) h.split ∙ sym (append_assoc turn.entries h.newer (OfServer h.call ∷ h.older))
 
       abbrev A : List S.Call → S.Call → Type 0
-      A = Tells config client_end token u
+      A = Tells config config.addresses.client token u
 
       abbrev B : List S.Call → S.Call → Type 0
-      B = Tells config client_end token t_n.told
+      B = Tells config config.addresses.client token t_n.told
 
       a_there : Sometime A calls
       a_there = some_at A front_h h.older h.call is_h
@@ -250,7 +251,8 @@ module _ (config : Config) (x : Observed) (held : Held) (turn : Turn) (past : Li
           (registered_taken config.client_sizes n (client_of es) taken_all
           (newest_taken config.client_sizes x.number (client_of es) n is_newest))
 
-      once : OnceOf config.limits config.server_szx config.server_setup (record { to = client_end; token = token }) calls
+      once : OnceOf config.limits config.server_szx config.server_setup
+          (record { to = config.addresses.client; token = token }) calls
       once = serves_once config es lawful x.number token registered.sending registered.sent registered.path
           registered.registers registered.token_is k.none_cancelled
 
@@ -290,7 +292,8 @@ module _ (config : Config) (x : Observed) (held : Held) (turn : Turn) (past : Li
           answered : ((C.own_of config.client_sizes (client_of older)).running ≡ Some (Registering x.number x.path))
               × (hears d ≡ Some m) → held.version ≤ t_n.shows.version
           answered a =
-              taken (((are_answered server_end config.client_sizes config.client_setup (d ∷ client_of older) law).0 m x.number
+              taken (((are_answered config.addresses.server config.client_sizes config.client_setup
+              (d ∷ client_of older) law).0 m x.number
               x.path a.1 a.0).takes read.notification).0
 
           older_one : IsNotNewer config.client_sizes x.number m (client_of older) d → held.version ≤ t_n.shows.version
@@ -316,7 +319,8 @@ module _ (config : Config) (x : Observed) (held : Held) (turn : Turn) (past : Li
               → held.version ≤ t_n.shows.version
           noticed n =
               ⊎_elim taken older_one
-              (((are_noticed server_end config.client_sizes config.client_setup (d ∷ client_of older) law).0 m x.number x.path
+              (((are_noticed config.addresses.server config.client_sizes config.client_setup (d ∷ client_of older)
+              law).0 m x.number x.path
               n.1 n.0).takes read.notification)
 
       -- a notification with it came, and was taken or was not newer

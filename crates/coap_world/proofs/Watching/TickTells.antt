@@ -22,7 +22,7 @@ use Rattle.coap_server.specs.Law.{own_of}
 use Rattle.coap_server.specs.Trace as S
 use Rattle.coap_server.proofs.Facts.Laws as server_facts
 use Rattle.coap_world.specs.Current.{settles, Watches}
-use Rattle.coap_world.specs.Events.{client_end, Config}
+use Rattle.coap_world.specs.Events.{Config}
 use Rattle.coap_world.specs.Legal.{IsLegal}
 use Rattle.coap_world.specs.Record.{Entry, OfClient, OfServer, Turn, entries_of, client_of, server_of, server_trace}
 use Rattle.coap_world.specs.Record.{Setting, DelayOf, PlainOf, gives_it}
@@ -66,7 +66,8 @@ pub record Settles (config : Config) (x : Observed) (held : Held) (token : List 
   pub newly : Newly
   pub is_newest : newest config.client_sizes x.number (client_of (entries_of base)) ≡ Some newly
   pub registered : WasRegistered config.client_sizes x.number token (client_of (entries_of base))
-  pub served : Sometime (ServesPair config.limits config.server_szx (record { to = client_end; token = token }))
+  pub served : Sometime (ServesPair config.limits config.server_szx
+      (record { to = config.addresses.client; token = token }))
       (server_trace config (entries_of base))
 
 module _ (config : Config) (x : Observed) (held : Held) where
@@ -94,12 +95,12 @@ module _ (config : Config) (x : Observed) (held : Held) where
     base_run = run_back config newer base (run_before config turn past k.run)
 
     low : Always (λ p (u : Turn). u.event.at ≤ first.event.at) base
-    low = until base base_run.legal.events first.event.at (omega arith)
+    low = until config.addresses base base_run.legal.events first.event.at (omega arith)
 
     -- the tick
     tick : InFront (λ p u. TicksThen when u) newer base
     tick = in_front (λ p u. TicksThen when u) newer base
-        (ticks_soon turn past k.run.legal.events k.run.smooth.smooth.goes when
+        (ticks_soon config.addresses turn past k.run.legal.events k.run.smooth.smooth.goes when
         (Ever_back (λ (t : Turn). t.event.at < when) newer base (inl (omega arith))) (omega (arith, early)))
         (none_then first.event.at base low)
 
@@ -158,7 +159,7 @@ module _ (config : Config) (x : Observed) (held : Held) where
     abbrev Here : List Turn → Turn → Type 0
     Here p e = ((n : Newly) → newest config.client_sizes x.number (client_of (entries_of p)) ≡ Some n
         → Watches config x.number (entries_of p) → StillThere config x n.message.token e.event.at (entries_of p))
-        × (TakenInTime config p e × IsLegal p e)
+        × (TakenInTime config p e × IsLegal config.addresses p e)
 
     next : (e : Turn) × Here now e
     next = next_of Here turn tick.after now
@@ -208,14 +209,14 @@ module _ (config : Config) (x : Observed) (held : Held) where
         let b = tick.here.till in
         omega (arith, a, b)
 
-    module _ (o : Observer) (there : registration client_end token
+    module _ (o : Observer) (there : registration config.addresses.client token
         (own_of config.limits config.server_szx (server_trace config (entries_of now))).observers ≡ Some o)
         (path_is : o.path ≡ x.path) where
       -- nothing is due to it: it was told last what the path holds
       unmarked : o.marked ≡ false → ToldHeld config held token till (entries_of now)
       unmarked is =
           let c = server_facts.current config.limits config.server_szx config.server_setup
-          (server_trace config (entries_of now)) law_now client_end token o there is in
+          (server_trace config (entries_of now)) law_now config.addresses.client token o there is in
           let same : Some c.held ≡ Some held =
           sym c.is_held ∙ (ap (λ p. last_at config p (entries_of now)) path_is
           ∙ (sym (last_is config (entries_of now) law_now.rows x.path) ∙ holds_now)) in
@@ -223,16 +224,16 @@ module _ (config : Config) (x : Observed) (held : Held) where
           current_told config held token till (entries_of now) c.told c.last
           (c.version ∙ ap (λ (h : Held). h.version) one) clock_now
 
-      among_them : IsAmong client_end token o
+      among_them : IsAmong config.addresses.client token o
           (own_of config.limits config.server_szx (server_trace config (entries_of now))).observers
-      among_them = among client_end token o
+      among_them = among config.addresses.client token o
           (own_of config.limits config.server_szx (server_trace config (entries_of now))).observers there
 
       abbrev layer : List L.Entry
       layer = server_layer config (server_trace config (entries_of now))
 
       -- a CON to it is outstanding: it began behind the position, and told what the path holds
-      begun_behind : (con : Open) → con.to ≡ client_end → IsOpen layer con → first.event.at < con.first
+      begun_behind : (con : Open) → con.to ≡ config.addresses.client → IsOpen layer con → first.event.at < con.first
       begun_behind con to is_open =
           elim (dec_le (con.first + max_age + max_age + 1) next.0.event.at) [
             | yes late ↦ absurd (next.1.1.0.over con
@@ -255,7 +256,8 @@ module _ (config : Config) (x : Observed) (held : Held) where
       at_server con p (OfClient c) h = absurd h
       at_server con p (OfServer c) h = (c, refl, h)
 
-      by_con : (con : Open) → con.to ≡ client_end → IsOpen layer con → ToldHeld config held token till (entries_of now)
+      by_con : (con : Open) → con.to ≡ config.addresses.client → IsOpen layer con
+          → ToldHeld config held token till (entries_of now)
       by_con con to is_open =
           let where_it = split (AtServer config (Begins con)) (entries_of now)
           (server_entries config (Begins con) (first_none con) (entries_of now)
@@ -290,7 +292,7 @@ module _ (config : Config) (x : Observed) (held : Held) where
                   (registered_before config x.number token (entries_of tick.after) (front ++ entries_of base)
                   (registered_before config x.number token front (entries_of base) settles_here.registered)) in
                   let served = subst (Sometime (ServesPair config.limits config.server_szx
-                  (record { to = client_end; token = token })))
+                  (record { to = config.addresses.client; token = token })))
                   (sym (ap (server_trace config) f.rest ∙ trace_more config f.between (entries_of base)))
                   (Sometime_back _ (server_of f.between) (server_trace config (entries_of base)) settles_here.served) in
                   let notice_of = con_tells config x (entries_of past) lawful_past token registered_past
@@ -332,8 +334,8 @@ module _ (config : Config) (x : Observed) (held : Held) where
 
       marked : o.marked ≡ true → ToldHeld config held token till (entries_of now)
       marked due =
-          elim (busy_or_not client_end (outstanding layer)) [
-            | inl busy ↦ (let c = open_to client_end layer busy in by_con c.con c.there c.is_open)
+          elim (busy_or_not config.addresses.client (outstanding layer)) [
+            | inl busy ↦ (let c = open_to config.addresses.client layer busy in by_con c.con c.there c.is_open)
             | inr free ↦ absurd (of_each _ o
                 (own_of config.limits config.server_szx (server_trace config (entries_of now))).observers nobody
                 among_them.there (record {
@@ -367,7 +369,7 @@ module _ (config : Config) (x : Observed) (held : Held) where
     tick_tells =
         let there = next.1.0 newest_now.0 newest_now.1 watched in
         let told : ToldHeld config held token till (entries_of now) = elim there [
-          | inl o ↦ by_mark o.0 (subst (λ t. registration client_end t
+          | inl o ↦ by_mark o.0 (subst (λ t. registration config.addresses.client t
               (own_of config.limits config.server_szx (server_trace config (entries_of now))).observers ≡ Some o.0) token_now
               o.1) o.2
           | inr gone ↦ absurd (not_gone gone)

@@ -14,7 +14,7 @@ use Rattle.coap_server.specs.Follows.Current.{told_then, told_last}
 use Rattle.coap_server.specs.Follows.Tells.{Telling, telling}
 use Rattle.coap_server.specs.Law.{own_of}
 use Rattle.coap_server.specs.Trace as S
-use Rattle.coap_world.specs.Events.{client_end, Config}
+use Rattle.coap_world.specs.Events.{Config}
 use Rattle.coap_world.specs.Record.{Entry, OfClient, OfServer, Setting, DelayOf, PlainOf, gives_it, server_trace}
 use Rattle.coap_world.proofs.Observations.Following.{Split, split}
 use Rattle.coap_world.proofs.Observations.Positions.{AtServer, server_entries}
@@ -69,7 +69,7 @@ module _ (config : Config) where
     pub split : all ≡ newer ++ OfServer call ∷ older
     pub told : Telling
     pub is : telling (own older) call ≡ Some told
-    pub to_is : told.to ≡ client_end
+    pub to_is : told.to ≡ config.addresses.client
     pub token_is : told.token ≡ token
     pub version : told.version ≡ held.version
     pub soon : server_moment config older call ≤ till
@@ -134,13 +134,14 @@ module _ (config : Config) where
 
   -- who is told last what the path holds was told that by a call
   pub current_told : (held : Held) (token : List ℕ) (till : ℕ) (es : List Entry) (told : Telling)
-      → told_last config.limits config.server_szx client_end token (server_trace config es) ≡ Some told
+      → told_last config.limits config.server_szx config.addresses.client token (server_trace config es) ≡ Some told
       → told.version ≡ held.version → (own es).clock ≤ till → ToldHeld held token till es
   current_told held token till es told last version soon =
-      let there = server_entries config (Tells client_end token told) (none_first client_end token told) es
-      (last_told client_end token told (server_trace config es) last) in
-      let s : Split (AtServer config (Tells client_end token told)) es = split _ es there in
-      let k = at_server client_end token told s.older s.entry s.here in
+      let there = server_entries config (Tells config.addresses.client token told)
+      (none_first config.addresses.client token told) es
+      (last_told config.addresses.client token told (server_trace config es) last) in
+      let s : Split (AtServer config (Tells config.addresses.client token told)) es = split _ es there in
+      let k = at_server config.addresses.client token told s.older s.entry s.here in
       let whole : es ≡ s.newer ++ OfServer k.0 ∷ s.older =
       s.is ∙ ap (λ e. s.newer ++ e ∷ s.older) k.1 in
       let till_now = clock_rises s.newer (OfServer k.0 ∷ s.older) in

@@ -1,22 +1,22 @@
 -- Two calls of the server that tell the client's observation with a token: the later one tells a later version, and is
 -- not the one that makes the registration.
-use Rattle.std.proofs.Common.{◌≡◌, inl, inr, ◌<◌, ℕ, ◌+◌, true, List, ◌∷◌, ◌++◌, ap, sym, subst, ◌∙◌}
+use Rattle.std.proofs.Common.{◌≡◌, inl, inr, ◌<◌, ℕ, true, List, ◌∷◌, ◌++◌, ap, sym, subst, ◌∙◌}
 use Rattle.coap_types.specs.Past.{Sometime}
 use Rattle.coap_types.proofs.Facts.Traces.{Always_back, Sometime_back}
-use Rattle.coap_client.specs.Trace.{Call}
 use Rattle.coap_server.specs.Follows.Told.{ServesPair, pair_of}
 use Rattle.coap_server.specs.Follows.Tells.{Pair, Telling}
 use Rattle.coap_server.specs.Law.{ServerLaw}
 use Rattle.coap_server.specs.Trace as S
 use Rattle.coap_server.proofs.Facts.EachCall.{are_under}
 use Rattle.coap_server.proofs.Facts.Laws as server_facts
-use Rattle.coap_world.specs.Events.{client_end, Config}
+use Rattle.coap_world.specs.Events.{Config}
 use Rattle.coap_world.proofs.Observations.Following.{OnceOf, split, follow_here, told_since}
 use Rattle.coap_world.proofs.Watching.ToldHeld.{Tells}
 
 module _ (config : Config) (token : List ℕ) (calls : List S.Call)
     (law_of_all : ServerLaw config.limits config.server_szx config.server_setup calls)
-    (once : OnceOf config.limits config.server_szx config.server_setup (record { to = client_end; token = token })
+    (once : OnceOf config.limits config.server_szx config.server_setup
+    (record { to = config.addresses.client; token = token })
     calls) where
   -- the calls before, and that one
   record Two (P Q : List S.Call → S.Call → Type 0) : Type 0 where
@@ -28,7 +28,7 @@ module _ (config : Config) (token : List ℕ) (calls : List S.Call)
     is_second : Q (after ++ first ∷ oldest) second
     law : ServerLaw config.limits config.server_szx config.server_setup (second ∷ (after ++ first ∷ oldest))
     once_there : OnceOf config.limits config.server_szx config.server_setup
-        (record { to = client_end; token = token }) (second ∷ (after ++ first ∷ oldest))
+        (record { to = config.addresses.client; token = token }) (second ∷ (after ++ first ∷ oldest))
 
   two : (P Q : List S.Call → S.Call → Type 0) → Sometime (λ p b. Q p b × Sometime P p) calls → Two P Q
   two P Q s =
@@ -48,20 +48,20 @@ module _ (config : Config) (token : List ℕ) (calls : List S.Call)
             (subst (ServerLaw config.limits config.server_szx config.server_setup) whole law_of_all);
         once_there = Always_back _ a.newer (a.entry ∷ (b.newer ++ b.entry ∷ b.older))
             (subst (OnceOf config.limits config.server_szx config.server_setup
-            (record { to = client_end; token = token })) whole once);
+            (record { to = config.addresses.client; token = token })) whole once);
       }
 
-  pair_is : (y : Telling) → y.to ≡ client_end → y.token ≡ token
-      → pair_of config.limits config.server_szx y ≡ record { to = client_end; token = token }
+  pair_is : (y : Telling) → y.to ≡ config.addresses.client → y.token ≡ token
+      → pair_of config.limits config.server_szx y ≡ record { to = config.addresses.client; token = token }
   pair_is y to under = ap {B = Pair} (λ z. record { to = z; token = y.token }) to
-      ∙ ap {B = Pair} (λ z. record { to = client_end; token = z }) under
+      ∙ ap {B = Pair} (λ z. record { to = config.addresses.client; token = z }) under
 
-  module _ (u v : Telling) (to_is : u.to ≡ client_end) (token_is : u.token ≡ token) where
+  module _ (u v : Telling) (to_is : u.to ≡ config.addresses.client) (token_is : u.token ≡ token) where
     abbrev A : List S.Call → S.Call → Type 0
-    A = Tells config client_end token u
+    A = Tells config config.addresses.client token u
 
     abbrev B : List S.Call → S.Call → Type 0
-    B = Tells config client_end token v
+    B = Tells config config.addresses.client token v
 
     -- told behind that it shows a later version
     pub told_behind : Sometime (λ p b. B p b × Sometime A p) calls → u.version < v.version
@@ -83,7 +83,8 @@ module _ (config : Config) (token : List ℕ) (calls : List S.Call)
         (w.first ∷ w.oldest) =
         told_since config.limits config.server_szx config.server_setup w.oldest w.first v
         (Always_back _ w.after (w.first ∷ w.oldest) under.1).0 w.is_first.is in
-        let before : Sometime (ServesPair config.limits config.server_szx (record { to = client_end; token = token }))
+        let before : Sometime (ServesPair config.limits config.server_szx
+        (record { to = config.addresses.client; token = token }))
         (w.after ++ w.first ∷ w.oldest) =
         Sometime_back _ w.after (w.first ∷ w.oldest)
         (subst (λ p. Sometime (ServesPair config.limits config.server_szx p) (w.first ∷ w.oldest))

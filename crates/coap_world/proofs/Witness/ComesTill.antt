@@ -8,7 +8,7 @@ use Rattle.coap_server.specs.Trace as S
 use Rattle.coap_server.specs.Law.{ServerLaw}
 use Rattle.coap_world.specs.LegalRuns.{limits, config, from_client, from_server, get, get_bytes, not_found_bytes, Runs}
 use Rattle.coap_world.specs.LegalRuns.{MayComeTill}
-use Rattle.coap_world.specs.Events.{Calls, TickClient, Deliver, client_end}
+use Rattle.coap_world.specs.Events.{Calls, TickClient, Deliver, client_end, usual_addresses}
 use Rattle.coap_world.specs.Legal.{AllLegal}
 use Rattle.coap_world.specs.LegalEvents.{event, comes_at}
 use Rattle.coap_world.specs.Record.{OfClient, OfServer, Turn}
@@ -53,7 +53,7 @@ module _ (at : ℕ) where
         call_taken 0 get (Ok 0) ⨾
         tt
 
-    legal : AllLegal turns
+    legal : AllLegal usual_addresses turns
     legal = (
       legal_at at (Deliver 0) (omega (arith, early)) tt (omega (arith, early))
           (from_client 0 get_bytes, inl (refl, refl), inr refl, omega (arith, early)),

@@ -44,6 +44,6 @@ made =
 
 pub deferred : Defers
 deferred = record {
-  run = a_run turns refl made client.lawful server.lawful slow_range ranges refl refl;
+  run = a_run turns refl refl made client.lawful server.lawful slow_range ranges refl refl;
   reports = refl;
 }

@@ -70,7 +70,7 @@ none_observed = none_taken (client_of (entries_of turns)) refl
 
 pub deferred_late : DefersLate
 deferred_late = record {
-  run = a_run turns refl made client.lawful server.lawful slow_range ranges refl refl;
+  run = a_run turns refl refl made client.lawful server.lawful slow_range ranges refl refl;
   reports = refl;
   smooth = smooth;
   no_stranger = no_stranger turns refl;

@@ -91,7 +91,7 @@ smooth = record {
 
 pub deferred_longest : DefersLongest
 deferred_longest = record {
-  run = a_run turns refl made client.lawful server.lawful range ranges refl refl;
+  run = a_run turns refl refl made client.lawful server.lawful range ranges refl refl;
   reports = refl;
   smooth = smooth;
   no_stranger = no_stranger turns refl;

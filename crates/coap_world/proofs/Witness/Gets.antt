@@ -57,6 +57,6 @@ made =
 
 pub gotten : Gets
 gotten = record {
-  run = a_run turns refl made client.lawful server.lawful config_range ranges refl refl;
+  run = a_run turns refl refl made client.lawful server.lawful config_range ranges refl refl;
   reports = refl;
 }

@@ -113,7 +113,7 @@ applied = inr (inr (inr (inr (inr (inr (inl (record
 
 pub held_back : HoldsBack
 held_back = record {
-  run = a_run turns refl made client.lawful server.lawful by_16_range ranges refl refl;
+  run = a_run turns refl refl made client.lawful server.lawful by_16_range ranges refl refl;
   reports = refl;
   applied = applied;
   once = refl;

@@ -1,5 +1,5 @@
 -- Bytes, paths and configurations that are in range.
-use Rattle.std.proofs.Common.{◌≤◌, ℕ, suc, zero, List, [], ◌∷◌, length, arith, refl}
+use Rattle.std.proofs.Common.{◌≡◌, ◌≤◌, ap, ℕ, suc, zero, List, [], ◌∷◌, length, arith, refl}
 use Rattle.std.proofs.lemmas.List.Elements.{All-nil}
 use Rattle.std.specs.Prelude.{All, codes}
 use Rattle.coap_types.specs.Bytes.{AreBytes}
@@ -8,7 +8,9 @@ use Rattle.coap_types.specs.EntityTag.{AreTags}
 use Rattle.coap_types.specs.Path.{IsPath}
 use Rattle.coap_layer.specs.Machine.State.{usual}
 use Rattle.coap_server.specs.Trace.{Delay}
-use Rattle.coap_world.specs.Legal.{IsDelay, IsSetup, IsConfig}
+use Rattle.coap_types.specs.declared.endpoint.Endpoint.{Endpoint}
+use Rattle.coap_world.specs.Events.{localhost, usual_addresses}
+use Rattle.coap_world.specs.Legal.{AreAddresses, IsDelay, IsSetup, IsConfig}
 use Rattle.coap_world.specs.LegalRuns.{with_delays, config, t}
 
 pub of_one : {X : Type 0} (P : X → Type 0) (x : X) → P x → All P (x ∷ [])
@@ -32,8 +34,16 @@ no_tags = record { few = omega arith; each = All-nil _ }
 pub usual_range : IsSetup (usual 0)
 usual_range = record { word = omega arith; some = omega arith; few = omega arith }
 
+pub two_addresses : AreAddresses usual_addresses
+two_addresses = record {
+  client = record { four = refl; bytes = bytes_are localhost refl; port = omega arith };
+  server = record { four = refl; bytes = bytes_are localhost refl; port = omega arith };
+  two = λ h. let k : 40001 ≡ 5683 = ap (λ (e : Endpoint). e.port) h in absurd (omega (arith, k));
+}
+
 pub configured : (delays : List Delay) → All IsDelay delays → length delays ≤ 16 → IsConfig (with_delays delays)
 configured delays each few = record {
+  addresses = two_addresses;
   client_setup = usual_range;
   client_szx = omega arith;
   client_limit = (omega arith, omega arith);

@@ -87,6 +87,7 @@ answers bytes c = server_turn (to_client bytes ∷ []) (c ∷ [])
 
 pub by_16_range : IsConfig by_16
 by_16_range = record {
+  addresses = config_range.addresses;
   client_setup = config_range.client_setup;
   client_szx = omega arith;
   client_limit = (omega arith, omega arith);

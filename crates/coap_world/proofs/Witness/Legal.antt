@@ -10,15 +10,17 @@ use Rattle.coap_world.specs.LegalEvents.{RemovesMay, TicksMay, StrangersMay, Del
 use Rattle.coap_world.specs.LegalEvents.{NoneLonger, NoneBeyond}
 use Rattle.coap_world.specs.Record.{Turn}
 use Rattle.coap_world.proofs.Witness.NoneRuns.{events_of, newest}
+use Rattle.coap_world.specs.declared.addresses.Addresses.{Addresses}
 
 -- what comes from no end
-module _ (what : What) (range : InRange what) (comes : (past : List Turn) (at : ℕ) → MayCome past at what) where
+module _ (addresses : Addresses) (what : What) (range : InRange what) (comes : (past : List Turn) (at : ℕ)
+    → MayCome addresses past at what) where
   happens : (past : List Turn) (at word : ℕ) → at < 2 ^ 64 → word < 2 ^ 64 → NotBefore past at
-      → MayHappen past (at_with at word what)
+      → MayHappen addresses past (at_with at word what)
   happens past at word small word_small later =
       record { at = small; word = word_small; range = range; later = later; comes = comes past at }
 
-  may : May what
+  may : May addresses what
   may = record {
     first = λ at word small word_small. happens [] at word small word_small tt;
     then = λ last past at word small word_small later. happens (last ∷ past) at word small word_small later;
@@ -27,9 +29,9 @@ module _ (what : What) (range : InRange what) (comes : (past : List Turn) (at : 
 path_in : (path : List (List ℕ)) → Segments path → IsPath path
 path_in path s = record { bounds = record { few = s.0; short = s.1 }; bytes = s.2 }
 
-pub calls_may : CallsMay
-calls_may r path accept format body etags if_match =
-    may (Calls r) (record {
+pub calls_may : (addresses : Addresses) → CallsMay addresses
+calls_may addresses r path accept format body etags if_match =
+    may addresses (Calls r) (record {
       path = path_in r.path path;
       format = format;
       body = body;
@@ -38,33 +40,35 @@ calls_may r path accept format body etags if_match =
       accept = accept;
     }) (λ past at. tt)
 
-pub observes_may : ObservesMay
-observes_may path segments = may (Observes path) (path_in path segments) (λ past at. tt)
+pub observes_may : (addresses : Addresses) → ObservesMay addresses
+observes_may addresses path segments = may addresses (Observes path) (path_in path segments) (λ past at. tt)
 
-pub ends_may : EndsMay
-ends_may number small = (may (Cancels number) small (λ past at. tt), may (Forgets number) small (λ past at. tt))
+pub ends_may : (addresses : Addresses) → EndsMay addresses
+ends_may addresses number small = (
+  may addresses (Cancels number) small (λ past at. tt),
+  may addresses (Forgets number)
+      small (λ past at. tt),
+)
 
-pub sets_may : SetsMay
-sets_may path format body segments small bytes =
-    may (Sets path format body) (path_in path segments, small, bytes) (λ past at. tt)
+pub sets_may : (addresses : Addresses) → SetsMay addresses
+sets_may addresses path format body segments small bytes =
+    may addresses (Sets path format body) (path_in path segments, small, bytes) (λ past at. tt)
 
-pub removes_may : RemovesMay
-removes_may path segments = may (Removes path) (path_in path segments) (λ past at. tt)
+pub removes_may : (addresses : Addresses) → RemovesMay addresses
+removes_may addresses path segments = may addresses (Removes path) (path_in path segments) (λ past at. tt)
 
-pub ticks_may : TicksMay
-ticks_may = (may TickClient tt (λ past at. tt), may TickServer tt (λ past at. tt))
+pub ticks_may : (addresses : Addresses) → TicksMay addresses
+ticks_may addresses = (may addresses TickClient tt (λ past at. tt), may addresses TickServer tt (λ past at. tt))
 
-pub strangers_may : StrangersMay
-strangers_may ip port bytes four are small of_bytes client server =
-    let from : Endpoint = record { ip = ip; port = port } in
-    let range : InRange (StrangerToServer from bytes) =
-    (record { four = four; bytes = are; port = small }, of_bytes) in (
-      may (StrangerToServer from bytes) range (λ past at. (client, server)),
-      may (StrangerToClient from bytes) range (λ past at. (client, server)),
+pub strangers_may : (addresses : Addresses) → StrangersMay addresses
+strangers_may addresses ip port bytes four are small of_bytes client server =
+    let from : Endpoint = record { ip = ip; port = port } in (
+      may addresses (StrangerToServer from bytes) tt (λ past at. (client, server)),
+      may addresses (StrangerToClient from bytes) tt (λ past at. (client, server)),
     )
 
-pub deliveries_may : DeliveriesMay 100000
-deliveries_may turn past at word number g small word_small later is to young =
+pub deliveries_may : (addresses : Addresses) → DeliveriesMay addresses 100000
+deliveries_may addresses turn past at word number g small word_small later is to young =
     record { at = small; word = word_small; range = tt; later = later; comes = (g, is, to, young) }
 
 -- .. and which are not
@@ -77,20 +81,24 @@ last_at at (t ∷ past) e es h later = let same : t.event
 
 pub none_falls : NoneFalls
 none_falls at later falls config turns made legal =
-    let n = newest turns _ _ made.events_are legal in
+    let n = newest config.addresses turns _ _ made.events_are legal in
     let k = last_at at n.past _ _ n.events_are n.later in
     omega (arith, falls, k)
 
 pub none_over : NoneOver
-none_over at word (inl over) config turns made legal = let n = newest turns _ _ made.events_are legal in let k =
+none_over at word (inl over) config turns made legal = let n = newest config.addresses turns _ _ made.events_are
+    legal in let k =
     n.at in omega (arith, over, k)
-none_over at word (inr over) config turns made legal = let n = newest turns _ _ made.events_are legal in let k =
+none_over at word (inr over) config turns made legal = let n = newest config.addresses turns _ _ made.events_are
+    legal in let k =
     n.word in omega (arith, over, k)
 
 pub none_longer : NoneLonger
-none_longer path long config turns made legal = let n = newest turns _ _ made.events_are legal in let k =
+none_longer path long config turns made legal = let n = newest config.addresses turns _ _ made.events_are legal in let k
+    =
     n.range.bounds.few in omega (arith, long, k)
 
 pub none_beyond : NoneBeyond
-none_beyond path format body over config turns made legal = let n = newest turns _ _ made.events_are legal in let k =
+none_beyond path format body over config turns made legal = let n = newest config.addresses turns _ _ made.events_are
+    legal in let k =
     n.range.1 in omega (arith, over, k)

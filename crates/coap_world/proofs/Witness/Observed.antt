@@ -67,7 +67,7 @@ made =
 
 pub observed : Observed
 observed = record {
-  run = a_run turns refl made client.lawful server.lawful config_range
+  run = a_run turns refl refl made client.lawful server.lawful config_range
       ((t_is, omega arith, bytes_are (codes "b") refl), ranges) refl refl;
   reports = refl;
 }

@@ -104,7 +104,7 @@ applied = inr (inr (inr (inr (inr (inr (inr (inr (inr (inr (inr (inr (inr (inr (
 
 pub put_late : PutsLate
 put_late = record {
-  run = a_run turns refl made client.lawful server.lawful slow_range ranges refl refl;
+  run = a_run turns refl refl made client.lawful server.lawful slow_range ranges refl refl;
   reports = refl;
   smooth = smooth;
   no_stranger = no_stranger turns refl;

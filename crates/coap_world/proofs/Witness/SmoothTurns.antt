@@ -6,6 +6,7 @@ use Rattle.coap_layer.specs.Machine.State.{usual}
 use Rattle.coap_client.specs.Trace as C
 use Rattle.coap_world.specs.Record.{Given, Turn, given_in}
 use Rattle.coap_world.specs.Smooth.{max_age, is_then, count_came, FewCome, WasDelivered, NoneIsLate, TakesNoObservation}
+use Rattle.coap_world.specs.Events.{usual_addresses}
 
 -- each datagram is young, or was delivered
 late_of : (past : List Turn) (at : ℕ) (gs : List Given)
@@ -19,9 +20,11 @@ late_of past at (h ∷ gs) all number g (inl is) late = ⊎_elim
 late_of past at (h ∷ gs) all number g (inr before) late = late_of past at gs all.1 number g before late
 
 pub none_late : (past : List Turn) (at : ℕ)
-    → Always (λ before (g : Given). (at ≤ g.at + max_age) ⊎ WasDelivered (length before) past) (all_of given_in past)
-    → NoneIsLate past at
-none_late past at all number g is to late = late_of past at (all_of given_in past) all number g is late
+    → Always (λ before (g : Given). (at ≤ g.at + max_age) ⊎ WasDelivered (length before) past)
+    (all_of (given_in usual_addresses) past)
+    → NoneIsLate usual_addresses past at
+none_late past at all number g is to late = late_of past at (all_of (given_in usual_addresses) past) all number g is
+    late
 
 -- fewer come than there are calls
 one_more : (b : Bool) (n k : ℕ) → n ≤ k → cond b (1 + n) n ≤ k + 1

@@ -50,7 +50,7 @@ stale promised = absurd (cc ((promised watched (alone_of (client_of (entries_of 
 
 pub stays_old : StaysOld
 stays_old = record {
-  run = a_run turns refl made client.lawful server.lawful config_range
+  run = a_run turns refl refl made client.lawful server.lawful config_range
       ((t_is, omega arith, bytes_are (codes "b") refl), ranges) refl refl;
   alone = alone_of (client_of (entries_of turns)) refl;
   reports = refl;

@@ -66,7 +66,7 @@ ranges = (range, ((log_is, omega arith, bytes_are (codes "x") refl), tt))
 
 pub timed_out : TimesOut
 timed_out = record {
-  run = a_run turns refl made client.lawful server.lawful config_range ranges refl refl;
+  run = a_run turns refl refl made client.lawful server.lawful config_range ranges refl refl;
   reports = refl;
   holds = refl;
 }

@@ -1,14 +1,15 @@
 -- Tests by which the turns of a run are legal, and go smoothly: each is computed from the turns before; and a run.
 use Rattle.std.proofs.Common.{◌≡◌, ◌⊎◌, ◌≤◌, ◌+◌, ◌^◌, inl, inr, ⊎_elim, ℕ, nat_le, nat_lt, eqb, Bool, true, false}
-use Rattle.std.proofs.Common.{◌&&◌, ◌||◌, not, List, [], ◌∷◌, length, ap, refl, map}
+use Rattle.std.proofs.Common.{◌&&◌, ◌||◌, not, List, [], ◌∷◌, length, ap, refl, map, subst, sym}
 use Rattle.std.proofs.lemmas.Bool.{and_parts, or_cases, eqb-true, ltb-true, leb-true, not-true}
 use Rattle.coap_types.specs.Past.{Ever, Sometime, Always, all_of}
 use Rattle.coap_types.specs.SameEndpoint.{same_endpoint}
 use Rattle.coap_types.proofs.Facts.Endpoints.{same_endpoint_is}
-use Rattle.coap_world.specs.Events.{client_end, server_end, What, TickClient, TickServer, Deliver, StrangerToClient}
+use Rattle.coap_world.specs.Events.{client_end, server_end, What, TickClient, TickServer, Deliver, StrangerToClient, usual_addresses}
 use Rattle.coap_world.specs.Events.{StrangerToServer, Config, Event}
 use Rattle.coap_world.specs.Legal.{max_delivery, NotBefore, MayCome, InRange, IsLegal, AllLegal, IsConfig}
-use Rattle.coap_world.specs.Record.{Given, Turn, given_in, client_of, server_trace, entries_of}
+use Rattle.coap_world.specs.Record.{Given, Turn, Makes, given_in, client_of, server_trace, entries_of}
+use Rattle.coap_world.specs.declared.addresses.Addresses.{Addresses}
 use Rattle.coap_world.specs.Smooth.{max_age, WasDelivered, HasTicked, IsOfAnEnd, NoStranger, GoesSmoothly}
 use Rattle.coap_world.proofs.Witness.SmoothTurns.{none_late}
 use Rattle.coap_client.specs.Law.{ClientLaw}
@@ -41,13 +42,13 @@ coming number at (g ∷ gs) e = ⊎_elim
     (λ h. let k = coming number at gs h in (k.0, inr k.1, k.2, k.3)) (or_cases _ _ e)
 
 abbrev comes : List Turn → ℕ → What → Bool
-comes past at (Deliver number) = comes_of number at (all_of given_in past)
+comes past at (Deliver number) = comes_of number at (all_of (given_in usual_addresses) past)
 comes past at (StrangerToClient from bytes) = false
 comes past at (StrangerToServer from bytes) = false
 comes past at _ = true
 
-may_come : (past : List Turn) (at : ℕ) (what : What) → comes past at what ≡ true → MayCome past at what
-may_come past at (Deliver number) e = coming number at (all_of given_in past) e
+may_come : (past : List Turn) (at : ℕ) (what : What) → comes past at what ≡ true → MayCome usual_addresses past at what
+may_come past at (Deliver number) e = coming number at (all_of (given_in usual_addresses) past) e
 may_come past at (StrangerToClient from bytes) e = absurd (cc e)
 may_come past at (StrangerToServer from bytes) e = absurd (cc e)
 may_come past at _ e = tt
@@ -64,7 +65,7 @@ abbrev is_legal : List Turn → Turn → Bool
 is_legal past t = nat_lt t.event.at (2 ^ 64) && (nat_lt t.event.word (2 ^ 64)
     && (is_later past t.event.at && comes past t.event.at t.event.what))
 
-legal : (past : List Turn) (t : Turn) → InRange t.event.what → is_legal past t ≡ true → IsLegal past t
+legal : (past : List Turn) (t : Turn) → InRange t.event.what → is_legal past t ≡ true → IsLegal usual_addresses past t
 legal past t range e =
     let at = and_parts _ _ e in
     let word = and_parts _ _ at.1 in
@@ -98,7 +99,7 @@ abbrev pub are_legal : List Turn → Bool
 are_legal [] = true
 are_legal (t ∷ past) = is_legal past t && are_legal past
 
-pub all_legal : (turns : List Turn) → InRanges turns → are_legal turns ≡ true → AllLegal turns
+pub all_legal : (turns : List Turn) → InRanges turns → are_legal turns ≡ true → AllLegal usual_addresses turns
 all_legal [] h e = tt
 all_legal (t ∷ past) h e =
     let r = ranges t.event.what (InRanges past) h in
@@ -191,18 +192,18 @@ of_an_end _ e = tt
 
 abbrev is_smooth : List Turn → Turn → Bool
 is_smooth past t =
-    are_in_time past t.event.at (all_of given_in past)
+    are_in_time past t.event.at (all_of (given_in usual_addresses) past)
     && ((ticks_by ticks_client t.event.at past || are_recent t.event.at past)
     && ((ticks_by ticks_server t.event.at past || are_recent t.event.at past)
     && not t.refused))
 
-goes : (past : List Turn) (t : Turn) → is_smooth past t ≡ true → GoesSmoothly past t
+goes : (past : List Turn) (t : Turn) → is_smooth past t ≡ true → GoesSmoothly usual_addresses past t
 goes past t e =
     let time = and_parts _ _ e in
     let client = and_parts _ _ time.1 in
     let server = and_parts _ _ client.1 in
     record {
-      in_time = none_late past t.event.at (in_time past t.event.at (all_of given_in past) time.0);
+      in_time = none_late past t.event.at (in_time past t.event.at (all_of (given_in usual_addresses) past) time.0);
       client_ticks = has_ticked ticks_client TickClient is_client t.event.at past client.0;
       server_ticks = has_ticked ticks_server TickServer is_server t.event.at past server.0;
       all_made = not-true t.refused server.1;
@@ -212,7 +213,7 @@ abbrev pub are_smooth : List Turn → Bool
 are_smooth [] = true
 are_smooth (t ∷ past) = is_smooth past t && are_smooth past
 
-pub all_smooth : (turns : List Turn) → are_smooth turns ≡ true → Always GoesSmoothly turns
+pub all_smooth : (turns : List Turn) → are_smooth turns ≡ true → Always (GoesSmoothly usual_addresses) turns
 all_smooth [] e = tt
 all_smooth (t ∷ past) e = let k = and_parts _ _ e in (goes past t k.0, all_smooth past k.1)
 
@@ -228,16 +229,33 @@ no_stranger (t ∷ past) e = let k = and_parts _ _ e in (of_an_end t.event.what 
 
 -- a run
 
+pub made_at : (addresses : Addresses) (turns : List Turn) → addresses ≡ usual_addresses → AllMade turns
+    → Always (λ past t. Makes addresses past t.event.at t.event.word t.event.what t.refused t.entries) turns
+made_at addresses turns same made =
+    subst (λ a. Always (λ past t. Makes a past t.event.at t.event.word t.event.what t.refused t.entries) turns)
+    (sym same) made
+
+pub legal_at : (addresses : Addresses) (turns : List Turn) → addresses ≡ usual_addresses
+    → AllLegal usual_addresses turns
+    → AllLegal addresses turns
+legal_at addresses turns same legal = subst (λ a. AllLegal a turns) (sym same) legal
+
 abbrev pub a_run : {config : Config} {events : List Event} {given : List Given} (turns : List Turn)
-    → map (λ (t : Turn). t.event) turns ≡ events → AllMade turns
-    → ClientLaw server_end config.client_sizes config.client_setup (client_of (entries_of turns))
+    → map (λ (t : Turn). t.event) turns ≡ events → config.addresses ≡ usual_addresses → AllMade turns
+    → ClientLaw config.addresses.server config.client_sizes config.client_setup (client_of (entries_of turns))
     → ServerLaw config.limits config.server_szx config.server_setup (server_trace config (entries_of turns))
-    → IsConfig config → InRanges turns → are_legal turns ≡ true → all_of given_in turns ≡ given
+    → IsConfig config → InRanges turns → are_legal turns ≡ true → all_of (given_in config.addresses) turns ≡ given
     → Runs config events given
-a_run turns is made client server range ranges legal gives =
+a_run {config} turns is usual made client server range ranges legal gives =
     record {
       turns = turns;
-      made = record { events_are = is; made = made; client = client; server = server };
-      legal = record { range = range; events = all_legal turns ranges legal };
+      made = record {
+        events_are = is;
+        made = made_at config.addresses turns usual made;
+        client = client;
+        server
+            = server;
+      };
+      legal = record { range = range; events = legal_at config.addresses turns usual (all_legal turns ranges legal) };
       gives = gives;
     }

@@ -7,7 +7,7 @@ use Rattle.coap_exchange.specs.declared.answerer.Due.TheVariants as due
 use Rattle.coap_exchange.specs.declared.asker.Turn.TheVariants as turn
 use Rattle.coap_client.specs.Trace as C
 use Rattle.coap_server.specs.Trace as S
-use Rattle.coap_world.specs.Events.{client_end, server_end, Event, Calls, Observes, Sets, TickClient, TickServer}
+use Rattle.coap_world.specs.Events.{client_end, server_end, Event, Calls, Observes, Sets, TickClient, TickServer, usual_addresses}
 use Rattle.coap_world.specs.Legal.{NotBefore, IsLegal, InRange, MayCome}
 use Rattle.coap_world.specs.LegalEvents as may
 use Rattle.coap_world.specs.Events as events
@@ -73,25 +73,27 @@ server_idles at = a_turn (may.event at TickServer) (map OfServer (server_turn []
 -- what the events make
 
 abbrev pub AllMade : List Turn → Type 0
-AllMade turns = Always (λ past t. Makes past t.event.at t.event.word t.event.what t.refused t.entries) turns
+AllMade turns = Always (λ past t. Makes usual_addresses past t.event.at t.event.word t.event.what t.refused t.entries)
+    turns
 
-pub rested : (at : ℕ) → Makes [] at 0 TickClient false (map OfClient (client_turn [] [] (rests at ∷ [])))
+pub rested : (at : ℕ) → Makes usual_addresses [] at 0 TickClient false
+    (map OfClient (client_turn [] [] (rests at ∷ [])))
 rested at = (rests at ∷ [], ((_, _, _, _, _, refl), tt), on_client [] [] (rests at ∷ []))
 
 pub idled : (at word passed : ℕ)
-    → Makes [] at word TickServer false (map OfServer (server_turn [] (idles at word passed ∷ [])))
+    → Makes usual_addresses [] at word TickServer false (map OfServer (server_turn [] (idles at word passed ∷ [])))
 idled at word passed =
     (idles at word passed ∷ [], ((_, _, _, _, _, _, refl), tt), on_server [] (idles at word passed ∷ []))
 
 -- a tick that does something, and one that does nothing
 
 pub ticked : (at : ℕ) (reports : List C.Reported) (outs : List L.Packet) (c : C.Call) → ClientTick at 0 true c
-    → Makes [] at 0 TickClient false (map OfClient (client_turn reports outs (rests at ∷ c ∷ [])))
+    → Makes usual_addresses [] at 0 TickClient false (map OfClient (client_turn reports outs (rests at ∷ c ∷ [])))
 ticked at reports outs c is =
     (rests at ∷ c ∷ [], ((_, _, _, _, _, refl), (is, tt)), on_client reports outs (rests at ∷ c ∷ []))
 
 pub server_ticked : (at word : ℕ) (outs : List L.Packet) (c : S.Call) → ServerTick at word true c
-    → Makes [] at word TickServer false (map OfServer (server_turn outs (idles at word 0 ∷ c ∷ [])))
+    → Makes usual_addresses [] at word TickServer false (map OfServer (server_turn outs (idles at word 0 ∷ c ∷ [])))
 server_ticked at word outs c is = (
   idles at word 0 ∷ c ∷ [],
   ((_, _, _, _, _, _, refl), (is, tt)),
@@ -101,24 +103,25 @@ server_ticked at word outs c is = (
 -- a call, an observation and a change are taken
 
 pub call_taken : (at : ℕ) (r : C.Request) (answer : _)
-    → Makes [] at 0 (Calls r) false (map OfClient (client_turn [] [] (C.Calls at r answer ∷ [])))
+    → Makes usual_addresses [] at 0 (Calls r) false (map OfClient (client_turn [] [] (C.Calls at r answer ∷ [])))
 call_taken at r answer = (C.Calls at r answer ∷ [], (_, (_, refl), refl), on_client [] [] (C.Calls at r answer ∷ []))
 
 pub observation_taken : (at : ℕ) (path : List (List ℕ)) (answer : _)
-    → Makes [] at 0 (Observes path) false (map OfClient (client_turn [] [] (C.Observes at path answer ∷ [])))
+    → Makes usual_addresses [] at 0 (Observes path) false (map OfClient
+    (client_turn [] [] (C.Observes at path answer ∷ [])))
 observation_taken at path answer =
     (C.Observes at path answer ∷ [], (_, (_, refl), refl), on_client [] [] (C.Observes at path answer ∷ []))
 
 pub change_taken : (at : ℕ) (path : List (List ℕ)) (format : Option ℕ) (body : List ℕ) (c : S.Call)
     → ((answer : _) × (left : _) × (c ≡ S.Sets at path format body answer left))
-    → Makes [] at 0 (Sets path format body) false (map OfServer (server_turn [] (c ∷ [])))
+    → Makes usual_addresses [] at 0 (Sets path format body) false (map OfServer (server_turn [] (c ∷ [])))
 change_taken at path format body c is = (c ∷ [], (c, is, refl), on_server [] (c ∷ []))
 
 -- a datagram is delivered
 
 pub to_the_client : (at : ℕ) (g : Given) (reports : List C.Reported) (outs : List L.Packet)
     → g.packet.to ≡ client_end → (up : _) (settled : _) (event : _) (sent : _) (token : _) (kept : _)
-    → Delivers g at 0 false (map OfClient (client_turn reports outs
+    → Delivers usual_addresses g at 0 false (map OfClient (client_turn reports outs
     (C.Feeds at g.from g.packet.bytes 0 up settled event sent token kept ∷ [])))
 to_the_client at g reports outs to up settled event sent token kept =
     let c = C.Feeds at g.from g.packet.bytes 0 up settled event sent token kept in
@@ -126,7 +129,7 @@ to_the_client at g reports outs to up settled event sent token kept =
 
 pub to_the_server : (at : ℕ) (g : Given) (outs : List L.Packet)
     → g.packet.to ≡ server_end → (up : _) (came : _) (h : _) (below : _)
-    → Delivers g at 0 false (map OfServer (server_turn outs
+    → Delivers usual_addresses g at 0 false (map OfServer (server_turn outs
     (S.Feeds at g.from g.packet.bytes 0 up came h below ∷ [])))
 to_the_server at g outs to up came h below =
     let c = S.Feeds at g.from g.packet.bytes 0 up came h below in
@@ -135,7 +138,7 @@ to_the_server at g outs to up came h below =
 -- what is legal: words are 0
 
 pub legal_at : {past : List Turn} {es : List Entry} (at : ℕ) (what : events.What) → at < 2 ^ 64 → InRange what
-    → NotBefore past at → MayCome past at what
-    → IsLegal past (a_turn (may.event at what) es)
+    → NotBefore past at → MayCome usual_addresses past at what
+    → IsLegal usual_addresses past (a_turn (may.event at what) es)
 legal_at at what small range later comes = record
     { at = small; word = omega arith; range = range; later = later; comes = comes }

@@ -5,6 +5,7 @@ use Rattle.coap_common.specs.Endings.{all_taken}
 use Rattle.coap_world.specs.Events.{Config}
 use Rattle.coap_world.specs.Record.{Entry, IsOne, AreTicks, given_by}
 use Rattle.coap_world.specs.Run.Log.{Log, Line, lines_upon}
+use Rattle.coap_world.specs.declared.addresses.Addresses.{Addresses}
 
 -- Whatever calls led to it as it was: these, the newest first, lead to it as it is now.
 abbrev pub Moves : {X S : Type 0} → (Config → List X → S → Type 0) → S → List X → S → Type 0
@@ -24,12 +25,13 @@ pub record Passed {X S : Type 0} (led : Config → List X → S → Type 0) (IsT
   pub are : AreTicks IsTick refused calls
   pub moves : Moves led old calls new
 
-module _ {X S : Type 0} (led : Config → List X → S → Type 0) (of : X → Entry) (tells : Config → List X → X → List Line)
+module _ (addresses : Addresses) {X S : Type 0} (led : Config → List X → S → Type 0) (of : X → Entry) (tells : Config
+    → List X → X → List Line)
     (at : ℕ) where
   -- These calls, and what the log tells of them.
   pub record Acts (calls : List X) (old : S) (log : Log) (new : S) (left : Log) : Type 0 where
     pub moves : Moves led old calls new
-    pub given : left.given ≡ log.given ++ reverse (all_of (given_by at) (map of calls))
+    pub given : left.given ≡ log.given ++ reverse (all_of (given_by addresses at) (map of calls))
     pub lines : (config : Config) (t : List X) → led config t old
         → left.lines ≡ log.lines ++ lines_upon (tells config) t calls
 

@@ -9,11 +9,15 @@ use Rattle.coap_server.specs.Trace as S
 use Rattle.coap_server.specs.Trace.{Delay}
 use Rattle.coap_world.specs.Events.{Config}
 use Rattle.coap_world.specs.Record.{DelayOf, PlainOf, gives_it}
+use Rattle.coap_types.specs.declared.endpoint.Endpoint.{Endpoint}
+use Rattle.coap_world.specs.declared.addresses.Addresses.{Addresses}
 
-abbrev pub config_of : {A : Type 0} → (client_setup : Setup) → Sizes → (server_setup : Setup) (server_szx : ℕ) → Limits
+abbrev pub config_of : {A : Type 0} → Addresses → (client_setup : Setup) → Sizes
+    → (server_setup : Setup) (server_szx : ℕ) → Limits
     → List (PathDelay A) → List (List (List ℕ)) → Config
-config_of client_setup client_sizes server_setup server_szx limits delays plains =
+config_of addresses client_setup client_sizes server_setup server_szx limits delays plains =
     record {
+      addresses = addresses;
       client_setup = client_setup;
       client_sizes = client_sizes;
       server_setup = server_setup;
@@ -22,6 +26,10 @@ config_of client_setup client_sizes server_setup server_szx limits delays plains
       delays = delays_as delays;
       plains = plains;
     }
+
+-- the same, at other addresses
+abbrev pub with_addresses : Config → (client server : Endpoint) → Config
+with_addresses config client server = record config { addresses = record { client = client; server = server } }
 
 -- the same, with other limits of bodies
 abbrev pub with_limits : Config → (client server : ℕ) → Config

@@ -7,14 +7,14 @@ use Rattle.coap_client.specs.Trace as C
 use Rattle.coap_server.specs.Follows.Holds.{changes}
 use Rattle.coap_server.specs.Led as server
 use Rattle.coap_server.specs.Trace as S
-use Rattle.coap_world.specs.Events.{server_end, Config}
+use Rattle.coap_world.specs.Events.{Config}
 use Rattle.coap_world.specs.Run.Senders.{sender_in, sender_of}
 use Rattle.coap_world.specs.declared.running.ends.ClientEnd.{ClientEnd}
 use Rattle.coap_world.specs.declared.running.ends.ServerEnd.{ServerEnd}
 
 -- the client, and what was sent under each token
 pub record ClientLed {A : Type 0} (config : Config) (t : List C.Call) (e : ClientEnd A) : Type 0 where
-  pub led : client.Led server_end config.client_sizes config.client_setup t e.client
+  pub led : client.Led config.addresses.server config.client_sizes config.client_setup t e.client
   pub senders : (token : List ℕ) → sender_in e.senders token ≡ sender_of config.client_sizes token t
 
 -- a server over a store, by what that holds, and how many changes there were

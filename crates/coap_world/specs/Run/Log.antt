@@ -12,10 +12,11 @@ use Rattle.coap_server.specs.Serving.{is_applied, version_made}
 use Rattle.coap_server.specs.Trace as S
 use Rattle.coap_server.specs.Follows.Holds.{Change, change}
 use Rattle.coap_server.specs.Follows.Serves.{Serving, serving}
-use Rattle.coap_world.specs.Events.{Config, client_end}
+use Rattle.coap_world.specs.Events.{Config}
 use Rattle.coap_world.specs.Record.{Entry, OfClient, OfServer, Given, given_in, Turn, entries_of, client_of}
 use Rattle.coap_world.specs.Record.{server_trace}
 use Rattle.coap_world.specs.Run.Senders.{sender_of}
+use Rattle.coap_world.specs.declared.addresses.Addresses.{Addresses}
 
 -- An event begins, at its moment; what its call answers: the number of a call or an observation, or why it is not
 -- taken; why a cancel is not taken, if it is not; whether an observation is forgotten; the version of a local change,
@@ -71,9 +72,9 @@ applied_as x = record {
   version = version_made x.old x.left;
 }
 
-module _ (sender : List ℕ → Option ℕ) where
+module _ (addresses : Addresses) (sender : List ℕ → Option ℕ) where
   abbrev pub call_for : S.Applied → Option ℕ
-  call_for a = call_if (same_endpoint a.from client_end) (sender a.token)
+  call_for a = call_if (same_endpoint a.from addresses.client) (sender a.token)
 
   abbrev pub applied_lines : Option Serving → List Line
   applied_lines None = []
@@ -96,7 +97,8 @@ refused_line false = []
 module _ (config : Config) where
   abbrev pub lines_by : List Entry → Entry → List Line
   lines_by past (OfClient c) = client_lines c
-  lines_by past (OfServer c) = server_lines (λ token. sender_of config.client_sizes token (client_of past)) config
+  lines_by past (OfServer c) = server_lines config.addresses (λ token. sender_of config.client_sizes token
+      (client_of past)) config
       (server_trace config past) c
 
   -- the lines of a turn
@@ -112,12 +114,12 @@ pub record Log : Type 0 where
   pub given : List Given
   pub lines : List Line
 
-abbrev pub given_of : List Turn → List Given
-given_of turns = reverse (all_of given_in turns)
+abbrev pub given_of : Addresses → List Turn → List Given
+given_of addresses turns = reverse (all_of (given_in addresses) turns)
 
 -- the visible part of these turns
 abbrev pub log_of : Config → List Turn → Log
-log_of config turns = record { given = given_of turns; lines = lines_of config turns }
+log_of config turns = record { given = given_of config.addresses turns; lines = lines_of config turns }
 
 abbrev pub line_put : Line → Log → Log
 line_put line log = record { given = log.given; lines = log.lines ++ line ∷ [] }

@@ -27,4 +27,4 @@ pub record IsFirstWrong (config : Config) (events : List Event) (number : ℕ) :
   pub turns : List Turn
   pub made : RecordOf config (reverse (take number events)) turns
   pub legal : Legal config turns
-  pub wrong : MayHappen turns event → ⊥
+  pub wrong : MayHappen config.addresses turns event → ⊥

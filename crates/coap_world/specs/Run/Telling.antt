@@ -7,6 +7,7 @@ use Rattle.coap_server.specs.Led.{Step}
 use Rattle.coap_server.specs.Trace.{Applied, Call}
 use Rattle.coap_world.specs.declared.running.ends.ServerEnd.{ServerEnd}
 use Rattle.coap_world.specs.Run.Log.{Line, Applies, Changes, call_for}
+use Rattle.coap_world.specs.declared.addresses.Addresses.{Addresses}
 
 abbrev pub change_told : List (List ℕ) → ℕ → Option Held → List Line
 change_told path version held = Changes (record { path = path; version = version; held = held }) ∷ []
@@ -18,9 +19,10 @@ version_after version before = if version == 0 then before else version
 abbrev pub made_told : List (List ℕ) → ℕ → Option Held → List Line
 made_told path version held = if version == 0 then [] else change_told path version held
 
-abbrev pub applied_told : (List ℕ → Option ℕ) → List Applied → (List (List ℕ) → Option Held) → List Line
-applied_told sender [] holds = []
-applied_told sender (a ∷ rest) holds = Applies (call_for sender a) a ∷ made_told a.path a.version (holds a.path)
+abbrev pub applied_told : Addresses → (List ℕ → Option ℕ) → List Applied → (List (List ℕ) → Option Held) → List Line
+applied_told addresses sender [] holds = []
+applied_told addresses sender (a ∷ rest) holds = Applies (call_for addresses sender a) a ∷ made_told a.path a.version
+    (holds a.path)
 
 abbrev pub version_told : List Applied → ℕ → ℕ
 version_told [] before = before

@@ -7,7 +7,6 @@ ghost use Rattle.coap_world.specs.Run.Configs.{gives};
 ghost use Rattle.coap_world.specs.Run.Ends.{ClientLed, ServerLed};
 
 use crate::running::config::WorldConfig;
-use crate::running::drain::SERVER_END;
 use crate::running::ends::{ClientEnd, ServerEnd};
 use crate::running::put_away::put_away;
 use crate::running::senders::Senders;
@@ -22,7 +21,7 @@ pub(crate) fn client_of<A: Allocator + Copy>(config: &WorldConfig<A>) -> ClientE
 {
     let client = Client::with_setup(
         config.alloc,
-        SERVER_END,
+        config.addresses.server,
         config.client_szx,
         config.client_limit,
         config.client_setup,

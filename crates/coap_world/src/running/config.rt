@@ -6,22 +6,27 @@ ghost use Rattle.coap_block.specs.Sizes.{usual_sizes};
 ghost use Rattle.coap_resource.specs.Limits.{usual_limits};
 ghost use Rattle.coap_server.specs.Plain.{is_plain, may_be_plain, plains_with};
 ghost use Rattle.coap_server.specs.declared.server.plain.PlainRefusal.TheVariants as plain_refusals;
-ghost use Rattle.coap_world.specs.Run.Configs.{with_delays, with_limits, with_plains, with_remembered};
+ghost use Rattle.coap_world.specs.Events.{usual_addresses};
+ghost use Rattle.coap_world.specs.Run.Configs.{with_addresses, with_delays, with_limits, with_plains, with_remembered};
 ghost use Rattle.coap_layer.specs.Machine.State.{usual};
 
+use crate::addresses::{Addresses, CLIENT_END, SERVER_END};
+use crate::running::deliver::is_end;
+use crate::running::ranges::show_endpoint;
 use coap_ends::{Delay, DelayRefusal, PlainRefusal, give_delay, give_plain};
 use coap_layer::Setup;
 use coap_resource::MAX_CHANGES_PER_WINDOW;
-use coap_types::{BodyLimit, Path, Remembered, Szx};
+use coap_types::{BodyLimit, Endpoint, Path, Remembered, Szx};
 use std::alloc::{Allocator, Global};
 use std::marker::Model;
 
-/// With what a run begins: the words, the numbers of remembered messages, the block sizes and the limits
+/// With what a run begins: where its ends stand, the words, the numbers of remembered messages, the block sizes and the limits
 /// of bodies of both ends, how many changes a window takes, which paths are answered later, and which are
 /// notified in NONs.
 #[derive(Drop)]
 pub struct WorldConfig<A: Allocator + Copy = Global> {
     pub(crate) alloc: A,
+    pub(crate) addresses: Addresses,
     pub(crate) client_setup: Setup,
     pub(crate) client_szx: Szx,
     pub(crate) client_limit: BodyLimit,
@@ -41,15 +46,15 @@ impl<A: Allocator + Copy> Model for WorldConfig<A> {
 
     ghost use Rattle.coap_world.specs.Run.Configs.{config_of};
 
-    ghost view = { λ c. config_of c.client_setup (record { szx = c.client_szx; limit = c.client_limit }) c.server_setup
+    ghost view = { λ c. config_of c.addresses c.client_setup (record { szx = c.client_szx; limit = c.client_limit }) c.server_setup
         c.server_szx (record { changes = c.changes; body = c.server_limit }) c.delays.items c.plains.items };
 
-    ghost invariant = { λ c. IsConfig (config_of c.client_setup (record { szx = c.client_szx; limit = c.client_limit })
+    ghost invariant = { λ c. IsConfig (config_of c.addresses c.client_setup (record { szx = c.client_szx; limit = c.client_limit })
         c.server_setup c.server_szx (record { changes = c.changes; body = c.server_limit }) c.delays.items c.plains.items) };
 }
 
 impl<A: Allocator + Copy> WorldConfig<A> {
-    /// With no delays and no plain path, and with the limits of `BodyLimit::default()` and as many remembered messages
+    /// At `CLIENT_END` and `SERVER_END`, with no delays and no plain path, and with the limits of `BodyLimit::default()` and as many remembered messages
     /// as `Remembered::default()`; None where a store does not take so many changes in a window.
     pub fn new(
         alloc: A,
@@ -59,9 +64,10 @@ impl<A: Allocator + Copy> WorldConfig<A> {
         server_szx: Szx,
         changes: u32,
     ) -> Option<WorldConfig<A>>
-        // A `new` run has these words, sizes and changes a window, the usual limits and numbers of remembered messages,
+        // A `new` run has the usual addresses, these words, sizes and changes a window, the usual limits and numbers of remembered messages,
         // no delay and no plain path.
         ensures config { IfSome result (λ c. c ≡ record {
+          addresses = usual_addresses;
           client_setup = usual client_word;
           client_sizes = usual_sizes client_szx;
           server_setup = usual server_word;
@@ -78,6 +84,10 @@ impl<A: Allocator + Copy> WorldConfig<A> {
         }
         Some(WorldConfig {
             alloc,
+            addresses: Addresses {
+                client: CLIENT_END,
+                server: SERVER_END,
+            },
             client_setup: Setup::new(client_word),
             client_szx,
             client_limit: BodyLimit::default(),
@@ -88,6 +98,24 @@ impl<A: Allocator + Copy> WorldConfig<A> {
             delays: Vec::new(alloc),
             plains: Vec::new(alloc),
         })
+    }
+
+    /// Has the client and the server stand at these addresses; false, and nothing is changed, where they are one.
+    pub fn at(&mut self, client: Endpoint, server: Endpoint) -> bool
+        // The ends of the run stand at two addresses that are given, and all else is as it was.
+        ensures yes { result ≡ true → self.new ≡ with_addresses self.old client server }
+        // Where one address is given for both, nothing in the run is changed.
+        ensures no { result ≡ false → self.new ≡ self.old }
+        // They stand there exactly where the addresses are two.
+        ensures when { (result ≡ true) ↔ (client ≢ server) }
+    {
+        if is_end(client, server) {
+            return false;
+        }
+        show_endpoint(client);
+        show_endpoint(server);
+        self.addresses = Addresses { client, server };
+        true
     }
 
     /// Has the client and the server begin with these limits of bodies.

@@ -7,7 +7,8 @@ ghost use Rattle.coap_world.specs.Run.Ends.{ClientLed, ServerLed};
 ghost use Rattle.coap_world.specs.Run.Log.{given_of};
 ghost use Rattle.coap_world.specs.Run.Turning.{Turned};
 
-use crate::running::drain::{CLIENT_END, SERVER_END, finish_client, finish_server};
+use crate::addresses::Addresses;
+use crate::running::drain::{finish_client, finish_server};
 use crate::running::ends::{ClientEnd, ServerEnd};
 use crate::running::inputs::{feed_client, feed_server, tell_fed};
 use crate::running::record::{Kind, Record};
@@ -28,6 +29,7 @@ pub(crate) fn is_end(address: Endpoint, end: Endpoint) -> bool
 /// The datagram of this number comes to the end that it is addressed to, if it was given out at
 /// most `MAX_LATENCY_MS` before.
 pub(crate) fn deliver<S: Store<A>, A: Allocator + Copy>(
+    addresses: Addresses,
     client: &mut ClientEnd<A>,
     server: &mut ServerEnd<S, A>,
     log: &mut Record<A>,
@@ -35,11 +37,11 @@ pub(crate) fn deliver<S: Store<A>, A: Allocator + Copy>(
     word: u64,
     number: usize,
 ) -> Result<(), Stop>
-    ensures ok { OnOk result ((past : List Turn) → log.old.given ≡ given_of past
-        → Turned ClientLed (ServerLed S.content) past (record { at = at.0; word = word; what = Deliver number })
+    ensures ok { OnOk result ((past : List Turn) → log.old.given ≡ given_of addresses past
+        → Turned addresses ClientLed (ServerLed S.content) past (record { at = at.0; word = word; what = Deliver number })
         client.old server.old log.old client.new server.new log.new) }
-    ensures wrong { result ≡ Err Stop.NotLegal → (past : List Turn) → log.old.given ≡ given_of past
-        → MayCome past at.0 (Deliver number) → ⊥ }
+    ensures wrong { result ≡ Err Stop.NotLegal → (past : List Turn) → log.old.given ≡ given_of addresses past
+        → MayCome addresses past at.0 (Deliver number) → ⊥ }
 {
     let Some(given) = log.get(number) else {
         return Err(Stop::NotLegal);
@@ -48,17 +50,17 @@ pub(crate) fn deliver<S: Store<A>, A: Allocator + Copy>(
         return Err(Stop::NotLegal);
     }
     let from = given.from();
-    if is_end(given.to(), SERVER_END) {
+    if is_end(given.to(), addresses.server) {
         let refused = feed_server(server, at, word, from, given.bytes());
         log.note(Kind::Begins(at))?;
-        tell_fed(server, &client.senders, refused, log)?;
-        finish_server(server, at, refused, log)?;
+        tell_fed(addresses, server, &client.senders, refused, log)?;
+        finish_server(addresses, server, at, refused, log)?;
         return Ok(());
     }
-    if is_end(given.to(), CLIENT_END) {
+    if is_end(given.to(), addresses.client) {
         let refused = feed_client(client, at, word, from, given.bytes())?;
         log.note(Kind::Begins(at))?;
-        finish_client(client, at, refused, log)?;
+        finish_client(addresses, client, at, refused, log)?;
         return Ok(());
     }
     Err(Stop::NotLegal)

@@ -6,36 +6,27 @@ ghost use Rattle.coap_world.specs.Record.{OfClient, OfServer};
 ghost use Rattle.coap_world.specs.Run.Acts.{TakesAll};
 ghost use Rattle.coap_world.specs.Run.Ends.{ClientLed, ServerLed};
 ghost use Rattle.coap_world.specs.Run.Log.{server_lines};
+ghost use Rattle.coap_world.specs.declared.addresses.Addresses as places;
 ghost use Rattle.coap_world.specs.Run.Turning.{ClientEnds, ServerEnds, of_client};
 
+use crate::addresses::Addresses;
 use crate::running::ends::{ClientEnd, ServerEnd};
 use crate::running::record::Record;
 use coap_resource::Store;
-use coap_types::{Endpoint, Moment};
+use coap_types::Moment;
 use std::alloc::{AllocError, Allocator};
-
-/// The address of the client of a run.
-pub const CLIENT_END: Endpoint = Endpoint {
-    ip: [127, 0, 0, 1],
-    port: 40_001,
-};
-
-/// That of its server.
-pub const SERVER_END: Endpoint = Endpoint {
-    ip: [127, 0, 0, 1],
-    port: 5_683,
-};
 
 // Takes all that the client has out.
 fn client_outs<A: Allocator + Copy>(
+    addresses: Addresses,
     end: &mut ClientEnd<A>,
     at: Moment,
     log: &mut Record<A>,
 ) -> Result<(), AllocError>
-    ensures { OnOk result (TakesAll ClientLed OfClient of_client at.0 asked.NextOut end.old log.old end.new log.new) }
+    ensures { OnOk result (TakesAll addresses ClientLed OfClient of_client at.0 asked.NextOut end.old log.old end.new log.new) }
 {
     'outs: while let Some(datagram) = end.client.next_out() {
-        log.give(at, CLIENT_END, datagram)?;
+        log.give(at, addresses.client, datagram)?;
     }
     Ok(())
 }
@@ -46,8 +37,8 @@ fn client_reports<A: Allocator + Copy>(
     at: Moment,
     log: &mut Record<A>,
 ) -> Result<(), AllocError>
-    ensures { OnOk result (TakesAll ClientLed OfClient of_client at.0 asked.NextReport end.old log.old end.new
-        log.new) }
+    ensures { OnOk result ((addresses : places.Addresses)
+        → TakesAll addresses ClientLed OfClient of_client at.0 asked.NextReport end.old log.old end.new log.new) }
 {
     'reports: while let Some(told) = end.client.next_report() {
         log.report(told)?;
@@ -57,46 +48,49 @@ fn client_reports<A: Allocator + Copy>(
 
 // Takes all that the server has out.
 fn server_outs<S: Store<A>, A: Allocator + Copy>(
+    addresses: Addresses,
     end: &mut ServerEnd<S, A>,
     at: Moment,
     log: &mut Record<A>,
 ) -> Result<(), AllocError>
     ensures { OnOk result ((sender : List ℕ → Option ℕ)
-        → TakesAll (ServerLed S.content) OfServer (server_lines sender) at.0 served.NextOut end.old log.old end.new
+        → TakesAll addresses (ServerLed S.content) OfServer (server_lines addresses sender) at.0 served.NextOut end.old log.old end.new
         log.new) }
 {
     'outs: while let Some(datagram) = end.server.next_out() {
-        log.give(at, SERVER_END, datagram)?;
+        log.give(at, addresses.server, datagram)?;
     }
     Ok(())
 }
 
 /// Ends the turn of the client: takes all that it has out, and its reports.
-#[tactic(auto, using(crate::proofs::Recording::Finishing::client_ends))]
 pub(crate) fn finish_client<A: Allocator + Copy>(
+    addresses: Addresses,
     end: &mut ClientEnd<A>,
     at: Moment,
     refused: bool,
     log: &mut Record<A>,
 ) -> Result<(), AllocError>
-    ensures { OnOk result (ClientEnds ClientLed at.0 refused end.old log.old end.new log.new) }
+    ensures { OnOk result (ClientEnds addresses ClientLed at.0 refused end.old log.old end.new log.new) }
 {
-    client_outs(end, at, log)?;
+    client_outs(addresses, end, at, log)?;
     client_reports(end, at, log)?;
-    log.end(refused)
+    log.end(refused)?;
+    Ok(())
 }
 
 /// Ends the turn of the server.
 pub(crate) fn finish_server<S: Store<A>, A: Allocator + Copy>(
+    addresses: Addresses,
     end: &mut ServerEnd<S, A>,
     at: Moment,
     refused: bool,
     log: &mut Record<A>,
 ) -> Result<(), AllocError>
     ensures { OnOk result ((sender : List ℕ → Option ℕ)
-        → ServerEnds (ServerLed S.content) (server_lines sender) at.0 refused end.old log.old end.new log.new) }
+        → ServerEnds addresses (ServerLed S.content) (server_lines addresses sender) at.0 refused end.old log.old end.new log.new) }
 {
-    server_outs(end, at, log)?;
+    server_outs(addresses, end, at, log)?;
     log.end(refused)?;
     Ok(())
 }

@@ -4,6 +4,7 @@ ghost use Rattle.coap_world.specs.Run.Log.{lines_put};
 ghost use Rattle.coap_world.specs.Run.Senders.{noted, sender_in};
 ghost use Rattle.coap_world.specs.Run.Telling.{applied_told, version_told};
 
+use crate::addresses::Addresses;
 use crate::running::record::Record;
 use crate::running::senders::Senders;
 use coap_ends::{Client, Server};
@@ -44,12 +45,13 @@ impl<S: Store<A>, A: Allocator + Copy> ServerEnd<S, A> {
     /// changed.
     pub(crate) fn tell(
         &mut self,
+        addresses: Addresses,
         senders: &Senders<A>,
         log: &mut Record<A>,
     ) -> Result<(), AllocError>
         ensures same { OnOk result (self.new.server ≡ self.old.server) }
         ensures told { OnOk result (log.new ≡ lines_put
-            (applied_told (sender_in senders.now) self.old.server.applied (S.content self.old.server.store).holds)
+            (applied_told addresses (sender_in senders.now) self.old.server.applied (S.content self.old.server.store).holds)
             log.old) }
         ensures version { OnOk result (self.new.version ≡ version_told self.old.server.applied self.old.version) }
     {
@@ -57,7 +59,10 @@ impl<S: Store<A>, A: Allocator + Copy> ServerEnd<S, A> {
             return Ok(());
         };
         let version = applied.version;
-        log.apply(senders.call_of(applied.from, &applied.token), applied)?;
+        log.apply(
+            senders.call_of(addresses.client, applied.from, &applied.token),
+            applied,
+        )?;
         if version == 0 {
             return Ok(());
         }

@@ -10,8 +10,10 @@ ghost use Rattle.coap_world.specs.Run.Log.{server_lines};
 ghost use Rattle.coap_world.specs.Run.Senders.{sender_in};
 ghost use Rattle.coap_world.specs.Run.Telling.{IsFed};
 ghost use Rattle.coap_world.specs.Run.Turning.{of_client};
+ghost use Rattle.coap_world.specs.declared.addresses.Addresses as places;
 ghost use Rattle.coap_world.specs.declared.running.ends.ServerEnd.{ServerEnd};
 
+use crate::addresses::Addresses;
 use crate::running::ends;
 use crate::running::ends::ClientEnd;
 use crate::running::record::{Kind, Record};
@@ -57,6 +59,7 @@ pub(crate) fn feed_server<S: Store<A>, A: Allocator + Copy>(
 
 /// Tells the request that this datagram applied, if it applied one.
 pub(crate) fn tell_fed<S: Store<A>, A: Allocator + Copy>(
+    addresses: Addresses,
     end: &mut ends::ServerEnd<S, A>,
     senders: &Senders<A>,
     refused: bool,
@@ -64,13 +67,13 @@ pub(crate) fn tell_fed<S: Store<A>, A: Allocator + Copy>(
 ) -> Result<(), AllocError>
     ensures { OnOk result ((before : ServerEnd S A) (at word : ℕ) (from : Endpoint) (bytes : List ℕ)
         → IsFed S.content (FeedsServer at word from bytes) refused before end.old
-        → Taken (ServerLed S.content) OfServer (server_lines (sender_in senders.now)) at
+        → Taken addresses (ServerLed S.content) OfServer (server_lines addresses (sender_in senders.now)) at
         (FeedsServer at word from bytes) refused before log.old end.new log.new) }
 {
     if refused {
         return Ok(());
     }
-    end.tell(senders, log)?;
+    end.tell(addresses, senders, log)?;
     Ok(())
 }
 
@@ -97,7 +100,7 @@ pub(crate) fn call_client<A: Allocator + Copy>(
     at: Moment,
     request: Request<A>,
 ) -> Result<bool, AllocError>
-    ensures { IfOk result (λ refused. Taken ClientLed OfClient of_client at.0
+    ensures { IfOk result (λ refused. (addresses : places.Addresses) → Taken addresses ClientLed OfClient of_client at.0
         (IsCall at.0 (shown_request request)) refused end.old log.old end.new log.new) }
 {
     let answer = end.client.call(at, request);
@@ -115,7 +118,7 @@ pub(crate) fn observe_client<A: Allocator + Copy>(
     at: Moment,
     path: Path<A>,
 ) -> Result<bool, AllocError>
-    ensures { IfOk result (λ refused. Taken ClientLed OfClient of_client at.0
+    ensures { IfOk result (λ refused. (addresses : places.Addresses) → Taken addresses ClientLed OfClient of_client at.0
         (IsObservation at.0 path) refused end.old log.old end.new log.new) }
 {
     let answer = end.client.observe(at, path);
@@ -133,7 +136,7 @@ pub(crate) fn cancel_client<A: Allocator + Copy>(
     at: Moment,
     id: CallId,
 ) -> Result<(), AllocError>
-    ensures { OnOk result (Taken ClientLed OfClient of_client at.0
+    ensures { OnOk result ((addresses : places.Addresses) → Taken addresses ClientLed OfClient of_client at.0
         (IsCancel at.0 id.0) false end.old log.old end.new log.new) }
 {
     let answer = end.client.cancel(at, id);
@@ -148,7 +151,7 @@ pub(crate) fn forget_client<A: Allocator + Copy>(
     at: Moment,
     id: CallId,
 ) -> Result<(), AllocError>
-    ensures { OnOk result (Taken ClientLed OfClient of_client at.0
+    ensures { OnOk result ((addresses : places.Addresses) → Taken addresses ClientLed OfClient of_client at.0
         (IsForgetting id.0) false end.old log.old end.new log.new) }
 {
     let answer = end.client.forget(id);
@@ -165,8 +168,8 @@ pub(crate) fn set_server<S: Store<A>, A: Allocator + Copy>(
     format: Option<u16>,
     body: &[u8],
 ) -> Result<bool, AllocError>
-    ensures { IfOk result (λ refused. (sender : List ℕ → Option ℕ)
-        → Taken (ServerLed S.content) OfServer (server_lines sender) at.0
+    ensures { IfOk result (λ refused. (addresses : places.Addresses) (sender : List ℕ → Option ℕ)
+        → Taken addresses (ServerLed S.content) OfServer (server_lines addresses sender) at.0
         (IsSet at.0 path.now format body.now) refused end.old log.old end.new log.new) }
 {
     let answer = end.server.set(at, path, format, body);
@@ -190,8 +193,8 @@ pub(crate) fn remove_server<S: Store<A>, A: Allocator + Copy>(
     at: Moment,
     path: &Path<A>,
 ) -> Result<(), AllocError>
-    ensures { OnOk result ((sender : List ℕ → Option ℕ)
-        → Taken (ServerLed S.content) OfServer (server_lines sender) at.0
+    ensures { OnOk result ((addresses : places.Addresses) (sender : List ℕ → Option ℕ)
+        → Taken addresses (ServerLed S.content) OfServer (server_lines addresses sender) at.0
         (IsRemoval at.0 path.now) false end.old log.old end.new log.new) }
 {
     let answer = end.server.remove(at, path);

@@ -23,8 +23,8 @@ fn show_64_bits(number: u64)
     ensures { number < 2 ^ 64 }
 {}
 
-// An endpoint is one of IPv4.
-fn show_endpoint(endpoint: Endpoint)
+/// An endpoint is one of IPv4.
+pub(crate) fn show_endpoint(endpoint: Endpoint)
     ensures { IsEndpoint endpoint }
 {
     show_bytes(&endpoint.ip);

@@ -4,12 +4,10 @@ ghost use Rattle.std.specs.Option.{option_map};
 ghost use Rattle.coap_client.specs.declared.client.report.CallId.{CallId};
 ghost use Rattle.coap_exchange.specs.Tokens.{same_token};
 ghost use Rattle.coap_types.specs.SameEndpoint.{same_endpoint};
-ghost use Rattle.coap_world.specs.Events.{client_end};
 ghost use Rattle.coap_world.specs.Run.Log.{call_if};
 ghost use Rattle.coap_world.specs.Run.Senders.{number_if, sender_in};
 
 use crate::running::deliver::is_end;
-use crate::running::drain::CLIENT_END;
 use coap_ends::CallId;
 use coap_types::{Endpoint, Token};
 use std::alloc::{AllocError, Allocator};
@@ -48,11 +46,11 @@ impl<A: Allocator + Copy> Senders<A> {
     }
 
     /// The call of a request that comes from this address, if that is the client's.
-    pub(crate) fn call_of(&self, from: Endpoint, token: &Token) -> Option<CallId>
+    pub(crate) fn call_of(&self, client: Endpoint, from: Endpoint, token: &Token) -> Option<CallId>
         ensures { option_map (λ (id : CallId). id.0) result
-            ≡ call_if (same_endpoint from client_end) (sender_in self.now token.now) }
+            ≡ call_if (same_endpoint from client) (sender_in self.now token.now) }
     {
-        if is_end(from, CLIENT_END) {
+        if is_end(from, client) {
             self.sender(token)
         } else {
             None

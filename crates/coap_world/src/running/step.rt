@@ -7,6 +7,7 @@ ghost use Rattle.coap_world.specs.Run.Happening.{event_of};
 ghost use Rattle.coap_world.specs.LegalEvents.{MayHappen};
 ghost use Rattle.coap_world.specs.Run.Turning.{Stands};
 
+use crate::addresses::Addresses;
 use crate::running::ends::{ClientEnd, ServerEnd};
 use crate::running::event;
 use crate::running::ranges::show_ranges;
@@ -19,6 +20,7 @@ use std::alloc::Allocator;
 
 /// One event of a run, where it is legal.
 pub(crate) fn step<S: Store<A>, A: Allocator + Copy>(
+    addresses: Addresses,
     client: &mut ClientEnd<A>,
     server: &mut ServerEnd<S, A>,
     log: &mut Record<A>,
@@ -26,12 +28,12 @@ pub(crate) fn step<S: Store<A>, A: Allocator + Copy>(
     event: &event::Event<A>,
 ) -> Result<(), Stop>
     ensures ok { OnOk result ((config : Config) (events : List Event) (turns : List Turn)
-        → Stands ClientLed (ServerLed S.content) config events turns client.old server.old log.old last.old.0
+        → config.addresses ≡ addresses → Stands ClientLed (ServerLed S.content) config events turns client.old server.old log.old last.old.0
         → (turn : Turn) × Stands ClientLed (ServerLed S.content) config (event_of event.now ∷ events) (turn ∷ turns)
         client.new server.new log.new last.new.0) }
     ensures wrong { result ≡ Err Stop.NotLegal → (config : Config) (events : List Event) (turns : List Turn)
-        → Stands ClientLed (ServerLed S.content) config events turns client.old server.old log.old last.old.0
-        → MayHappen turns (event_of event.now) → ⊥ }
+        → config.addresses ≡ addresses → Stands ClientLed (ServerLed S.content) config events turns client.old server.old log.old last.old.0
+        → MayHappen addresses turns (event_of event.now) → ⊥ }
 {
     let at = event.at;
     let word = event.word;
@@ -39,7 +41,7 @@ pub(crate) fn step<S: Store<A>, A: Allocator + Copy>(
         return Err(Stop::NotLegal);
     }
     show_ranges(&event.what);
-    turn(client, server, log, at, word, &event.what)?;
+    turn(addresses, client, server, log, at, word, &event.what)?;
     *last = at;
     Ok(())
 }

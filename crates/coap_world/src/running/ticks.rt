@@ -6,6 +6,7 @@ ghost use Rattle.coap_world.specs.Run.Ends.{ClientLed, ServerLed};
 ghost use Rattle.coap_world.specs.Run.Log.{server_lines};
 ghost use Rattle.coap_world.specs.Run.Senders.{sender_in};
 
+use crate::addresses::Addresses;
 use crate::running::ends::{ClientEnd, ServerEnd};
 use crate::running::record::Record;
 use crate::running::senders::Senders;
@@ -37,19 +38,20 @@ pub(crate) fn client_ticks<A: Allocator + Copy>(
 
 /// The ticks of the server, of which each tells the request that it applied.
 pub(crate) fn server_ticks<S: Store<A>, A: Allocator + Copy>(
+    addresses: Addresses,
     end: &mut ServerEnd<S, A>,
     senders: &Senders<A>,
     log: &mut Record<A>,
     at: Moment,
     word: u64,
 ) -> Result<bool, AllocError>
-    ensures { IfOk result (λ refused. Ticked (ServerLed S.content) OfServer (server_lines (sender_in senders.now)) at.0
+    ensures { IfOk result (λ refused. Ticked addresses (ServerLed S.content) OfServer (server_lines addresses (sender_in senders.now)) at.0
         (ServerTick at.0 word) refused end.old log.old end.new log.new) }
 {
     'ticks: loop {
         match end.server.tick(at, word) {
             Ok(did) => {
-                end.tell(senders, log)?;
+                end.tell(addresses, senders, log)?;
                 if !did {
                     return Ok(false);
                 }

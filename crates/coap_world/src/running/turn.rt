@@ -11,9 +11,10 @@ ghost use Rattle.coap_world.specs.Run.Log.{given_of};
 ghost use Rattle.coap_world.specs.Run.Senders.{sender_in};
 ghost use Rattle.coap_world.specs.Run.Turning.{Turned, ClientTurned, ServerTurned};
 
+use crate::addresses::Addresses;
 use crate::running::copies::copied;
 use crate::running::deliver::{deliver, is_end};
-use crate::running::drain::{CLIENT_END, SERVER_END, finish_client, finish_server};
+use crate::running::drain::{finish_client, finish_server};
 use crate::running::ends::{ClientEnd, ServerEnd};
 use crate::running::event::{Side, What};
 use crate::running::inputs::{
@@ -29,11 +30,12 @@ use coap_resource::Store;
 use coap_types::{Endpoint, Moment, Path, Request};
 use std::alloc::{AllocError, Allocator};
 
-// When an event happens, and with which word.
+// When an event happens, with which word, and where the ends stand.
 #[derive(Clone, Copy)]
 struct When {
     at: Moment,
     word: u64,
+    addresses: Addresses,
 }
 
 fn on_call<A: Allocator + Copy>(
@@ -43,13 +45,13 @@ fn on_call<A: Allocator + Copy>(
     request: &Request<A>,
 ) -> Result<(), AllocError>
     ensures { OnOk result ((past : List Turn)
-        → ClientTurned past (record { at = when.at.0; word = when.word; what = Calls (shown_request request.now) })
+        → ClientTurned when.addresses past (record { at = when.at.0; word = when.word; what = Calls (shown_request request.now) })
         client.old log.old client.new log.new) }
 {
     let request = copied(request)?;
     log.note(Kind::Begins(when.at))?;
     let refused = call_client(client, log, when.at, request)?;
-    finish_client(client, when.at, refused, log)?;
+    finish_client(when.addresses, client, when.at, refused, log)?;
     Ok(())
 }
 
@@ -60,13 +62,13 @@ fn on_observe<A: Allocator + Copy>(
     path: &Path<A>,
 ) -> Result<(), AllocError>
     ensures { OnOk result ((past : List Turn)
-        → ClientTurned past (record { at = when.at.0; word = when.word; what = Observes path.now })
+        → ClientTurned when.addresses past (record { at = when.at.0; word = when.word; what = Observes path.now })
         client.old log.old client.new log.new) }
 {
     let path = path.clone()?;
     log.note(Kind::Begins(when.at))?;
     let refused = observe_client(client, log, when.at, path)?;
-    finish_client(client, when.at, refused, log)?;
+    finish_client(when.addresses, client, when.at, refused, log)?;
     Ok(())
 }
 
@@ -77,12 +79,12 @@ fn on_cancel<A: Allocator + Copy>(
     id: CallId,
 ) -> Result<(), AllocError>
     ensures { OnOk result ((past : List Turn)
-        → ClientTurned past (record { at = when.at.0; word = when.word; what = Cancels id.0 })
+        → ClientTurned when.addresses past (record { at = when.at.0; word = when.word; what = Cancels id.0 })
         client.old log.old client.new log.new) }
 {
     log.note(Kind::Begins(when.at))?;
     cancel_client(client, log, when.at, id)?;
-    finish_client(client, when.at, false, log)?;
+    finish_client(when.addresses, client, when.at, false, log)?;
     Ok(())
 }
 
@@ -93,12 +95,12 @@ fn on_forget<A: Allocator + Copy>(
     id: CallId,
 ) -> Result<(), AllocError>
     ensures { OnOk result ((past : List Turn)
-        → ClientTurned past (record { at = when.at.0; word = when.word; what = Forgets id.0 })
+        → ClientTurned when.addresses past (record { at = when.at.0; word = when.word; what = Forgets id.0 })
         client.old log.old client.new log.new) }
 {
     log.note(Kind::Begins(when.at))?;
     forget_client(client, log, when.at, id)?;
-    finish_client(client, when.at, false, log)?;
+    finish_client(when.addresses, client, when.at, false, log)?;
     Ok(())
 }
 
@@ -108,12 +110,12 @@ fn on_client_tick<A: Allocator + Copy>(
     when: When,
 ) -> Result<(), AllocError>
     ensures { OnOk result ((past : List Turn)
-        → ClientTurned past (record { at = when.at.0; word = when.word; what = TickClient })
+        → ClientTurned when.addresses past (record { at = when.at.0; word = when.word; what = TickClient })
         client.old log.old client.new log.new) }
 {
     log.note(Kind::Begins(when.at))?;
     let refused = client_ticks(client, when.at, when.word)?;
-    finish_client(client, when.at, refused, log)?;
+    finish_client(when.addresses, client, when.at, refused, log)?;
     Ok(())
 }
 
@@ -124,13 +126,13 @@ fn on_client_stranger<A: Allocator + Copy>(
     from: Endpoint,
     bytes: &[u8],
 ) -> Result<(), AllocError>
-    ensures { OnOk result ((past : List Turn) → MayCome past when.at.0 (StrangerToClient from bytes.now)
-        → ClientTurned past (record { at = when.at.0; word = when.word; what = StrangerToClient from bytes.now })
+    ensures { OnOk result ((past : List Turn) → MayCome when.addresses past when.at.0 (StrangerToClient from bytes.now)
+        → ClientTurned when.addresses past (record { at = when.at.0; word = when.word; what = StrangerToClient from bytes.now })
         client.old log.old client.new log.new) }
 {
     log.note(Kind::Begins(when.at))?;
     let refused = feed_client(client, when.at, when.word, from, bytes)?;
-    finish_client(client, when.at, refused, log)?;
+    finish_client(when.addresses, client, when.at, refused, log)?;
     Ok(())
 }
 
@@ -143,13 +145,13 @@ fn on_set<S: Store<A>, A: Allocator + Copy>(
     body: &[u8],
 ) -> Result<(), AllocError>
     ensures { OnOk result ((sender : List ℕ → Option ℕ) (past : List Turn)
-        → ServerTurned S.content sender past (record
+        → ServerTurned when.addresses S.content sender past (record
         { at = when.at.0; word = when.word; what = Sets path.now format body.now })
         server.old log.old server.new log.new) }
 {
     log.note(Kind::Begins(when.at))?;
     let refused = set_server(server, log, when.at, path, format, body)?;
-    finish_server(server, when.at, refused, log)?;
+    finish_server(when.addresses, server, when.at, refused, log)?;
     Ok(())
 }
 
@@ -160,12 +162,12 @@ fn on_remove<S: Store<A>, A: Allocator + Copy>(
     path: &Path<A>,
 ) -> Result<(), AllocError>
     ensures { OnOk result ((sender : List ℕ → Option ℕ) (past : List Turn)
-        → ServerTurned S.content sender past (record { at = when.at.0; word = when.word; what = Removes path.now })
+        → ServerTurned when.addresses S.content sender past (record { at = when.at.0; word = when.word; what = Removes path.now })
         server.old log.old server.new log.new) }
 {
     log.note(Kind::Begins(when.at))?;
     remove_server(server, log, when.at, path)?;
-    finish_server(server, when.at, false, log)?;
+    finish_server(when.addresses, server, when.at, false, log)?;
     Ok(())
 }
 
@@ -176,13 +178,13 @@ fn on_server_tick<S: Store<A>, A: Allocator + Copy>(
     when: When,
 ) -> Result<(), AllocError>
     ensures { OnOk result ((past : List Turn)
-        → ServerTurned S.content (sender_in senders.now) past
+        → ServerTurned when.addresses S.content (sender_in senders.now) past
         (record { at = when.at.0; word = when.word; what = TickServer })
         server.old log.old server.new log.new) }
 {
     log.note(Kind::Begins(when.at))?;
-    let refused = server_ticks(server, senders, log, when.at, when.word)?;
-    finish_server(server, when.at, refused, log)?;
+    let refused = server_ticks(when.addresses, server, senders, log, when.at, when.word)?;
+    finish_server(when.addresses, server, when.at, refused, log)?;
     Ok(())
 }
 
@@ -194,20 +196,21 @@ fn on_server_stranger<S: Store<A>, A: Allocator + Copy>(
     from: Endpoint,
     bytes: &[u8],
 ) -> Result<(), AllocError>
-    ensures { OnOk result ((past : List Turn) → MayCome past when.at.0 (StrangerToServer from bytes.now)
-        → ServerTurned S.content (sender_in senders.now) past
+    ensures { OnOk result ((past : List Turn) → MayCome when.addresses past when.at.0 (StrangerToServer from bytes.now)
+        → ServerTurned when.addresses S.content (sender_in senders.now) past
         (record { at = when.at.0; word = when.word; what = StrangerToServer from bytes.now })
         server.old log.old server.new log.new) }
 {
     let refused = feed_server(server, when.at, when.word, from, bytes);
     log.note(Kind::Begins(when.at))?;
-    tell_fed(server, senders, refused, log)?;
-    finish_server(server, when.at, refused, log)?;
+    tell_fed(when.addresses, server, senders, refused, log)?;
+    finish_server(when.addresses, server, when.at, refused, log)?;
     Ok(())
 }
 
 /// What an event makes of the two ends.
 pub(crate) fn turn<S: Store<A>, A: Allocator + Copy>(
+    addresses: Addresses,
     client: &mut ClientEnd<A>,
     server: &mut ServerEnd<S, A>,
     log: &mut Record<A>,
@@ -215,14 +218,18 @@ pub(crate) fn turn<S: Store<A>, A: Allocator + Copy>(
     word: u64,
     what: &What<A>,
 ) -> Result<(), Stop>
-    ensures ok { OnOk result ((past : List Turn) → log.old.given ≡ given_of past
-        → Turned ClientLed (ServerLed S.content) past (record { at = at.0; word = word; what = what_of what.now })
+    ensures ok { OnOk result ((past : List Turn) → log.old.given ≡ given_of addresses past
+        → Turned addresses ClientLed (ServerLed S.content) past (record { at = at.0; word = word; what = what_of what.now })
         client.old server.old log.old client.new server.new log.new) }
     ensures small { (at.0 < 2 ^ 64) × (word < 2 ^ 64) }
-    ensures wrong { result ≡ Err Stop.NotLegal → (past : List Turn) → log.old.given ≡ given_of past
-        → MayCome past at.0 (what_of what.now) → ⊥ }
+    ensures wrong { result ≡ Err Stop.NotLegal → (past : List Turn) → log.old.given ≡ given_of addresses past
+        → MayCome addresses past at.0 (what_of what.now) → ⊥ }
 {
-    let when = When { at, word };
+    let when = When {
+        at,
+        word,
+        addresses,
+    };
     match what {
         What::Call(request) => on_call(client, log, when, request)?,
         What::Observe(path) => on_observe(client, log, when, path)?,
@@ -234,12 +241,12 @@ pub(crate) fn turn<S: Store<A>, A: Allocator + Copy>(
             Side::Client => on_client_tick(client, log, when)?,
             Side::Server => on_server_tick(server, &client.senders, log, when)?,
         },
-        What::Deliver(number) => deliver(client, server, log, at, word, *number)?,
+        What::Deliver(number) => deliver(addresses, client, server, log, at, word, *number)?,
         What::Stranger(side, from, bytes) => {
-            if is_end(*from, CLIENT_END) {
+            if is_end(*from, addresses.client) {
                 return Err(Stop::NotLegal);
             }
-            if is_end(*from, SERVER_END) {
+            if is_end(*from, addresses.server) {
                 return Err(Stop::NotLegal);
             }
             match side {

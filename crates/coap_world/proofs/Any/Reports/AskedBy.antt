@@ -21,7 +21,7 @@ use Rattle.coap_server.specs.Checks.{Verdict, Asks, Uploads}
 use Rattle.coap_server.specs.Trace as S
 use Rattle.coap_server.proofs.Facts.Laws as server_facts
 use Rattle.coap_world.specs.CameFrom.{request_of}
-use Rattle.coap_world.specs.Events.{client_end, Config}
+use Rattle.coap_world.specs.Events.{Config}
 use Rattle.coap_world.specs.Record.{Entry, OfClient, OfServer, client_of, server_trace, settings}
 use Rattle.coap_world.specs.Words.{ServesAt}
 use Rattle.coap_world.proofs.Requests.LastRequests.{Final}
@@ -61,7 +61,7 @@ module _ (config : Config) where
     pub size : x.question.szx ≡ config.server_szx
 
   pub asked_by : (past : List Entry) (c : S.Call) → Lawful config (OfServer c ∷ past) → (x : Serving)
-      → ServesAt config x past (OfServer c) → x.asked.from ≡ client_end → AskedBy x past
+      → ServesAt config x past (OfServer c) → x.asked.from ≡ config.addresses.client → AskedBy x past
   asked_by past c law x here from =
       let t : List S.Call = server_trace config past in
       let w : List Entry = OfServer c ∷ past in
@@ -104,7 +104,7 @@ module _ (config : Config) where
     size = k.size;
   }
 
-  pub registered_by : (o : Observer) (w : List Entry) → Lawful config w → o.to ≡ client_end
+  pub registered_by : (o : Observer) (w : List Entry) → Lawful config w → o.to ≡ config.addresses.client
       → WasMade config.limits config.server_szx (server_trace config w) o → RegisteredBy o w
   registered_by o [] law to h = absurd (none_made config o (settings config) h)
   registered_by o (OfClient c ∷ past) law to h =

@@ -11,7 +11,7 @@ use Rattle.coap_client.specs.Trace.{Body}
 use Rattle.coap_client.specs.Follows.Words.{hears}
 use Rattle.coap_client.proofs.Facts.Laws as client_facts
 use Rattle.coap_server.proofs.Facts.Laws as server_facts
-use Rattle.coap_world.specs.Events.{server_end, Config}
+use Rattle.coap_world.specs.Events.{Config}
 use Rattle.coap_world.specs.Record.{Entry, OfClient, OfServer, client_of, server_trace}
 use Rattle.coap_world.specs.Words.{ReportsAt, last_at}
 use Rattle.coap_world.proofs.Any.Reports.Answered.{all_answered}
@@ -30,7 +30,7 @@ module _ (config : Config) (small : config.server_szx ≤ 6) where
       → (m : Message) → hears c ≡ Some m
       → m.code ≡ content → Sometime (ShownAt config m) past
   heard_shown past c law formats m heard code =
-      shown_in config m code (heard_understood server_end config.client_sizes config.client_setup
+      shown_in config m code (heard_understood config.addresses.server config.client_sizes config.client_setup
       (client_of past) c law.client m heard) small past (lawful_back config past (OfClient c) law) formats
       ((all_answered config (OfClient c ∷ past) law).0 m heard)
 
@@ -116,7 +116,7 @@ module _ (config : Config) (small : config.server_szx ≤ 6) where
       go (OfClient c ∷ past) law formats = (
         λ made. (
             let before = lawful_back config past (OfClient c) law in
-            let f = (client_facts.bodies server_end config.client_sizes config.client_setup
+            let f = (client_facts.bodies config.addresses.server config.client_sizes config.client_setup
             (c ∷ client_of past) law.client).0 number tag format body made in
             each_within config (ShownAt config f.message) (HeldSince config number tag format body) past
             (held_here number tag format body past before c f (each_took number past before formats f.parts f.took)) past

@@ -13,7 +13,7 @@ use Rattle.coap_client.specs.Trace.{Request}
 use Rattle.coap_client.specs.Follows.Words.{Sending}
 use Rattle.coap_server.specs.Follows.Tags.{WasHeld}
 use Rattle.coap_client.proofs.Facts.Laws as client_facts
-use Rattle.coap_world.specs.Events.{server_end, Config}
+use Rattle.coap_world.specs.Events.{Config}
 use Rattle.coap_world.specs.Record.{Entry, OfClient, OfServer, client_of, server_trace}
 use Rattle.coap_world.specs.Words.{WasCalled}
 use Rattle.coap_world.proofs.Requests.LastRequests.{of_call_at}
@@ -107,7 +107,7 @@ module _ (config : Config) where
       → call_of y.operation ≡ Some number
       → x.token ≡ y.token → call_of x.operation ≡ Some number
   one_of_call all law x y number sent there of token =
-      by (client_facts.tokens server_end config.client_sizes config.client_setup
+      by (client_facts.tokens config.addresses.server config.client_sizes config.client_setup
       (client_of all) law.client x y sent there token)
     where
       by : (x ≡ y) ⊎ (Deregisters x y ⊎ Deregisters y x) → call_of x.operation ≡ Some number

@@ -13,7 +13,7 @@ use Rattle.coap_client.specs.Trace.{Request}
 use Rattle.coap_client.specs.Follows.Beyond.{HearsBeyond, all_passes}
 use Rattle.coap_client.proofs.Facts.EachCall.{within_or_beyond, are_bounded}
 use Rattle.coap_world.specs.Bounds.{most_exchanges, AreBounded}
-use Rattle.coap_world.specs.Events.{server_end, Config}
+use Rattle.coap_world.specs.Events.{Config}
 use Rattle.coap_world.specs.Record.{Entry, OfClient, OfServer, client_of, server_trace}
 use Rattle.coap_world.proofs.Any.Requests.OfACall.{Lawful, lawful_back}
 use Rattle.coap_world.proofs.Any.Reports.BodiesHeld.{heard_shown}
@@ -102,8 +102,8 @@ module _ (config : Config) (small : config.server_szx ≤ 6) (some : 1 ≤ confi
   bounded all law formats x was =
       let t : List C.Call = client_of all in
       let n = requests config.client_sizes x.number t in
-      let few = are_bounded server_end config.client_sizes config.client_setup t law.client x was in
-      elim (within_or_beyond server_end config.client_sizes config.client_setup t law.client x.number) [
+      let few = are_bounded config.addresses.server config.client_sizes config.client_setup t law.client x was in
+      elim (within_or_beyond config.addresses.server config.client_sizes config.client_setup t law.client x.number) [
         | inl passes ↦ by_method x.request x.request.method n few (λ k. within x.request n passes)
         | inr more ↦ by_method x.request x.request.method n few
             (beyond x.request n (more_beyond x.number all law formats more))

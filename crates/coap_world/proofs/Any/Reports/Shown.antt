@@ -110,7 +110,8 @@ module _ (config : Config) where
         (last, subst IsSmall last (formats_held config (OfServer c ∷ past) law.server.rows formats path))
 
     by_reply : (x : Serving) → serving own c ≡ Some x
-        → IsResponse m x.asked.from x.asked.token (response_with x.reply x.sequence (last_block x.question))
+        → IsResponse config.addresses m x.asked.from x.asked.token
+        (response_with x.reply x.sequence (last_block x.question))
         → ShownAt m past (OfServer c)
     by_reply x here r =
         let right = (server_facts.right config.limits config.server_szx config.server_setup (c ∷ t) law.server).0.serves x
@@ -148,7 +149,7 @@ module _ (config : Config) where
 
     by_notice : (o : Observer) (reply : Reply) (held : Held) → own.store.holds o.path ≡ Some held
         → notice_in c ≡ Some (o, reply) → WasMade config.limits config.server_szx t o
-        → IsResponse m o.to o.token (notification own.store o reply)
+        → IsResponse config.addresses m o.to o.token (notification own.store o reply)
         → notification own.store o reply ≡ response_with (content_reply held false 0 o.szx)
         (sequence_if true (Some held)) None
         → AnswersAt config m past (OfServer c) → ShownAt m past (OfServer c)
@@ -179,7 +180,8 @@ module _ (config : Config) where
     by_held : (o : Observer) (reply : Reply) (h : Option Held) → own.store.holds o.path ≡ h
         → notice_in c ≡ Some (o, reply) → WasMade config.limits config.server_szx t o
         → NoticeOf o.szx h (notification own.store o reply)
-        → IsResponse m o.to o.token (notification own.store o reply) → AnswersAt config m past (OfServer c)
+        → IsResponse config.addresses m o.to o.token (notification own.store o reply)
+        → AnswersAt config m past (OfServer c)
         → ShownAt m past (OfServer c)
     by_held o reply None is here made notice r answers =
         absurd (no_code codes.NOT_FOUND.0 (r.code ∙ ap (λ (z : E.Response). z.code) notice) refl)

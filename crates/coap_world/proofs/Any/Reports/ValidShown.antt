@@ -61,7 +61,8 @@ module _ (config : Config) where
     own = own_of config.limits config.server_szx t
 
     by_reply : (x : Serving) → serving own c ≡ Some x
-        → IsResponse m x.asked.from x.asked.token (response_with x.reply x.sequence (last_block x.question))
+        → IsResponse config.addresses m x.asked.from x.asked.token
+        (response_with x.reply x.sequence (last_block x.question))
         → NamedAt m past (OfServer c)
     by_reply x here r =
         let right = (server_facts.right config.limits config.server_szx config.server_setup (c ∷ t) law.server).0.serves x
@@ -97,7 +98,7 @@ module _ (config : Config) where
     refused_not n h = apart n valid (λ is. omega (arith, h, is))
 
     told_not : (o : Observer) (reply : Reply) (h : Option Held) → NoticeOf o.szx h (notification own.store o reply)
-        → IsResponse m o.to o.token (notification own.store o reply) → ⊥
+        → IsResponse config.addresses m o.to o.token (notification own.store o reply) → ⊥
     told_not o reply None notice r = no_code codes.NOT_FOUND.0 (r.code ∙ ap (λ (z : E.Response). z.code) notice) refl
     told_not o reply (Some held) notice r = no_code content (r.code ∙ ap (λ (z : E.Response). z.code) notice) refl
 

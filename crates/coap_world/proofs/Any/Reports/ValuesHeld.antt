@@ -18,7 +18,7 @@ use Rattle.coap_client.specs.Follows.Values.{TookRest, IsAlone, IsFetchedFor, Is
 use Rattle.coap_client.specs.Follows.Words.{Sending}
 use Rattle.coap_client.proofs.Facts.EachCall.{values_are_whole}
 use Rattle.coap_server.proofs.Facts.Laws as server_facts
-use Rattle.coap_world.specs.Events.{server_end, Config}
+use Rattle.coap_world.specs.Events.{Config}
 use Rattle.coap_world.specs.Record.{Entry, OfClient, OfServer, client_of, server_trace}
 use Rattle.coap_world.specs.Words.{ReportsAt, last_at}
 use Rattle.coap_world.proofs.Any.Requests.OfACall.{Lawful, lawful_back}
@@ -202,7 +202,8 @@ module _ (config : Config) (small : config.server_szx ≤ 6) where
       )
       go (OfClient c ∷ past) law formats = (
         λ made. value_held number sequence tag format body past c law formats
-            ((values_are_whole config.client_sizes server_end config.client_setup (c ∷ client_of past) law.client).0 number
+            ((values_are_whole config.client_sizes config.addresses.server config.client_setup (c ∷ client_of past)
+            law.client).0 number
             sequence tag format body made),
         go past (lawful_back config past (OfClient c) law) formats,
       )

@@ -13,7 +13,7 @@ use Rattle.coap_client.specs.Follows.Notified.{notes, is_newly_of, newest_if, ne
 use Rattle.coap_client.specs.Responses.{content, said, is_notification}
 use Rattle.coap_client.specs.Trace as C
 use Rattle.coap_client.proofs.Facts.EachCall.{are_taken}
-use Rattle.coap_world.specs.Events.{server_end, Config}
+use Rattle.coap_world.specs.Events.{Config}
 use Rattle.coap_world.specs.Record.{Entry, OfClient, OfServer, client_of}
 use Rattle.coap_world.proofs.Any.Requests.OfACall.{Lawful, lawful_back}
 use Rattle.coap_world.proofs.Any.Reports.BodiesHeld.{heard_shown}
@@ -53,7 +53,7 @@ module _ (config : Config) (small : config.server_szx ≤ 6) where
   noted_shown : (past : List Entry) (c : C.Call) → Lawful config (OfClient c ∷ past) → FormatsIn past → (m : Message)
       → notes c ≡ Some m → m.code ≡ content → Sometime (ShownAt config m) past
   noted_shown past c law formats m noted code =
-      shown_in config m code (noted_understood server_end config.client_sizes config.client_setup
+      shown_in config m code (noted_understood config.addresses.server config.client_sizes config.client_setup
       (client_of past) c law.client m noted) small past (lawful_back config past (OfClient c) law) formats
       (noticed config past c law m noted)
 
@@ -61,7 +61,8 @@ module _ (config : Config) (small : config.server_szx ≤ 6) where
       → FormatsIn past → notifies (own_of config.client_sizes (client_of past)) c ≡ Some n → n.number ≡ number
       → TakesFirst number n past c
   taken_shown number n past c law formats is of =
-      let k = (are_taken server_end config.client_sizes config.client_setup (client_of (OfClient c ∷ past)) law.client).0 n
+      let k = (are_taken config.addresses.server config.client_sizes config.client_setup (client_of (OfClient c ∷ past))
+      law.client).0 n
       is in
       let code = notification_code n.message k.notification in
       record {

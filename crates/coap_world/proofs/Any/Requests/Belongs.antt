@@ -20,7 +20,7 @@ use Rattle.coap_client.proofs.Facts.Laws as client_facts
 use Rattle.coap_server.proofs.Facts.Laws as server_facts
 use Rattle.coap_world.specs.Applied.{EachBelongs}
 use Rattle.coap_world.specs.CameFrom.{request_of}
-use Rattle.coap_world.specs.Events.{client_end, Config}
+use Rattle.coap_world.specs.Events.{Config}
 use Rattle.coap_world.specs.Record.{Entry, OfClient, OfServer, client_of, server_trace}
 use Rattle.coap_world.specs.Words.{ServesAt, SentFor}
 use Rattle.coap_world.proofs.Requests.LastRequests.{method_is}
@@ -66,7 +66,7 @@ module _ (config : Config) (all : List Entry) where
 
   belongs_in : (t : List Entry) → Later t → Lawful config t
       → Always (λ past e. (x : Serving) → ServesAt config x past e → is_applied x.reply.code ≡ true
-      → x.asked.from ≡ client_end → (number : ℕ) × SentFor config number x.asked.token all) t
+      → x.asked.from ≡ config.addresses.client → (number : ℕ) × SentFor config number x.asked.token all) t
   belongs_in [] later law = tt
   belongs_in (OfClient c ∷ past) later law = (
     λ x here applied from. absurd here,

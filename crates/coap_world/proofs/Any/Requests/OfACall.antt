@@ -32,7 +32,7 @@ use Rattle.coap_server.specs.Trace as S
 use Rattle.coap_client.proofs.Facts.Laws as client_facts
 use Rattle.coap_server.proofs.Facts.Laws as server_facts
 use Rattle.coap_world.specs.CameFrom.{request_of, CamesFrom}
-use Rattle.coap_world.specs.Events.{client_end, server_end, Config}
+use Rattle.coap_world.specs.Events.{Config}
 use Rattle.coap_world.specs.Hops.{hops_at, hops_in}
 use Rattle.coap_world.specs.Legal.{IsRequest}
 use Rattle.coap_world.specs.Record.{Entry, OfClient, OfServer, client_of, server_trace}
@@ -89,15 +89,17 @@ taken_later x past (OfServer c) h = h
 
 -- the laws of a record, at any time
 pub record Lawful (config : Config) (t : List Entry) : Type 0 where
-  pub fair : FairLaw config.client_setup config.server_setup client_end server_end (hops_in config t)
-  pub client : ClientLaw server_end config.client_sizes config.client_setup (client_of t)
+  pub fair : FairLaw config.client_setup config.server_setup config.addresses.client config.addresses.server
+      (hops_in config t)
+  pub client : ClientLaw config.addresses.server config.client_sizes config.client_setup (client_of t)
   pub server : ServerLaw config.limits config.server_szx config.server_setup (server_trace config t)
   pub came : CamesFrom config t
 
 pub client_back : (config : Config) (past : List Entry) (e : Entry) → Lawful config (e ∷ past)
-    → ClientLaw server_end config.client_sizes config.client_setup (client_of past)
+    → ClientLaw config.addresses.server config.client_sizes config.client_setup (client_of past)
 client_back config past (OfClient c) law =
-    client_facts.back server_end config.client_sizes config.client_setup (c ∷ []) (client_of past) law.client
+    client_facts.back config.addresses.server config.client_sizes config.client_setup (c ∷ []) (client_of past)
+    law.client
 client_back config past (OfServer c) law = law.client
 
 pub server_back : (config : Config) (past : List Entry) (e : Entry) → Lawful config (e ∷ past)
@@ -109,7 +111,7 @@ server_back config past (OfServer c) law = server_facts.back config.limits confi
 pub lawful_back : (config : Config) (past : List Entry) (e : Entry) → Lawful config (e ∷ past) → Lawful config past
 lawful_back config past e law =
     record {
-      fair = fair_back config.client_setup config.server_setup client_end server_end
+      fair = fair_back config.client_setup config.server_setup config.addresses.client config.addresses.server
           (hops_at config past e) (hops_in config past) law.fair;
       client = client_back config past e law;
       server = server_back config past e law;
@@ -143,7 +145,7 @@ module _ (config : Config) (number : ℕ) (all : List Entry) (small : config.cli
     pub sent : Sent sending all
     pub begun_there : Begun con all
     pub spells : Spells con.bytes (request_of con.id sending)
-    pub asked : x.asked ≡ asked_of client_end (request_of con.id sending)
+    pub asked : x.asked ≡ asked_of config.addresses.client (request_of con.id sending)
     pub of_call : call_of sending.operation ≡ Some number
     pub last : is_last sending.operation ≡ true
     pub request : C.Request
@@ -161,7 +163,8 @@ module _ (config : Config) (number : ℕ) (all : List Entry) (small : config.cli
   -- a token of the call is of that request alone
   pub one_sending : (x y : Sending) → Sent x all → Sent y all → call_of y.operation ≡ Some number → x.token ≡ y.token
       → x ≡ y
-  one_sending x y sent there of token = by (client_facts.tokens server_end config.client_sizes config.client_setup
+  one_sending x y sent there of token = by (client_facts.tokens config.addresses.server config.client_sizes
+      config.client_setup
       (client_of all) whole.client x y sent there token)
     where
       by : (x ≡ y) ⊎ (Deregisters x y ⊎ Deregisters y x) → x ≡ y

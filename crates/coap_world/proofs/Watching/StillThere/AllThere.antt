@@ -30,11 +30,11 @@ use Rattle.coap_server.proofs.Facts.EachCall.{are_under}
 use Rattle.coap_server.proofs.Facts.Laws as server_facts
 use Rattle.coap_world.specs.Current as current
 use Rattle.coap_world.specs.Current.{Watches, Alone}
-use Rattle.coap_world.specs.Events.{client_end, server_end, Config}
+use Rattle.coap_world.specs.Events.{Config}
 use Rattle.coap_world.specs.Legal.{IsConfig}
 use Rattle.coap_world.specs.Hops.{hops_of}
 use Rattle.coap_world.proofs.Delivery.HopsAreAChannel as joined
-use Rattle.coap_world.proofs.Smoothly.Standing.{record_of}
+use Rattle.coap_world.proofs.Smoothly.Standing.{record_of, legal_of}
 use Rattle.coap_world.specs.Record.{Entry, OfClient, OfServer, Turn, entries_of, client_of, server_trace}
 use Rattle.coap_world.specs.Smooth.{max_age}
 use Rattle.coap_world.proofs.Observations.Heard.{TellsCon, TellsAck}
@@ -108,14 +108,16 @@ module _ (laws : ThereLaws) (config : Config) (range : IsConfig config) (x : Obs
     trace = server_trace config all
 
     abbrev pair : Pair
-    pair = record { to = client_end; token = token }
+    pair = record { to = config.addresses.client; token = token }
 
     registered : WasRegistered config.client_sizes x.number token (client_of all)
-    registered = newest_registered server_end config.client_sizes config.client_setup x.number n (client_of all) o.law.client
+    registered = newest_registered config.addresses.server config.client_sizes config.client_setup x.number n
+        (client_of all) o.law.client
         newest_is
 
-    channels : ChannelLaw config.client_setup config.server_setup client_end server_end (hops_of config past)
-    channels = joined.channel config _ past (record_of config past o.goes.stands) o.goes.stands.legal
+    channels : ChannelLaw config.client_setup config.server_setup config.addresses.client config.addresses.server
+        (hops_of config past)
+    channels = joined.channel config _ past (record_of config past o.goes.stands) (legal_of config past o.goes.stands)
 
     taken : TakenTold config (turned o.law.clocks) n all
     taken = taken_told config range.server_szx all o.law o.formats n
@@ -129,7 +131,7 @@ module _ (laws : ThereLaws) (config : Config) (range : IsConfig config) (x : Obs
         as_taken p (OfServer c) k = k
 
     tells_of : (way : Way) (p : List S.Call) (c : S.Call)
-        → TellsIn config.limits config.server_szx way client_end n.message p c
+        → TellsIn config.limits config.server_szx way config.addresses.client n.message p c
         → TellsOf config.limits config.server_szx pair p c
     tells_of way p c k = record { told = k.told; here = k.here; to_is = k.conveys.to_is; token_is = k.conveys.token_is }
 
@@ -155,7 +157,8 @@ module _ (laws : ThereLaws) (config : Config) (range : IsConfig config) (x : Obs
         (are_under config.limits config.server_szx config.server_setup trace o.law.server) told)
 
     -- what was sent earlier came, and ended the observation
-    not_earlier : (e : WasEnded token all) → server_moment config e.older e.call + max_age < turn.event.at → ⊥
+    not_earlier : (e : WasEnded config.addresses token all) → server_moment config e.older e.call + max_age <
+        turn.event.at → ⊥
     not_earlier e late =
         never_taken laws.heard laws.own config x all o.law o.alone watches token registered k.newest
         (k.between ++ OfServer e.call ∷ e.older) k.call split m other e.token_is n newest_is

@@ -1,5 +1,5 @@
 -- The last NON of the observation, as the message layer sent it (RFC 7252, section 4.3).
-use Rattle.std.proofs.Common.{◌≡◌, ◌≤◌, ◌+◌, ◌&&◌, nat_eq, inl, inr, ℕ, Bool, true, false, List, [], ◌∷◌, ◌++◌, refl}
+use Rattle.std.proofs.Common.{◌≡◌, ◌≤◌, ◌&&◌, nat_eq, inl, inr, ℕ, Bool, true, false, List, [], ◌∷◌, ◌++◌, refl}
 use Rattle.std.proofs.Common.{ap, sym, subst, ◌∙◌, arith}
 use Rattle.std.specs.Cmp.Lexicographic.{bytes_decides, pointwise}
 use Rattle.coap_types.specs.Recognised.{lacks_critical}
@@ -29,7 +29,6 @@ use Rattle.coap_server.proofs.Facts.Laws as server_facts
 use Rattle.coap_world.specs.Events.{Config}
 use Rattle.coap_world.specs.Hops.{server_adds}
 use Rattle.coap_world.specs.Legal.{IsConfig}
-use Rattle.coap_world.specs.Record.{Entry}
 use Rattle.coap_world.proofs.Delivery.HopsAreEntries.{server_layer, server_next}
 use Rattle.coap_world.proofs.Observations.ToldThen.{told_in_non}
 use Rattle.coap_world.proofs.Watching.StillThere.NonReset.{IsPlain}

@@ -17,7 +17,7 @@ use Rattle.coap_exchange.specs.AnswererSteps.{ended_as, failed_by, found}
 use Rattle.coap_server.specs.Follows.Observes.{ends_in}
 use Rattle.coap_server.specs.Law.{ServerLaw, own_of}
 use Rattle.coap_server.specs.Trace as S
-use Rattle.coap_world.specs.Events.{client_end, Config}
+use Rattle.coap_world.specs.Events.{Config}
 use Rattle.coap_world.specs.Record.{Entry, server_trace}
 use Rattle.coap_world.proofs.Delivery.EntriesInTime.{Every, Timely}
 use Rattle.coap_world.proofs.Delivery.HopsAreEntries.{server_layer}
@@ -120,11 +120,11 @@ module _ (config : Config) (past : List Entry) where
       (S.Ticks now w (L.Expired to id) room d passed h number answer ∷ t)
       → IsTimely config past (S.Ticks now w (L.Expired to id) room d passed h number answer)
       → ends_in (own_of config.limits config.server_szx t) (S.Ticks now w (L.Expired to id) room d passed h number answer)
-      ≡ Some x → x.to ≡ client_end → ⊥
+      ≡ Some x → x.to ≡ config.addresses.client → ⊥
   expires_not now w to id room d passed h number answer x law timely is there =
       let k = failure_begins config t now w to id room d passed h number answer law in
       let o = failed config.server_setup (server_layer config t) k.entry to id k.law k.call_is k.answer_is in
-      let place : to ≡ client_end =
+      let place : to ≡ config.addresses.client =
       sym (gone_to to id (own_of config.limits config.server_szx t).exchanges.separate x is) ∙ there in
       let young = timely.young o.con (o.there ∙ place) o.is_open in
       let old = o.old in
@@ -137,7 +137,7 @@ module _ (config : Config) (past : List Entry) where
       (S.Ticks now w below room d passed h number answer ∷ t)
       → IsTimely config past (S.Ticks now w below room d passed h number answer)
       → ends_in (own_of config.limits config.server_szx t) (S.Ticks now w below room d passed h number answer) ≡ Some x
-      → x.to ≡ client_end → ⊥
+      → x.to ≡ config.addresses.client → ⊥
   never_fails now w below room d passed h number answer x law timely is there =
       let k = expired_is below (own_of config.limits config.server_szx t).exchanges.separate x is in
       by k.0 k.1 k.2

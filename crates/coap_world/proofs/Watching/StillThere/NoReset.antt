@@ -25,7 +25,7 @@ use Rattle.coap_server.specs.Follows.Observes.{ends_in, rejects_in}
 use Rattle.coap_server.specs.Follows.Ways.{LastNon, clock_at}
 use Rattle.coap_server.specs.Law.{own_of}
 use Rattle.coap_server.specs.Trace as S
-use Rattle.coap_world.specs.Events.{client_end, server_end, Config}
+use Rattle.coap_world.specs.Events.{Config}
 use Rattle.coap_world.specs.Hops.{across, hops_in, server_adds}
 use Rattle.coap_world.specs.Legal.{IsConfig}
 use Rattle.coap_world.specs.Record.{Entry, OfServer, client_of, server_trace}
@@ -61,7 +61,8 @@ unmatched_is from _ s h = absurd (cc h)
 
 module _ (laws : ResetLaws) (config : Config) (range : IsConfig config) (x : Observed) (all : List Entry)
     (law : Lawful config all)
-    (channels : ChannelLaw config.client_setup config.server_setup client_end server_end (hops_in config all))
+    (channels : ChannelLaw config.client_setup config.server_setup config.addresses.client config.addresses.server
+    (hops_in config all))
     (served : AreServedFor config x all) (of_it : NoticesAreOfIt config x all)
     (is_heard : IsHeard config x all) (token : List ℕ)
     (registered : WasRegistered config.client_sizes x.number token (client_of all)) where
@@ -94,7 +95,8 @@ module _ (laws : ResetLaws) (config : Config) (range : IsConfig config) (x : Obs
     far_there = far_across (hops_in config past) ∙ near_is config past
 
     client_law : LayerLaw config.client_setup (client_layer config (client_of past))
-    client_law = client_facts.layer server_end config.client_sizes config.client_setup (client_of past) law_past.client
+    client_law = client_facts.layer config.addresses.server config.client_sizes config.client_setup (client_of past)
+        law_past.client
 
     hops : (newer : List L.Entry) (e : L.Entry) → server_adds config t c ≡ newer ++ e ∷ []
         → across (hops_in config (OfServer c ∷ past)) ≡ map Near newer ++ (Near e ∷ whole)
@@ -104,13 +106,13 @@ module _ (laws : ResetLaws) (config : Config) (range : IsConfig config) (x : Obs
         ∙ (ap (λ l. l ++ whole) (map-append Near newer (e ∷ []))
         ∙ append_assoc (map Near newer) (Near e ∷ []) whole))
 
-    channel : ChannelLaw config.server_setup config.client_setup server_end client_end
+    channel : ChannelLaw config.server_setup config.client_setup config.addresses.server config.addresses.client
         (across (hops_in config (OfServer c ∷ past)))
-    channel = channel_across config.client_setup config.server_setup client_end server_end
+    channel = channel_across config.client_setup config.server_setup config.addresses.client config.addresses.server
         (hops_in config (OfServer c ∷ past))
-        (channel_back config.client_setup config.server_setup client_end server_end
+        (channel_back config.client_setup config.server_setup config.addresses.client config.addresses.server
         (front config later (OfServer c ∷ past)) (hops_in config (OfServer c ∷ past))
-        (subst (ChannelLaw config.client_setup config.server_setup client_end server_end)
+        (subst (ChannelLaw config.client_setup config.server_setup config.addresses.client config.addresses.server)
         (ap (hops_in config) is ∙ front_is config later (OfServer c ∷ past)) channels))
 
   -- a Reset of a CON
@@ -118,7 +120,7 @@ module _ (laws : ResetLaws) (config : Config) (range : IsConfig config) (x : Obs
       (h : S.Handling) (below : L.Answer)
       (is : all ≡ later ++ OfServer (S.Feeds now from bytes w (L.Becomes (L.Reset id)) came h below) ∷ past)
       (timely : IsTimely config past (S.Feeds now from bytes w (L.Becomes (L.Reset id)) came h below))
-      → from ≡ client_end → (y : Ended) → y.token ≡ token
+      → from ≡ config.addresses.client → (y : Ended) → y.token ≡ token
       → ((con : Open) → IsOpen (server_layer config (server_trace config past)) con → con.to ≡ from
       → Carries config.server_setup y (record { to = from; id = id }) con) → ⊥
   con_reset later past now from bytes w id came h below is timely place y same carries =
@@ -126,12 +128,13 @@ module _ (laws : ResetLaws) (config : Config) (range : IsConfig config) (x : Obs
       (is_past later past now from bytes w id up came h below is timely) k.message reset.message
       (record { kind = inl k.kind; class = k.class; same = k.token ∙ same; understood = k.understood })
       o.con.id bytes reset.spells reset.kind
-      (replied_at config server_end o.con.id bytes (IsMessage k.message) past
+      (replied_at config config.addresses.server o.con.id bytes (IsMessage config.addresses k.message) past
       (law_past later past now from bytes w id up came h below is timely).client
-      (gives_of config.client_setup o.con k.message k.spells k.kind k.class bytes
+      (gives_of config.addresses config.client_setup o.con k.message k.spells k.kind k.class bytes
       (client_layer config (client_of past)) (client_law later past now from bytes w id up came h below is timely)
-      (subst (Sometime (RepliesTo server_end o.con bytes)) (far_there later past now from bytes w id up came h below is timely)
-      (far_sometime (RepliesTo server_end o.con bytes) (across (hops_in config past)) given))))
+      (subst (Sometime (RepliesTo config.addresses.server o.con bytes))
+      (far_there later past now from bytes w id up came h below is timely)
+      (far_sometime (RepliesTo config.addresses.server o.con bytes) (across (hops_in config past)) given))))
     where
       up : L.Answer
       up = L.Becomes (L.Reset id)
@@ -157,7 +160,7 @@ module _ (laws : ResetLaws) (config : Config) (range : IsConfig config) (x : Obs
       k : Carries config.server_setup y (record { to = from; id = id }) (as_begun o.con)
       k = carries (as_begun o.con) (is_open (server_layer config t) o.con o.is_in) o.to_is
 
-      to_client : o.con.to ≡ client_end
+      to_client : o.con.to ≡ config.addresses.client
       to_client = o.to_is ∙ place
 
       hears : HearsReset o.con (near_of (across (hops_in config past))) b.entry
@@ -173,13 +176,15 @@ module _ (laws : ResetLaws) (config : Config) (range : IsConfig config) (x : Obs
             young = omega (arith, young, till);
           }
 
-      given : Sometime (OnFarThen (RepliesTo server_end o.con bytes)) (across (hops_in config past))
+      given : Sometime (OnFarThen (RepliesTo config.addresses.server o.con bytes)) (across (hops_in config past))
       given =
-          let all_meant = laws.meant config.server_setup config.client_setup server_end client_end
+          let all_meant = laws.meant config.server_setup config.client_setup config.addresses.server
+          config.addresses.client
           (across (hops_in config (OfServer call ∷ past))) (channel later past now from bytes w id up came h below is timely) in
           let hop_list = hops later past now from bytes w id up came h below is timely b.newer b.entry b.adds in
           (Always_back _ (map Near b.newer) (Near b.entry ∷ across (hops_in config past))
-          (subst (λ l. ResetsMeant server_end client_end l) hop_list all_meant)).0 b.entry o.con refl to_client
+          (subst (λ l. ResetsMeant config.addresses.server config.addresses.client l) hop_list all_meant)).0 b.entry
+          o.con refl to_client
           (record { message = k.message; spells = k.spells; class = inr k.class }) hears
 
   -- what is told to have ended by a Reset
@@ -187,7 +192,7 @@ module _ (laws : ResetLaws) (config : Config) (range : IsConfig config) (x : Obs
       (h : S.Handling) (below : L.Answer) → all ≡ later ++ OfServer (S.Feeds now from bytes w up came h below) ∷ past
       → IsTimely config past (S.Feeds now from bytes w up came h below) → (y : Ended)
       → ends_in (own_of config.limits config.server_szx (server_trace config past)) (S.Feeds now from bytes w up came h below)
-      ≡ Some y → y.to ≡ client_end → y.token ≡ token → ⊥
+      ≡ Some y → y.to ≡ config.addresses.client → y.token ≡ token → ⊥
   not_told later past now from bytes w up came h below is timely y ends place same =
       let calls : List S.Call = server_trace config past in
       let c : S.Call = S.Feeds now from bytes w up came h below in
@@ -197,7 +202,7 @@ module _ (laws : ResetLaws) (config : Config) (range : IsConfig config) (x : Obs
       (recognised config range calls old.server) now from bytes w up came h below here.server y ends in
       by told.id told.up_is (sym told.to_is ∙ place) told.carries
     where
-      by : (id : ℕ) → up ≡ L.Becomes (L.Reset id) → from ≡ client_end
+      by : (id : ℕ) → up ≡ L.Becomes (L.Reset id) → from ≡ config.addresses.client
           → ((con : Open) → IsOpen (server_layer config (server_trace config past)) con
           → con.to ≡ from
           → Carries config.server_setup y (record { to = from; id = id }) con) → ⊥
@@ -211,7 +216,7 @@ module _ (laws : ResetLaws) (config : Config) (range : IsConfig config) (x : Obs
       (h : S.Handling) (below : L.Answer)
       (is : all ≡ later ++ OfServer (S.Feeds now from bytes w (L.Becomes (L.Unmatched id)) came h below) ∷ past)
       (timely : IsTimely config past (S.Feeds now from bytes w (L.Becomes (L.Unmatched id)) came h below))
-      → from ≡ client_end → (since : ℕ) → NonOf laws config range token (server_trace config past) id since
+      → from ≡ config.addresses.client → (since : ℕ) → NonOf laws config range token (server_trace config past) id since
       → clock_at config.limits config.server_szx
       (S.Feeds now from bytes w (L.Becomes (L.Unmatched id)) came h below ∷ server_trace config past)
       ≤ since + exchange_lifetime → ⊥
@@ -220,11 +225,14 @@ module _ (laws : ResetLaws) (config : Config) (range : IsConfig config) (x : Obs
       (is_past later past now from bytes w id up came h below is timely) (with_head Non id n.content) r.message
       (record { kind = inr refl; class = n.class; same = n.same; understood = n.understood })
       id r.bytes r.spells r.kind
-      (replied_at config server_end id r.bytes (IsMessage (with_head Non id n.content)) past
+      (replied_at config config.addresses.server id r.bytes (IsMessage config.addresses (with_head Non id n.content))
+      past
       (law_past later past now from bytes w id up came h below is timely).client
-      (subst (Sometime (Gives server_end id r.bytes (IsMessage (with_head Non id n.content))))
+      (subst (Sometime (Gives config.addresses.server id r.bytes
+      (IsMessage config.addresses (with_head Non id n.content))))
       (far_there later past now from bytes w id up came h below is timely)
-      (far_sometime (Gives server_end id r.bytes (IsMessage (with_head Non id n.content))) (across (hops_in config past))
+      (far_sometime (Gives config.addresses.server id r.bytes (IsMessage config.addresses (with_head Non id n.content)))
+      (across (hops_in config past))
       r.given_there)))
     where
       up : L.Answer
@@ -242,11 +250,12 @@ module _ (laws : ResetLaws) (config : Config) (range : IsConfig config) (x : Obs
       b : BeginsWith config t call (L.Receive from bytes) up
       b = unmatched_begins config t now from bytes w id came h below here.server
 
-      both : ChannelLaw config.server_setup config.client_setup server_end client_end
+      both : ChannelLaw config.server_setup config.client_setup config.addresses.server config.addresses.client
           (Near b.entry ∷ across (hops_in config past))
-      both = channel_back config.server_setup config.client_setup server_end client_end (map Near b.newer)
+      both = channel_back config.server_setup config.client_setup config.addresses.server config.addresses.client
+          (map Near b.newer)
           (Near b.entry ∷ across (hops_in config past))
-          (subst (ChannelLaw config.server_setup config.client_setup server_end client_end)
+          (subst (ChannelLaw config.server_setup config.client_setup config.addresses.server config.addresses.client)
           (hops later past now from bytes w id up came h below is timely b.newer b.entry b.adds)
           (channel later past now from bytes w id up came h below is timely))
 
@@ -273,8 +282,9 @@ module _ (laws : ResetLaws) (config : Config) (range : IsConfig config) (x : Obs
           (sym (near_there later past now from bytes w id up came h below is timely)) n.there
 
       r : IsReplied laws.sent config.server_setup config.client_setup
-          server_end client_end (across (hops_in config past)) b.entry both n.content id n.at sent_near late soon
-      r = reset_of_non laws.sent config.server_setup config.client_setup server_end client_end
+          config.addresses.server config.addresses.client (across (hops_in config past)) b.entry both n.content id n.at
+          sent_near late soon
+      r = reset_of_non laws.sent config.server_setup config.client_setup config.addresses.server config.addresses.client
           (across (hops_in config past)) b.entry both n.content id n.at sent_near late soon bytes
           (b.call_is ∙ ap (λ p. L.Receive p bytes) place) b.answer_is
 
@@ -286,7 +296,7 @@ module _ (laws : ResetLaws) (config : Config) (range : IsConfig config) (x : Obs
       → rejected (own_of config.limits config.server_szx
       (S.Feeds now from bytes w up came h below ∷ server_trace config past)).clock s.to s.id
       (own_of config.limits config.server_szx (server_trace config past)).observers ≡ Some o
-      → o.to ≡ client_end → o.token ≡ token → ⊥
+      → o.to ≡ config.addresses.client → o.token ≡ token → ⊥
   not_rejected later past now from bytes w up came h below is timely s o rejects found place same =
       let calls : List S.Call = server_trace config past in
       let c : S.Call = S.Feeds now from bytes w up came h below in
@@ -302,7 +312,7 @@ module _ (laws : ResetLaws) (config : Config) (range : IsConfig config) (x : Obs
       by s.id k.0 (sym k.1 ∙ (sym ends.0 ∙ place)) last.non.at
       (subst (λ i. NonOf laws config range token calls i last.non.at) last.id_is n) last.young
     where
-      by : (id : ℕ) → up ≡ L.Becomes (L.Unmatched id) → from ≡ client_end → (since : ℕ)
+      by : (id : ℕ) → up ≡ L.Becomes (L.Unmatched id) → from ≡ config.addresses.client → (since : ℕ)
           → NonOf laws config range token (server_trace config past) id since
           → clock_at config.limits config.server_szx (S.Feeds now from bytes w up came h below ∷ server_trace config past)
           ≤ since + exchange_lifetime → ⊥

@@ -14,7 +14,7 @@ use Rattle.coap_client.specs.Trace as C
 use Rattle.coap_server.specs.Law.{own_of}
 use Rattle.coap_server.specs.Trace as S
 use Rattle.coap_server.proofs.Facts.Laws as server_facts
-use Rattle.coap_world.specs.Events.{client_end, Config}
+use Rattle.coap_world.specs.Events.{Config}
 use Rattle.coap_world.specs.Hops.{server_adds}
 use Rattle.coap_world.specs.Record.{Entry, OfClient, OfServer, Turn, entries_of, server_trace}
 use Rattle.coap_world.specs.Smooth.{max_age}
@@ -102,7 +102,8 @@ module _ (config : Config) where
     pub is_at : server.IsAt at c
     pub timely : Every (Timely at (server.Fed c)) (server_adds config (server_trace config past) c)
     pub clock : (own_of config.limits config.server_szx (c ∷ server_trace config past)).clock ≤ at
-    pub young : (con : Open) → con.to ≡ client_end → IsOpen (layer_at past) con → at ≤ con.first + (max_age + max_age)
+    pub young : (con : Open) → con.to ≡ config.addresses.client → IsOpen (layer_at past) con
+        → at ≤ con.first + (max_age + max_age)
 
   abbrev pub AtMoment : List Entry → Entry → Type 0
   AtMoment past (OfClient c) = Unit {0}
@@ -119,7 +120,7 @@ module _ (config : Config) where
     entries_at = turn_at at turn.entries (side_of config turn past g.stands)
 
     young_at : (later mid : List Entry) → turn.entries ≡ later ++ mid → Every (EntryAt at) mid → (con : Open)
-        → con.to ≡ client_end → IsOpen (layer_at (mid ++ es)) con → at ≤ con.first + (max_age + max_age)
+        → con.to ≡ config.addresses.client → IsOpen (layer_at (mid ++ es)) con → at ≤ con.first + (max_age + max_age)
     young_at later mid is each con to o =
         by (begun_in at con mid es each (turned config turn past g.stands).still.server
         (open_was_begun (layer_at (mid ++ es)) con o))

@@ -18,7 +18,7 @@ use Rattle.coap_client.specs.Law.{ClientLaw}
 use Rattle.coap_client.specs.Trace as C
 use Rattle.coap_server.specs.Follows.Serves.{Serving}
 use Rattle.coap_world.specs.Current.{Watches, Alone}
-use Rattle.coap_world.specs.Events.{client_end, Config}
+use Rattle.coap_world.specs.Events.{Config}
 use Rattle.coap_world.specs.NoticesCome.{IsFed}
 use Rattle.coap_world.specs.NoticesTaken.{IsRequestOfIt, IsTakenIn, RequestsAreOfIt}
 use Rattle.coap_world.specs.Record.{Entry, OfClient, OfServer, Turn, entries_of, client_of}
@@ -31,7 +31,8 @@ use Rattle.coap_world.proofs.Watching.TakenIn.{responses_are_taken}
 module _ (config : Config) (x : Observed) where
   -- each request that is served for the client's address is of the observation
   abbrev pub AreServedFor : List Entry → Type 0
-  AreServedFor all = Always (λ older e. (s : Serving) → ServesAt config s older e → s.asked.from ≡ client_end
+  AreServedFor all = Always (λ older e. (s : Serving) → ServesAt config s older e → s.asked.from
+      ≡ config.addresses.client
       → IsRequestOfIt config x older s) all
 
   -- a CON or a NON that is fed under the token of the registration is heard or noted, where each critical option of it is
@@ -39,7 +40,7 @@ module _ (config : Config) (x : Observed) where
   abbrev pub IsHeard : List Entry → Type 0
   IsHeard all =
       (newer older : List Entry) (d : C.Call) (m : Message) (since : ℕ) → all ≡ newer ++ OfClient d ∷ older
-      → IsFed m since d → (m.kind ≡ Con) ⊎ (m.kind ≡ Non)
+      → IsFed config.addresses m since d → (m.kind ≡ Con) ⊎ (m.kind ≡ Non)
       → WasRegistered config.client_sizes x.number m.token (client_of older)
       → lacks_critical Response m.options ≡ false → (hears d ≡ Some m) ⊎ (notes d ≡ Some m)
 

@@ -22,7 +22,7 @@ use Rattle.coap_server.specs.Trace as S
 use Rattle.coap_server.proofs.Facts.Laws as server_facts
 use Rattle.coap_world.specs.Answers.{AnswersAt, IsAnswer, replies, continues, refuses, notifies}
 use Rattle.coap_world.specs.CameFrom.{CameFrom}
-use Rattle.coap_world.specs.Events.{server_end, Config}
+use Rattle.coap_world.specs.Events.{Config}
 use Rattle.coap_world.specs.Record.{Entry, OfClient, OfServer, client_of, server_trace}
 use Rattle.coap_world.proofs.Requests.OfACall.{Lawful}
 use Rattle.coap_world.specs.NoticesCome.{NoticesAreOfIt}
@@ -67,7 +67,8 @@ module _ (config : Config) (x : Observed) (all : List Entry) (law : Lawful confi
   pub by_sending : (later es : List Entry) → all ≡ later ++ es → (s : Sending) → WasSent sizes s (client_of es)
       → s.token ≡ token → WasRegistered sizes x.number token (client_of es)
   by_sending later es is s sent same =
-      by (client_facts.tokens server_end sizes config.client_setup (client_of all) law.client s registered.sending
+      by (client_facts.tokens config.addresses.server sizes config.client_setup (client_of all) law.client s
+      registered.sending
       (subst (λ z. WasSent sizes s (client_of z)) (sym is) (sent_before config later es s sent)) registered.sent
       (same ∙ sym registered.token_is))
     where
@@ -91,7 +92,7 @@ module _ (config : Config) (x : Observed) (all : List Entry) (law : Lawful confi
           let number : d.number ≡ x.number = cc z in
           subst (λ t. WasRegistered sizes x.number t (client_of es)) same
           (by_cancel sizes x.number s (client_of es)
-          (are_of_observations sizes server_end config.client_setup (client_of es)
+          (are_of_observations sizes config.addresses.server config.client_setup (client_of es)
           (lawful_before config later es (subst (Lawful config) is law)).client)
           (d.cancels ∙ ap (λ n. Cancelling n) number) sent)
 

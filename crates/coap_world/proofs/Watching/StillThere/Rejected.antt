@@ -29,7 +29,7 @@ use Rattle.coap_client.specs.Follows.OfObservations.{Observed}
 use Rattle.coap_client.specs.Law.{ClientLaw}
 use Rattle.coap_client.specs.Trace as C
 use Rattle.coap_client.proofs.Facts.Laws as client_facts
-use Rattle.coap_world.specs.Events.{server_end, Config}
+use Rattle.coap_world.specs.Events.{Config}
 use Rattle.coap_world.specs.Hops.{client_adds}
 use Rattle.coap_world.specs.Record.{Entry, OfClient, client_of}
 use Rattle.coap_world.proofs.Delivery.HopsAreEntries.{client_layer}
@@ -40,6 +40,7 @@ use Rattle.coap_world.proofs.Watching.StillThere.Premises.{AreServedFor, IsHeard
 use Rattle.coap_world.proofs.Watching.StillThere.Registered.{answered_registered}
 use Rattle.coap_world.proofs.Watching.StillThere.RepliesFed.{RepliedAt}
 use Rattle.coap_world.proofs.Watching.Runs.{lawful_before}
+use Rattle.coap_world.specs.declared.addresses.Addresses.{Addresses}
 
 -- a response that is handed up is handed up as a response
 module _ (setup : Setup) (past : List L.Entry) (e : L.Entry) (from : Endpoint) (bytes : List ℕ) (m : Message)
@@ -90,8 +91,8 @@ module _ (setup : Setup) (past : List L.Entry) (e : L.Entry) (from : Endpoint) (
       arrived row.0 row.2
 
 -- it is this message of the server
-abbrev pub IsMessage : Message → Incoming → Type 0
-IsMessage m up = (up.from ≡ server_end) × (up.message ≡ m)
+abbrev pub IsMessage : Addresses → Message → Incoming → Type 0
+IsMessage addresses m up = (up.from ≡ addresses.server) × (up.message ≡ m)
 
 -- what is so of a response under the token of the registration
 pub record IsOfToken (token : List ℕ) (m : Message) : Type 0 where
@@ -110,7 +111,7 @@ module _ (acked : AllAcked) (config : Config) (x : Observed) (all : List Entry) 
   -- so it has no Reset
   pub never_replied : (later es : List Entry) → all ≡ later ++ es → (m reset : Message) → IsOfToken token m → (id : ℕ)
       (bytes : List ℕ) → Spells bytes reset → reset.kind ≡ Rst
-      → RepliedAt config server_end id bytes (IsMessage m) es → ⊥
+      → RepliedAt config config.addresses.server id bytes (IsMessage config.addresses m) es → ⊥
   never_replied later es is m reset of id bytes spells rst k = by done
     where
       d : C.Call
@@ -125,18 +126,19 @@ module _ (acked : AllAcked) (config : Config) (x : Observed) (all : List Entry) 
       law_here : Lawful config (OfClient d ∷ k.older)
       law_here = lawful_before config (later ++ k.newer) (OfClient d ∷ k.older) (subst (Lawful config) split law)
 
-      from : k.up.from ≡ server_end
+      from : k.up.from ≡ config.addresses.server
       from = k.known.0
 
-      entry_call : k.fed.entry.call ≡ L.Receive server_end k.fed.bytes
+      entry_call : k.fed.entry.call ≡ L.Receive config.addresses.server k.fed.bytes
       entry_call = k.fed.call_is ∙ ap (λ z. L.Receive z k.fed.bytes) from
 
       up : k.fed.answer ≡ L.Becomes (L.Response m)
       up = sym k.fed.answer_is
-          ∙ as_response config.client_setup (client_layer config past) k.fed.entry server_end k.fed.bytes m k.fed.stands
+          ∙ as_response config.client_setup (client_layer config past) k.fed.entry config.addresses.server k.fed.bytes m
+          k.fed.stands
           entry_call (ap handed_by k.fed.answer_is ∙ (k.fed.handed_up ∙ ap (λ z. Some z) k.known.1)) of.class
 
-      fed : IsFed m k.fed.now d
+      fed : IsFed config.addresses m k.fed.now d
       fed = record {
         now = k.fed.now;
         bytes = k.fed.bytes;
@@ -149,14 +151,15 @@ module _ (acked : AllAcked) (config : Config) (x : Observed) (all : List Entry) 
         is = k.fed.is
             ∙ (ap (λ z. C.Feeds k.fed.now z k.fed.bytes k.fed.word k.fed.answer k.fed.settled k.fed.event k.fed.sent k.fed.token
             k.fed.kept) from
-            ∙ ap (λ z. C.Feeds k.fed.now server_end k.fed.bytes k.fed.word z k.fed.settled k.fed.event k.fed.sent k.fed.token
+            ∙ ap (λ z. C.Feeds k.fed.now config.addresses.server k.fed.bytes k.fed.word z k.fed.settled k.fed.event
+            k.fed.sent k.fed.token
             k.fed.kept) up);
         from = omega arith;
         till = omega arith;
       }
 
-      heard : Ever (Hears server_end m) (client_adds config past d)
-      heard = Ever_map (λ (z : L.Entry). z ≡ k.fed.entry) (Hears server_end m)
+      heard : Ever (Hears config.addresses.server m) (client_adds config past d)
+      heard = Ever_map (λ (z : L.Entry). z ≡ k.fed.entry) (Hears config.addresses.server m)
           (λ z same. record {
             bytes = k.fed.bytes;
             call = ap (λ (w : L.Entry). w.call) same ∙ entry_call;
@@ -170,15 +173,17 @@ module _ (acked : AllAcked) (config : Config) (x : Observed) (all : List Entry) 
           (came_answered config k.older d law_here m heard))
 
       done : (m.kind ≡ Con) × (bytes ≡ ack_bytes m.id)
-      done = (acked server_end config.client_sizes config.client_setup (d ∷ past) law_here.client).0 m
-          (is_heard (later ++ k.newer) k.older d m k.fed.now split fed of.kind there of.understood) server_end id bytes k.there
+      done = (acked config.addresses.server config.client_sizes config.client_setup (d ∷ past) law_here.client).0 m
+          (is_heard (later ++ k.newer) k.older d m k.fed.now split fed of.kind there of.understood)
+          config.addresses.server id bytes k.there
 
       small : m.id < 65536
       small =
           let t : LayerLaw config.client_setup (k.fed.entry ∷ client_layer config past) = (
             k.fed.stands,
-            client_facts.layer server_end config.client_sizes config.client_setup past
-                (client_facts.back server_end config.client_sizes config.client_setup (d ∷ []) past law_here.client),
+            client_facts.layer config.addresses.server config.client_sizes config.client_setup past
+                (client_facts.back config.addresses.server config.client_sizes config.client_setup (d ∷ []) past
+                law_here.client),
           ) in
           ((responses_spelled config.client_setup (k.fed.entry ∷ client_layer config past) t).0 m
           (k.fed.answer_is ∙ up)).spells.id

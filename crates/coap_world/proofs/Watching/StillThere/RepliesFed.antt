@@ -24,7 +24,7 @@ use Rattle.coap_client.specs.Deeds.{deeds, close, effect, forgets}
 use Rattle.coap_client.specs.Law as client_law
 use Rattle.coap_client.specs.Trace as C
 use Rattle.coap_client.proofs.Facts.Laws as client_facts
-use Rattle.coap_world.specs.Events.{server_end, Config}
+use Rattle.coap_world.specs.Events.{Config}
 use Rattle.coap_world.specs.Hops.{client_asks, client_asked, client_adds}
 use Rattle.coap_world.specs.Record.{Entry, OfClient, OfServer, client_of}
 use Rattle.coap_world.proofs.Delivery.EntriesInTime.{Every, every_join}
@@ -161,7 +161,8 @@ module _ (config : Config) where
           let same : record { from = from; message = m } ≡ up = cc h in
           (ap (λ (z : Incoming). z.from) same, ap (λ (z : Incoming). Some z.message) same)
 
-  module _ (past : List C.Call) (c : C.Call) (law : client_law.ClientLaw server_end config.client_sizes config.client_setup (c ∷ past))
+  module _ (past : List C.Call) (c : C.Call) (law : client_law.ClientLaw config.addresses.server config.client_sizes
+      config.client_setup (c ∷ past))
       (front rest : List L.Entry) (e : L.Entry) (adds : client_adds config past c ≡ front ++ e ∷ rest) where
     there : Ever (λ x. x ≡ e) (client_adds config past c)
     there = subst (Ever (λ x. x ≡ e)) (sym adds) (in_it front)
@@ -174,7 +175,7 @@ module _ (config : Config) where
     none_by h = none_in _ (client_asks config past c) h e there
 
   fed_it : (past : List C.Call) (c : C.Call)
-      → client_law.ClientLaw server_end config.client_sizes config.client_setup (c ∷ past)
+      → client_law.ClientLaw config.addresses.server config.client_sizes config.client_setup (c ∷ past)
       → (front rest : List L.Entry) (e : L.Entry) → client_adds config past c ≡ front ++ e ∷ rest → (to : Endpoint)
       (id : ℕ) (bytes : List ℕ) (up : Incoming) → GivesReply to id bytes up (rest ++ client_layer config past) e
       → IsFedIt up past c
@@ -183,7 +184,7 @@ module _ (config : Config) where
   fed_it past (C.Forgets number kept answer) law front rest e adds to id bytes up g =
       let s = client_law.own_of config.client_sizes past in
       absurd (none_by past _ law front rest e adds
-      (no_deeds server_end config.client_setup (client_law.lower_of config.client_sizes past) _
+      (no_deeds config.addresses.server config.client_setup (client_law.lower_of config.client_sizes past) _
       (deed_deeds (forgets answer number s) s 0 0 L.Nothing _ kept)) to id bytes g.call)
   fed_it past (C.Ticks now word below turn sent token kept answer) law front rest e adds to id bytes up g =
       let c : C.Call = C.Ticks now word below turn sent token kept answer in
@@ -194,7 +195,7 @@ module _ (config : Config) where
       let later = deeds z.deed z.own m word sent token kept in
       let first = deeds f.deed f.own m word sent token kept in
       absurd (none_by past c law front rest e adds
-      (no_deeds server_end config.client_setup (client_law.lower_of config.client_sizes past)
+      (no_deeds config.addresses.server config.client_setup (client_law.lower_of config.client_sizes past)
       (later ++ (first ++ A.Ticks m below turn ∷ []))
       (every_join IsDeed later (first ++ A.Ticks m below turn ∷ []) (deed_deeds z.deed z.own m word sent token kept)
       (every_join IsDeed first (A.Ticks m below turn ∷ []) (deed_deeds f.deed f.own m word sent token kept) (tt, tt))))
@@ -235,7 +236,7 @@ module _ (config : Config) where
           (subst (LayerLaw config.client_setup)
           (client_next config past c ∙ (ap (λ l. l ++ client_layer config past) whole
           ∙ append_assoc later (y ∷ []) (client_layer config past)))
-          (client_facts.layer server_end config.client_sizes config.client_setup (c ∷ past) law))).0
+          (client_facts.layer config.addresses.server config.client_sizes config.client_setup (c ∷ past) law))).0
 
       at_end : (xs : List L.Entry) → Ever (λ (z : L.Entry). z ≡ y) (xs ++ y ∷ [])
       at_end [] = inl refl
@@ -329,7 +330,7 @@ module _ (config : Config) where
   in_middle Q (x ∷ front) rest e h = inr (in_middle Q front rest e h)
 
   pub replied_at : (to : Endpoint) (id : ℕ) (bytes : List ℕ) (P : Incoming → Type 0) (es : List Entry)
-      → client_law.ClientLaw server_end config.client_sizes config.client_setup (client_of es)
+      → client_law.ClientLaw config.addresses.server config.client_sizes config.client_setup (client_of es)
       → Sometime (Gives to id bytes P) (client_layer config (client_of es)) → RepliedAt to id bytes P es
   replied_at to id bytes P [] law h = absurd h
   replied_at to id bytes P (OfServer c ∷ es) law h = behind_it to id bytes P (OfServer c) es (replied_at to id bytes P es law h)
@@ -350,5 +351,5 @@ module _ (config : Config) where
         }
         | inr rest ↦ behind_it to id bytes P (OfClient c) es
             (replied_at to id bytes P es
-            (client_facts.back server_end config.client_sizes config.client_setup (c ∷ []) t law) rest)
+            (client_facts.back config.addresses.server config.client_sizes config.client_setup (c ∷ []) t law) rest)
       ]

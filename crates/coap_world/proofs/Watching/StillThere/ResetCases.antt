@@ -21,10 +21,10 @@ use Rattle.coap_layer.specs.Words.{Incoming, Open, from_there, handed, handed_in
 use Rattle.coap_layer.specs.declared.setup.Setup.{Setup}
 use Rattle.coap_layer.proofs.Facts.Sendings.{some_in}
 use Rattle.coap_world.proofs.Smoothly.HandedAs.{as_response}
-use Rattle.coap_world.specs.Events.{server_end}
 use Rattle.coap_world.proofs.Watching.StillThere.Rejected.{IsMessage}
 use Rattle.coap_world.proofs.Watching.StillThere.RepliesFed.{Gives}
 use Rattle.std.proofs.lemmas.Bool.{and_parts as is_and}
+use Rattle.coap_world.specs.declared.addresses.Addresses.{Addresses}
 
 -- what is taken as a Reset of what is outstanding
 pub record TakesReset (past : List L.Entry) (from : Endpoint) (bytes : List ℕ) (id : ℕ) : Type 0 where
@@ -89,29 +89,31 @@ pub is_open : (t : List L.Entry) (con : Open) → IsIn con (outstanding t) → I
 is_open t con h = Ever_map (λ y. y ≡ con) (λ y. as_begun y ≡ as_begun con) (λ y k. ap as_begun k) (outstanding t) h
 
 -- the reply to a CON with this message, as a reply to the message that was handed up last
-module _ (setup : Setup) (con : Open) (m : Message) (spells : Spells con.bytes m) (kind : m.kind ≡ Con)
+module _ (addresses : Addresses) (setup : Setup) (con : Open) (m : Message) (spells : Spells con.bytes m)
+    (kind : m.kind ≡ Con)
     (class : role_of m.code ≡ role.Response) where
   abbrev up : Incoming
-  up = record { from = server_end; message = m }
+  up = record { from = addresses.server; message = m }
 
-  up_as : (past : List L.Entry) (y : L.Entry) → Stands setup past y → Takes server_end con y → handed y ≡ Some up
+  up_as : (past : List L.Entry) (y : L.Entry) → Stands setup past y → Takes addresses.server con y → handed y ≡ Some up
   up_as past y here k =
-      let answer = as_response setup past y server_end con.id con.bytes m here k.call spells kind k.up class in
-      ap (λ d. handed_in d y.answer) k.call ∙ (ap (λ z. handed_in (L.Receive server_end con.bytes) z) answer
-      ∙ ap (λ z. from_there server_end (cond (is_kept z) (Some m) None)) kind)
+      let answer = as_response setup past y addresses.server con.id con.bytes m here k.call spells kind k.up class in
+      ap (λ d. handed_in d y.answer) k.call ∙ (ap (λ z. handed_in (L.Receive addresses.server con.bytes) z) answer
+      ∙ ap (λ z. from_there addresses.server (cond (is_kept z) (Some m) None)) kind)
 
   latest : (t : List L.Entry) (at : ℕ) → LayerLaw setup t
-      → Since (λ y. Takes server_end con y × (y.at ≡ at)) (λ y. handed y ≡ None) t → IsLatest t at up
+      → Since (λ y. Takes addresses.server con y × (y.at ≡ at)) (λ y. handed y ≡ None) t → IsLatest t at up
   latest [] at law h = absurd h
   latest (y ∷ t) at law (inl h) = inl (up_as t y law.0 h.0, h.1)
   latest (y ∷ t) at law (inr h) = inr (h.0, latest t at law.1 h.1)
 
-  pub gives_of : (bytes : List ℕ) (t : List L.Entry) → LayerLaw setup t → Sometime (RepliesTo server_end con bytes) t
-      → Sometime (Gives server_end con.id bytes (IsMessage m)) t
+  pub gives_of : (bytes : List ℕ) (t : List L.Entry) → LayerLaw setup t
+      → Sometime (RepliesTo addresses.server con bytes) t
+      → Sometime (Gives addresses.server con.id bytes (IsMessage addresses m)) t
   gives_of bytes [] law h = absurd h
   gives_of bytes (e ∷ t) law (inr h) = inr (gives_of bytes t law.1 h)
   gives_of bytes (e ∷ t) law (inl h) =
-      let row : Row setup t e (L.Reply server_end con.id bytes) = subst (Row setup t e) h.call law.0.row in
+      let row : Row setup t e (L.Reply addresses.server con.id bytes) = subst (Row setup t e) h.call law.0.row in
       let some = row.0 in
       inl (
         up,

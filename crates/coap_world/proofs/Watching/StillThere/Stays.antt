@@ -22,7 +22,7 @@ use Rattle.coap_server.specs.Law.{ServerLaw, own_of}
 use Rattle.coap_server.specs.Trace as S
 use Rattle.coap_layer.specs.Channel.{ChannelLaw}
 use Rattle.coap_world.specs.Hops.{hops_in}
-use Rattle.coap_world.specs.Events.{client_end, server_end, Config}
+use Rattle.coap_world.specs.Events.{Config}
 use Rattle.coap_world.specs.Legal.{IsConfig}
 use Rattle.coap_world.specs.Record.{Entry, OfClient, OfServer, client_of, server_trace, settings, Setting, DelayOf, PlainOf, gives_it}
 use Rattle.coap_world.proofs.Requests.OfACall.{Lawful}
@@ -35,9 +35,10 @@ use Rattle.coap_world.proofs.Watching.StillThere.ResetLaws.{ResetLaws}
 use Rattle.coap_world.proofs.Watching.StillThere.OfTheOne.{no_cancel}
 use Rattle.coap_world.proofs.Watching.StillThere.OpenYoung.{AtMoment, IsTimely}
 use Rattle.coap_world.proofs.Watching.Runs.{lawful_before}
+use Rattle.coap_world.specs.declared.addresses.Addresses.{Addresses}
 
 -- a notification of this registration that is no 2.05 was sent
-pub record WasEnded (token : List ℕ) (all : List Entry) : Type 0 where
+pub record WasEnded (addresses : Addresses) (token : List ℕ) (all : List Entry) : Type 0 where
   pub newer : List Entry
   pub older : List Entry
   pub call : S.Call
@@ -45,11 +46,12 @@ pub record WasEnded (token : List ℕ) (all : List Entry) : Type 0 where
   pub split : all ≡ newer ++ OfServer call ∷ older
   pub here : notice call ≡ Some told
   pub gone : told.reply.code ≢ content
-  pub to_is : told.observer.to ≡ client_end
+  pub to_is : told.observer.to ≡ addresses.client
   pub token_is : told.observer.token ≡ token
 
-ended_later : (token : List ℕ) (e : Entry) (all : List Entry) → WasEnded token all → WasEnded token (e ∷ all)
-ended_later token e all k = record {
+ended_later : (addresses : Addresses) (token : List ℕ) (e : Entry) (all : List Entry) → WasEnded addresses token all
+    → WasEnded addresses token (e ∷ all)
+ended_later addresses token e all k = record {
   newer = e ∷ k.newer;
   older = k.older;
   call = k.call;
@@ -76,7 +78,8 @@ module _ (laws : ResetLaws)
     (ends_so : (limits : Limits) (szx : ℕ) (setup : Setup) (t : List S.Call) → ServerLaw limits szx setup t → EndsSo limits szx t)
     (observers : (limits : Limits) (szx : ℕ) (t : List S.Call) → AreObservers limits szx t) (config : Config)
     (range : IsConfig config) (x : Observed) (all : List Entry) (law : Lawful config all)
-    (channels : ChannelLaw config.client_setup config.server_setup client_end server_end (hops_in config all))
+    (channels : ChannelLaw config.client_setup config.server_setup config.addresses.client config.addresses.server
+    (hops_in config all))
     (moments : Always (AtMoment config) all) (served : AreServedFor config x all) (of_it : NoticesAreOfIt config x all)
     (is_heard : IsHeard config x all) (token : List ℕ)
     (registered : WasRegistered config.client_sizes x.number token (client_of all)) where
@@ -84,11 +87,11 @@ module _ (laws : ResetLaws)
   own es = own_of config.limits config.server_szx (server_trace config es)
 
   abbrev pair : Pair
-  pair = record { to = client_end; token = token }
+  pair = record { to = config.addresses.client; token = token }
 
   -- it is there, or was ended so
   abbrev pub Stays : List Entry → Type 0
-  Stays es = HasOne client_end token (own es).observers ⊎ WasEnded token es
+  Stays es = HasOne config.addresses.client token (own es).observers ⊎ WasEnded config.addresses token es
 
   module _ (later past : List Entry) (c : S.Call) (is : all ≡ later ++ OfServer c ∷ past) where
     abbrev t : List S.Call
@@ -101,7 +104,8 @@ module _ (laws : ResetLaws)
     timely = (Always_back (AtMoment config) later (OfServer c ∷ past) (subst (Always (AtMoment config)) is moments)).0
 
     -- what it tells to have ended is not this
-    told_not : (d : S.Call) → c ≡ d → (y : Ended) → ends_in (own past) d ≡ Some y → y.to ≡ client_end → y.token ≡ token → ⊥
+    told_not : (d : S.Call) → c ≡ d → (y : Ended) → ends_in (own past) d ≡ Some y → y.to ≡ config.addresses.client
+        → y.token ≡ token → ⊥
     told_not (S.Feeds now from bytes w up came h below) same y ends to key =
         not_told laws config range x all law channels served of_it is_heard token registered later past now from bytes w up came h below
         (is ∙ ap (λ z. later ++ OfServer z ∷ past) same) (subst (IsTimely config past) same timely) y ends to key
@@ -113,14 +117,15 @@ module _ (laws : ResetLaws)
 
     rejected_not : (d : S.Call) → c ≡ d → (s : R.Sending) (o : Observer) → rejects_in d ≡ Some s
         → rejected (own_of config.limits config.server_szx (d ∷ t)).clock s.to s.id (own past).observers ≡ Some o
-        → o.to ≡ client_end → o.token ≡ token → ⊥
+        → o.to ≡ config.addresses.client → o.token ≡ token → ⊥
     rejected_not (S.Feeds now from bytes w up came h below) same s o rejects found to key =
         not_rejected laws config range x all law channels served of_it is_heard token registered later past now from bytes w up came h
         below (is ∙ ap (λ z. later ++ OfServer z ∷ past) same) (subst (IsTimely config past) same timely) s o rejects found to
         key
     rejected_not _ same s o rejects found to key = cc rejects
 
-    ended_by : Ends config.limits config.server_szx client_end token t c → WasEnded token (OfServer c ∷ past)
+    ended_by : Ends config.limits config.server_szx config.addresses.client token t c
+        → WasEnded config.addresses token (OfServer c ∷ past)
     ended_by (is_told y ends observe to key) = absurd (told_not c refl y ends to key)
     ended_by (is_rejected s o rejects found to key) = absurd (rejected_not c refl s o rejects found to key)
     ended_by (cancels s here observe from key) =
@@ -139,14 +144,15 @@ module _ (laws : ResetLaws)
     }
 
     next : Stays past → Stays (OfServer c ∷ past)
-    next (inr k) = inr (ended_later token (OfServer c) past k)
-    next (inl k) = by (registration client_end token (own (OfServer c ∷ past)).observers) refl
+    next (inr k) = inr (ended_later config.addresses token (OfServer c) past k)
+    next (inl k) = by (registration config.addresses.client token (own (OfServer c ∷ past)).observers) refl
       where
-        by : (r : Option Observer) → registration client_end token (own (OfServer c ∷ past)).observers ≡ r
+        by : (r : Option Observer) → registration config.addresses.client token (own (OfServer c ∷ past)).observers ≡ r
             → Stays (OfServer c ∷ past)
         by (Some o) found = inl (o, found)
         by None none =
-            inr (ended_by ((ends_so config.limits config.server_szx config.server_setup (c ∷ t) server_here).0 client_end token
+            inr (ended_by ((ends_so config.limits config.server_szx config.server_setup (c ∷ t) server_here).0
+            config.addresses.client token
             k.0 k.1 none))
 
   pub stays : (later es : List Entry) → all ≡ later ++ es
@@ -155,7 +161,7 @@ module _ (laws : ResetLaws)
   stays later (OfClient c ∷ past) is h =
       elim (stays (later ++ OfClient c ∷ []) past (is ∙ sym (append_assoc later (OfClient c ∷ []) past)) h) [
         | inl k ↦ inl k
-        | inr k ↦ inr (ended_later token (OfClient c) past k)
+        | inr k ↦ inr (ended_later config.addresses token (OfClient c) past k)
       ]
   stays later (OfServer c ∷ past) is (inl h) =
       inl (made_has config.limits config.server_szx (server_trace config past) c pair h.registers)
@@ -163,7 +169,7 @@ module _ (laws : ResetLaws)
       next later past c is (stays (later ++ OfServer c ∷ []) past (is ∙ sym (append_assoc later (OfServer c ∷ []) past)) h)
 
   -- it is of the path
-  made_path : (later es : List Entry) → all ≡ later ++ es → (o : Observer) → o.to ≡ client_end
+  made_path : (later es : List Entry) → all ≡ later ++ es → (o : Observer) → o.to ≡ config.addresses.client
       → WasMade config.limits config.server_szx (server_trace config es) o → o.path ≡ x.path
   made_path later [] is o to h = absurd (none_made o (settings config) h)
     where
@@ -182,9 +188,12 @@ module _ (laws : ResetLaws)
       (m.from ∙ to) in
       sym m.path_is ∙ k.path_is
 
-  pub found_path : (o : Observer) → registration client_end token (own all).observers ≡ Some o → o.path ≡ x.path
+  pub found_path : (o : Observer) → registration config.addresses.client token (own all).observers ≡ Some o → o.path
+      ≡ x.path
   found_path o found =
-      let of = (is_of-decides client_end token o).0 (found_passes (is_of client_end token) (own all).observers o found) in
+      let of = (is_of-decides config.addresses.client token o).0 (found_passes (is_of config.addresses.client token)
+      (own all).observers o found) in
       made_path [] all refl o of.0
-      (found_each (WasMade config.limits config.server_szx (server_trace config all)) (is_of client_end token)
+      (found_each (WasMade config.limits config.server_szx (server_trace config all))
+      (is_of config.addresses.client token)
       (own all).observers o (observers config.limits config.server_szx (server_trace config all)).made found)

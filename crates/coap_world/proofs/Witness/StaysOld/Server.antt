@@ -5,7 +5,7 @@ use Rattle.coap_server.specs.Trace as S
 use Rattle.coap_server.specs.Law.{ServerLaw}
 use Rattle.coap_world.specs.LegalRuns.{limits}
 use Rattle.coap_world.specs.ObservationRuns.{first_bytes, second_bytes}
-use Rattle.coap_world.proofs.Witness.Observed.Server.{a, first_set, fed, second_set, ticked, served, first_change}
+use Rattle.coap_world.proofs.Witness.Observed.Server.{first_set, fed, second_set, ticked, served, first_change}
 use Rattle.coap_world.proofs.Witness.Observed.Server.{second}
 use Rattle.coap_world.proofs.Witness.TurnsMade.{server_turn, to_client}
 use Rattle.coap_world.proofs.Witness.Tests.{messages, server_lawful}

@@ -21,10 +21,12 @@ use Rattle.coap_world.proofs.Paced.CameAtAnyTime.{came_at_any_time}
 use Rattle.coap_world.proofs.Reports.FormatsSet.{FormatsIn, formats_in_of}
 use Rattle.coap_world.proofs.Requests.CallsInRange.{AreInRange, in_range_of}
 use Rattle.coap_world.proofs.laws.any_time_law.Goals as goal
+use Rattle.coap_world.specs.declared.addresses.Addresses.{Addresses}
 
-ranges : (c : Clocks) (turns : List Turn) → Always (IsLegal c) turns → AreInRange turns
-ranges c [] legal = tt
-ranges c (t ∷ past) legal = (legal.0.range, ranges c past legal.1)
+ranges : (addresses : Addresses) (c : Clocks) (turns : List Turn) → Always (IsLegal addresses c) turns
+    → AreInRange turns
+ranges addresses c [] legal = tt
+ranges addresses c (t ∷ past) legal = (legal.0.range, ranges addresses c past legal.1)
 
 lawful : (c : Clocks) (config : Config) (events : List Event) (turns : List Turn) → RecordOf config events turns
     → Legal c config turns → Lawful config (entries_of turns)
@@ -39,7 +41,8 @@ lawful c config events turns run legal =
 
 formats : (c : Clocks) (config : Config) (events : List Event) (turns : List Turn) → RecordOf config events turns
     → Legal c config turns → FormatsIn (entries_of turns)
-formats c config events turns run legal = formats_in_of turns run.made (ranges c turns legal.events)
+formats c config events turns run legal = formats_in_of config.addresses turns run.made
+    (ranges config.addresses c turns legal.events)
 
 pub returns-clause-came : goal.returns-clause-came
 returns-clause-came c k config events turns run legal =
@@ -72,7 +75,7 @@ returns-clause-served c k config events turns run legal =
 pub returns-clause-done : goal.returns-clause-done
 returns-clause-done c k config events turns run legal =
     once_done config (entries_of turns) legal.range.client_szx (lawful k config events turns run legal)
-    (λ x h. in_range_of x turns run.made (ranges k turns legal.events) h)
+    (λ x h. in_range_of config.addresses x turns run.made (ranges config.addresses k turns legal.events) h)
 
 pub returns-clause-answered : goal.returns-clause-answered
 returns-clause-answered c k config events turns run legal =

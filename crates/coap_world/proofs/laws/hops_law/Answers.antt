@@ -1,4 +1,3 @@
-use Rattle.coap_world.specs.Events.{client_end, server_end}
 use Rattle.coap_world.specs.Hops.{hops_of}
 use Rattle.coap_world.specs.Record.{entries_of}
 use Rattle.coap_world.proofs.Delivery.ChannelAcross.{channel_across}
@@ -13,12 +12,13 @@ pub returns-clause-far : goal.returns-clause-far
 returns-clause-far c config turns = far_is config (entries_of turns)
 
 pub returns-clause-channel : goal.returns-clause-channel
-returns-clause-channel c config events turns made legal = joined.channel config events turns made legal.events
+returns-clause-channel c config events turns made legal = joined.channel config events turns made legal
 
 pub returns-clause-back : goal.returns-clause-back
 returns-clause-back c config events turns made legal =
-    channel_across config.client_setup config.server_setup client_end server_end (hops_of config turns)
-    (joined.channel config events turns made legal.events)
+    channel_across config.client_setup config.server_setup config.addresses.client config.addresses.server
+    (hops_of config turns)
+    (joined.channel config events turns made legal)
 
 pub returns-clause-at_once : goal.returns-clause-at_once
-returns-clause-at_once c config events turns made legal = (joined.run config events turns made legal.events).sent
+returns-clause-at_once c config events turns made legal = (joined.run config events turns made legal).sent

@@ -8,7 +8,7 @@ use Rattle.coap_world.proofs.laws.observations_law.Goals as goal
 pub returns-clause-rising : goal.returns-clause-rising
 returns-clause-rising c config events turns run legal =
     all_rise config legal.range.server_szx legal.range.limit (entries_of turns)
-    (lawful config events turns run legal) (formats_in turns run.made legal.events)
+    (lawful config events turns run legal) (formats_in config.addresses turns run.made legal.events)
 
 pub returns-clause-named : goal.returns-clause-named
 returns-clause-named c config events turns run legal =

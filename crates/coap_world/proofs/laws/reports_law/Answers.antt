@@ -12,7 +12,7 @@ use Rattle.coap_world.proofs.laws.reports_law.Goals as goal
 pub returns-clause-held : goal.returns-clause-held
 returns-clause-held c config events turns run legal =
     each_held config legal.range.server_szx (entries_of turns) (lawful config events turns run legal)
-    (formats_in turns run.made legal.events)
+    (formats_in config.addresses turns run.made legal.events)
 
 pub returns-clause-valid : goal.returns-clause-valid
 returns-clause-valid c config events turns run legal =
@@ -21,14 +21,14 @@ returns-clause-valid c config events turns run legal =
 pub returns-clause-value : goal.returns-clause-value
 returns-clause-value c config events turns run legal =
     each_value config legal.range.server_szx (entries_of turns) (lawful config events turns run legal)
-    (formats_in turns run.made legal.events)
+    (formats_in config.addresses turns run.made legal.events)
 
 pub returns-clause-done : goal.returns-clause-done
 returns-clause-done c config events turns run legal =
     once_done config (entries_of turns) legal.range.client_szx (lawful config events turns run legal)
-    (λ x h. in_range x turns run.made legal.events h)
+    (λ x h. in_range config.addresses x turns run.made legal.events h)
 
 pub returns-clause-failed : goal.returns-clause-failed
 returns-clause-failed c config events turns run legal =
     never_failed config (entries_of turns) legal.range.client_szx (lawful config events turns run legal)
-    (λ x h. in_range x turns run.made legal.events h)
+    (λ x h. in_range config.addresses x turns run.made legal.events h)

@@ -13,7 +13,7 @@ returns-clause-once c config events turns run legal = once config events turns r
 pub returns-clause-whole : goal.returns-clause-whole
 returns-clause-whole c config events turns run legal =
     applied_whole config (entries_of turns) legal.range.client_szx (lawful config events turns run legal)
-    (λ x h. in_range x turns run.made legal.events h)
+    (λ x h. in_range config.addresses x turns run.made legal.events h)
 
 pub returns-clause-belongs : goal.returns-clause-belongs
 returns-clause-belongs c config events turns run legal = belongs config events turns run legal

@@ -1,4 +1,5 @@
 use Rattle.std.proofs.Common.{◌∷◌, [], Err, map, refl, ap, subst, ◌∙◌, arith}
+use Rattle.coap_world.specs.LegalEvents.{MayHappen}
 use Rattle.coap_world.specs.Run.Ends.{ClientLed, ServerLed}
 use Rattle.coap_world.specs.Run.Happening.{event_of}
 use Rattle.coap_world.specs.Run.Runs.{IsFirstWrong}
@@ -8,15 +9,15 @@ use Rattle.coap_world.proofs.Recording.Standing.{recorded}
 use Rattle.coap_world.proofs.running.run_over.Goals as goal
 
 pub events-init : goal.events-init
-events-init g c = record { within = omega (arith); stands = λ config st. ([], st) }
+events-init g c = record { within = omega (arith); stands = λ config same st. ([], st) }
 
 pub events-preserved : goal.events-preserved
 events-preserved g c =
     record {
       within = omega (arith, c.events-test.true);
-      stands = λ config start.
-          let st = c.events.invariant.stands config start in
-          let more = c.in-Ok.ensures.ok config _ st.0 st.1 in (
+      stands = λ config same start.
+          let st = c.events.invariant.stands config same start in
+          let more = c.in-Ok.ensures.ok config _ st.0 same st.1 in (
             more.0 ∷ st.0,
             subst (λ es. Stands ClientLed (ServerLed g.S.Store.content) config es
                 (more.0 ∷ st.0) c.step.new.client c.step.new.server c.step.new.log c.step.new.last.0)
@@ -26,8 +27,8 @@ events-preserved g c =
     }
 
 pub returns-clause-record : goal.returns-clause-record
-returns-clause-record g c = λ config start.
-    let st = c.events.invariant.stands config start in (
+returns-clause-record g c = λ config same start.
+    let st = c.events.invariant.stands config same start in (
       st.0,
       c.events.last.0,
       to_the_end event_of c.args.events.now c.events.number
@@ -36,11 +37,12 @@ returns-clause-record g c = λ config start.
     )
 
 pub returns-in-Err-NotLegal-clause-wrong : goal.returns-in-Err-NotLegal-clause-wrong
-returns-in-Err-NotLegal-clause-wrong g c = λ number e config start.
-    let st = c.events.invariant.stands config start in
+returns-in-Err-NotLegal-clause-wrong g c = λ number e config here start.
+    let st = c.events.invariant.stands config here start in
     let same = same_number c.events.number number _ refl e in
     subst (λ n. IsFirstWrong config (map event_of c.args.events.now) n) same
     (first_wrong event_of c.args.events.now c.events.number config st.0 c.index-events-number.result c.events-test.true
     c.index-events-number.is
     (recorded g.S.Store.content config _ st.0 _ _ _ _ st.1) st.1.legal
-    (c.step.ensures.wrong (c.in-Err-NotLegal.is ∙ ap Err c.in-Err-NotLegal.field-0-is) config _ st.0 st.1))
+    (λ may. c.step.ensures.wrong (c.in-Err-NotLegal.is ∙ ap Err c.in-Err-NotLegal.field-0-is) config _ st.0 here st.1
+    (subst (λ x. MayHappen x st.0 (event_of c.index-events-number.result)) here may)))

@@ -1,4 +1,4 @@
-use Rattle.std.proofs.Common.{◌-◌, ◌≤◌, List, [], map, reverse, take, length}
+use Rattle.std.proofs.Common.{◌≡◌, ◌-◌, ◌≤◌, List, [], map, reverse, take, length}
 use Rattle.coap_world.specs.Events.{Config}
 use Rattle.coap_world.specs.Record.{Turn}
 use Rattle.coap_world.specs.Run.Ends.{ClientLed, ServerLed}
@@ -14,7 +14,7 @@ invariant-events g l =
     record {
       within : l.number ≤ length l.events;
       stands :
-          (config : Config) → Stands ClientLed (ServerLed g.S.Store.content) config []
+          (config : Config) → config.addresses ≡ l.addresses → Stands ClientLed (ServerLed g.S.Store.content) config []
           [] l.initial.client l.initial.server l.initial.log 0
           → (turns : List Turn) × Stands ClientLed (ServerLed g.S.Store.content) config
           (reverse (map event_of (take l.number l.events))) turns l.client l.server l.log l.last.0;

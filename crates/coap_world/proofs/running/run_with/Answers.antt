@@ -1,4 +1,5 @@
-use Rattle.std.proofs.Common.{◌≡◌, Err, ap, subst, ◌∙◌}
+use Rattle.std.proofs.Common.{◌≡◌, Err, ap, sym, subst, ◌∙◌}
+use Rattle.coap_world.specs.Events.{Config}
 use Rattle.coap_world.specs.Legal.{IsConfig}
 use Rattle.coap_world.specs.Run.Happening.{event_of}
 use Rattle.coap_world.specs.declared.running.RunRefusal.TheVariants.{NotLegal}
@@ -9,7 +10,8 @@ use Rattle.coap_world.proofs.running.run_with.Goals as goal
 pub returns-in-Ok-done-clause-record : goal.returns-in-Ok-done-clause-record
 returns-in-Ok-done-clause-record g c =
     let k = c.args.config.now in
-    let st = c.in-Ok-done.ensures.record k (begins g.S.Store.content k _ _ _ c.new-log.ensures
+    let st = c.in-Ok-done.ensures.record k (ap (λ (x : Config). x.addresses) (sym c.config.view_is))
+    (begins g.S.Store.content k _ _ _ c.new-log.ensures
     (subst IsConfig c.config.view_is c.config.invariant) c.client_of-client.ensures c.in-Ok.ensures) in
     is_run event_of c.args.events.now k st.0 c.run_over-done.new.log
     (recorded g.S.Store.content k _ st.0 _ _ _ _ st.2) st.2.legal st.2.log_is
@@ -19,5 +21,6 @@ returns-in-Err-done-clause-wrong g c = λ number e.
     let k = c.args.config.now in
     let why : c.in-Err-done.why ≡ NotLegal number = cc e in
     c.run_over-done.ensures.wrong number (c.in-Err-done.is ∙ ap Err why) k
+    (ap (λ (x : Config). x.addresses) (sym c.config.view_is))
     (begins g.S.Store.content k _ _ _ c.new-log.ensures
     (subst IsConfig c.config.view_is c.config.invariant) c.client_of-client.ensures c.in-Ok.ensures)

@@ -18,10 +18,11 @@ answering config events turns run all =
 pub returns-clause-gets : goal.returns-clause-gets
 returns-clause-gets c config events turns run legal all =
     gets_held config legal.range (entries_of turns) (lawful config events turns run legal)
-    (formats_in turns run.made legal.events) (λ x h. in_range x turns run.made legal.events h)
+    (formats_in config.addresses turns run.made legal.events) (λ x h. in_range config.addresses x turns run.made
+    legal.events h)
     (answering config events turns run all)
 
 pub returns-clause-changes : goal.returns-clause-changes
 returns-clause-changes c config events turns run legal all =
     changes_answered config legal.range (entries_of turns) (lawful config events turns run legal)
-    (λ x h. in_range x turns run.made legal.events h) (answering config events turns run all)
+    (λ x h. in_range config.addresses x turns run.made legal.events h) (answering config events turns run all)

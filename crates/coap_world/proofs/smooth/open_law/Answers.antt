@@ -1,4 +1,3 @@
-use Rattle.coap_world.specs.Events.{client_end, server_end}
 use Rattle.coap_world.specs.Hops.{hops_of}
 use Rattle.coap_world.specs.Record.{entries_of, client_of}
 use Rattle.coap_world.proofs.Delivery.HopsAreAChannel as joined
@@ -11,7 +10,7 @@ use Rattle.coap_world.proofs.Smoothly.FewArrive.{few_arrive}
 use Rattle.coap_world.proofs.Smoothly.IdsFree.{has_ids, few_told}
 use Rattle.coap_world.proofs.Smoothly.NoTimeout.{no_timeouts}
 use Rattle.coap_world.proofs.Smoothly.SeparateEnds.{separate_ends}
-use Rattle.coap_world.proofs.Smoothly.Standing.{stands, record_of}
+use Rattle.coap_world.proofs.Smoothly.Standing.{stands, legal_of, record_of}
 use Rattle.coap_world.proofs.Smoothly.TicksAnswer.{ticks_answer}
 use Rattle.coap_world.proofs.Smoothly.TicksInTime.{ticks_in_time}
 use Rattle.coap_world.proofs.Smoothly.TicksLeave.{ticks_leave}
@@ -59,10 +58,11 @@ returns-clause-by_answers c config events turns run legal smooth none young =
     by_answers config (open_within config.delays smooth.delays) turns s young
     (no_timeouts config (laws (goal.at.returns-clause-by_answers c).After-server_law)
     c.client_exchanges_law.ensures.ends_in_time turns (goes_in config events turns run legal smooth) none)
-    (c.client_exchanges_law.ensures.ends_in_time server_end config.client_sizes config.client_setup
+    (c.client_exchanges_law.ensures.ends_in_time config.addresses.server config.client_sizes config.client_setup
     (client_of (entries_of turns)) run.client)
-    (c.channel_law.ensures.resets config.client_setup config.server_setup client_end server_end
-    (hops_of config turns) (joined.channel config _ turns (record_of config turns s) s.legal))
+    (c.channel_law.ensures.resets config.client_setup config.server_setup config.addresses.client
+    config.addresses.server
+    (hops_of config turns) (joined.channel config _ turns (record_of config turns s) (legal_of config turns s)))
 
 pub returns-clause-at_once : goal.returns-clause-at_once
 returns-clause-at_once c config events turns run legal smooth none =
@@ -87,12 +87,14 @@ pub returns-clause-leaves : goal.returns-clause-leaves
 returns-clause-leaves c config events turns run legal = ticks_leave config turns run.made run.server
 
 pub returns-clause-often : goal.returns-clause-often
-returns-clause-often c config events turns run legal smooth = ticks_in_time turns legal.events smooth.goes
+returns-clause-often c config events turns run legal smooth = ticks_in_time config.addresses turns legal.events
+    smooth.goes
 
 pub returns-clause-ids : goal.returns-clause-ids
 returns-clause-ids c config events turns run legal smooth told none =
     let goes = goes_in config events turns run legal smooth in
-    let observed = c.client_values_law.ensures.of_observations server_end config.client_sizes config.client_setup
+    let observed = c.client_values_law.ensures.of_observations config.addresses.server config.client_sizes
+    config.client_setup
     (client_of (entries_of turns)) run.client in
     has_ids config (λ t. c.server_law.ensures.observers config.limits config.server_szx t)
     (λ t law. c.answerer_law.ensures.id_free config.server_setup t law) turns goes observed none

@@ -5,7 +5,8 @@ use Rattle.coap_world.proofs.smooth.received_law.Goals as goal
 
 pub returns : goal.returns
 returns c = record {
-  close = λ config events turns made legal smooth. are_close turns legal.events smooth.goes;
-  prompt = λ config events turns made legal smooth. all_prompt turns made.made legal.events smooth.goes;
-  received = λ config events turns made legal. are_received config events turns made legal.events;
+  close = λ config events turns made legal smooth. are_close config.addresses turns legal.events smooth.goes;
+  prompt = λ config events turns made legal smooth. all_prompt config.addresses legal.range.addresses.two turns
+      made.made legal.events smooth.goes;
+  received = λ config events turns made legal. are_received config events turns made legal;
 }

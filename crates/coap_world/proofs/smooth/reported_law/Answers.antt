@@ -13,7 +13,7 @@ returns c = record {
       (let k : Answering config (client_of (entries_of turns)) =
       record { law = run.client; by_answers = all.by_answers; all_sent = all.all_sent; none_taken = all.none } in
       let changes = changes_answered config legal.range (entries_of turns) (lawful config events turns run legal)
-      (λ x h. in_range x turns run.made legal.events h) k in
+      (λ x h. in_range config.addresses x turns run.made legal.events h) k in
       each_reported config c.client_law.ensures.answered turns (stands config events turns run legal smooth) young
       (quiet config (entries_of turns) k changes));
 }

@@ -1,4 +1,3 @@
-use Rattle.coap_world.specs.Events.{server_end}
 use Rattle.coap_world.specs.Record.{client_of, entries_of}
 use Rattle.coap_world.proofs.Smoothly.AllSent.{all_sent}
 use Rattle.coap_world.proofs.smooth.sent_law.Goals as goal
@@ -7,8 +6,9 @@ pub returns : goal.returns
 returns c = record {
   all = λ config events turns run legal smooth none.
       all_sent config events turns run legal smooth none
-      (c.client_follows_law.ensures.own_tokens server_end config.client_sizes config.client_setup)
-      (c.client_follows_law.ensures.calls_alone server_end config.client_sizes config.client_setup)
-      (c.client_exchanges_law.ensures.sent_where_answered server_end config.client_sizes config.client_setup
+      (c.client_follows_law.ensures.own_tokens config.addresses.server config.client_sizes config.client_setup)
+      (c.client_follows_law.ensures.calls_alone config.addresses.server config.client_sizes config.client_setup)
+      (c.client_exchanges_law.ensures.sent_where_answered config.addresses.server config.client_sizes
+      config.client_setup
       (client_of (entries_of turns)) run.client);
 }

@@ -1,7 +1,7 @@
 use Rattle.std.proofs.Common.{◌≤◌, List}
 use Rattle.coap_client.specs.Follows.OfObservations.{Observed}
 use Rattle.coap_world.specs.Current.{Alone, FitsABlock}
-use Rattle.coap_world.specs.Events.{server_end, Config, Event}
+use Rattle.coap_world.specs.Events.{Config, Event}
 use Rattle.coap_world.specs.Legal.{Legal}
 use Rattle.coap_world.specs.Record.{Turn, RecordOf, client_of, entries_of}
 use Rattle.coap_world.proofs.Reports.FormatsSet.{formats_in}
@@ -28,7 +28,7 @@ shows_in : (config : Config) (events : List Event) (turns : List Turn) (run : Re
 shows_in config events turns run legal x limit alone fits =
     record {
       law = lawful config events turns run legal;
-      formats = formats_in turns run.made legal.events;
+      formats = formats_in config.addresses turns run.made legal.events;
       fits = fits;
       alone = alone;
     }
@@ -119,7 +119,7 @@ returns-clause-there c config events turns run legal smooth x alone =
         few_server = smooth.smooth.few_to_server;
       };
       law = lawful config events turns run legal;
-      formats = formats_in turns run.made legal.events;
+      formats = formats_in config.addresses turns run.made legal.events;
       alone = alone;
       of_it = returns-clause-of_it c config events turns run legal smooth x alone;
       served = served_for config x (entries_of turns)
@@ -162,8 +162,9 @@ returns-clause-current c config events turns run legal smooth x alone fits limit
       of_it = λ us r. returns-clause-of_it c config _ us r.run r.legal r.smooth x;
       requests = λ us r. returns-clause-requests c config _ us r.run r.legal r.smooth x;
       notices = λ us r. returns-clause-notices c config _ us r.run r.legal r.smooth x;
-      sent = λ t law alone s sent. (sent_for_it server_end config.client_sizes config.client_setup x t law alone s sent).for_it;
-      none_fetched = λ t law all. c.client_watches_law.ensures.none_fetched server_end config.client_sizes
+      sent = λ t law alone s sent. (sent_for_it config.addresses.server config.client_sizes config.client_setup x t law
+          alone s sent).for_it;
+      none_fetched = λ t law all. c.client_watches_law.ensures.none_fetched config.addresses.server config.client_sizes
           config.client_setup t law x.number all;
       shown = λ us r. returns-clause-shows c config _ us r.run r.legal x;
       have_all = λ us r. returns-clause-have_all c config _ us r.run r.legal x;

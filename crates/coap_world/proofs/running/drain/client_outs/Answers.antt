@@ -9,5 +9,7 @@ use Rattle.coap_world.proofs.running.drain.client_outs.Goals as goal
 
 pub outs-preserved : goal.outs-preserved
 outs-preserved g c =
-    out_more ClientLed OfClient of_client c.args.at.0 NextOut c.in-Some.datagram _ _ _ _ _ _ c.outs.invariant
-    (client_out c.args.at.0 c.in-Some.datagram c.outs.end _ _ _ c.in-Some.ensures.step refl c.in_ok-give.ensures)
+    out_more c.args.addresses ClientLed OfClient of_client c.args.at.0 NextOut c.in-Some.datagram _ _ _ _ _ _
+    c.outs.invariant
+    (client_out c.args.addresses c.args.at.0 c.in-Some.datagram c.outs.end _ _ _ c.in-Some.ensures.step refl
+    c.in_ok-give.ensures)

@@ -10,5 +10,5 @@ abbrev pub decreases-outs : goal.decreases-outs
 decreases-outs g l = length l.end.client.layer.layer.queue
 
 abbrev pub invariant-outs : goal.invariant-outs
-invariant-outs g l = (taken : List _) × Acts ClientLed OfClient of_client l.fn.at.0
+invariant-outs g l = (taken : List _) × Acts l.addresses ClientLed OfClient of_client l.fn.at.0
     (map (λ p. NextOut (Some p)) taken) l.initial.end l.initial.log l.end l.log

@@ -5,12 +5,17 @@ use Rattle.coap_world.specs.Record.{OfClient}
 use Rattle.coap_world.specs.Run.Ends.{ClientLed}
 use Rattle.coap_world.specs.Run.Turning.{of_client}
 use Rattle.coap_world.proofs.Recording.Acting.{out_more}
-use Rattle.coap_world.proofs.Recording.Asking.{client_report}
+use Rattle.coap_world.proofs.Recording.Asking.{client_report, client_reports_end}
 use Rattle.coap_world.proofs.running.drain.client_reports.Goals as goal
 
 pub reports-preserved : goal.reports-preserved
-reports-preserved g c =
-    out_more ClientLed OfClient of_client c.args.at.0 NextReport
-    (shown_reported c.in-Some.told) _ _ _ _ _ _ c.reports.invariant
-    (client_report c.args.at.0 (shown_reported c.in-Some.told) c.reports.end _ _ _ c.in-Some.ensures.step refl
+reports-preserved g c = λ addresses.
+    out_more addresses ClientLed OfClient of_client c.args.at.0 NextReport
+    (shown_reported c.in-Some.told) _ _ _ _ _ _ (c.reports.invariant addresses)
+    (client_report addresses c.args.at.0 (shown_reported c.in-Some.told) c.reports.end _ _ _ c.in-Some.ensures.step refl
     c.in_ok-report.ensures)
+
+pub returns : goal.returns
+returns g c = λ addresses.
+    client_reports_end addresses c.args.at.0 c.args.end.now c.reports.end _ c.args.log.now c.reports.log
+    (c.reports.invariant addresses) c.in_default.ensures.step refl

@@ -5,5 +5,6 @@ use Rattle.coap_world.proofs.running.drain.finish_server.Goals as goal
 
 pub returns : goal.returns
 returns g c = λ sender.
-    server_ends (ServerLed g.S.Store.content) (server_lines sender) c.args.at.0 c.args.refused _ _ _ _ _
+    server_ends c.args.addresses (ServerLed g.S.Store.content) (server_lines c.args.addresses sender) c.args.at.0
+    c.args.refused _ _ _ _ _
     (c.in_ok-server_outs.ensures sender) c.in_ok-end.ensures

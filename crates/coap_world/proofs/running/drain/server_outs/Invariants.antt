@@ -12,5 +12,5 @@ decreases-outs g l = length l.end.server.exchanges.layer.queue
 abbrev pub invariant-outs : goal.invariant-outs
 invariant-outs g l =
     (sender : List ℕ → Option ℕ) → (taken : List _)
-    × Acts (ServerLed g.S.Store.content) OfServer (server_lines sender) l.fn.at.0
+    × Acts l.addresses (ServerLed g.S.Store.content) OfServer (server_lines l.addresses sender) l.fn.at.0
     (map (λ p. NextOut (Some p)) taken) l.initial.end l.initial.log l.end l.log

@@ -5,15 +5,17 @@ use Rattle.coap_world.proofs.Recording.Serving.{server_set, server_not_set}
 use Rattle.coap_world.proofs.running.inputs.set_server.Goals as goal
 
 pub returns-in-Err : goal.returns-in-Err
-returns-in-Err g c = λ sender.
-    server_not_set g.S.Store.content sender c.args.at.0 c.args.path.now c.args.format c.args.body.now c.in-Err.field-0
+returns-in-Err g c = λ addresses sender.
+    server_not_set addresses g.S.Store.content sender c.args.at.0 c.args.path.now c.args.format c.args.body.now
+    c.in-Err.field-0
     c.set-answer.result c.args.end.now _ c.args.log.now _ c.in-Err.is
     (c.set-answer.ensures.step (c.store_lacks_memory.ensures.no c.if-store_lacks_memory.false)) c.in_ok-note.ensures
     refl
 
 pub returns : goal.returns
-returns g c = λ sender.
-    server_set g.S.Store.content sender c.args.at.0 c.args.path.now c.args.format c.args.body.now c.in-Ok.version
+returns g c = λ addresses sender.
+    server_set addresses g.S.Store.content sender c.args.at.0 c.args.path.now c.args.format c.args.body.now
+    c.in-Ok.version
     c.set-answer.result c.args.end.now
     (record { server = c.set-answer.new.self; version = c.args.end.now.version }) _ c.args.log.now c.note.new.self _
     c.in-Ok.is

@@ -4,11 +4,13 @@ use Rattle.coap_world.proofs.running.inputs.tell_fed.Goals as goal
 
 pub returns-then-refused : goal.returns-then-refused
 returns-then-refused g c = λ before at word from bytes is.
-    untold_if g.S.Store.content (sender_in c.args.senders.now) at word from bytes c.args.refused before _ _
+    untold_if c.args.addresses g.S.Store.content (sender_in c.args.senders.now) at word from bytes c.args.refused before
+    _ _
     c.if-refused.true is
 
 pub returns : goal.returns
 returns g c = λ before at word from bytes is.
-    told_if g.S.Store.content (sender_in c.args.senders.now) at word from bytes c.args.refused before c.args.end.now _ _
+    told_if c.args.addresses g.S.Store.content (sender_in c.args.senders.now) at word from bytes c.args.refused before
+    c.args.end.now _ _
     _ c.if-refused.false is
     c.in_ok-tell.ensures.same c.in_ok-tell.ensures.told c.in_ok-tell.ensures.version

@@ -11,5 +11,6 @@ abbrev pub decreases-ticks : goal.decreases-ticks
 decreases-ticks g l = work (state_of g.S.Store.content l.end.server) l.at.0
 
 abbrev pub invariant-ticks : goal.invariant-ticks
-invariant-ticks g l = TicksSo (ServerLed g.S.Store.content) OfServer (server_lines (sender_in l.fn.senders)) l.at.0
+invariant-ticks g l = TicksSo l.addresses (ServerLed g.S.Store.content) OfServer
+    (server_lines l.addresses (sender_in l.fn.senders)) l.at.0
     (ServerTick l.at.0 l.word) l.initial.end l.initial.log l.end l.log

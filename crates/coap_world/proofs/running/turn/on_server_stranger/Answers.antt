@@ -4,7 +4,8 @@ use Rattle.coap_world.proofs.running.turn.on_server_stranger.Goals as goal
 
 pub returns : goal.returns
 returns g c =
-    server_met g.S.Store.content (sender_in c.args.senders.now) c.args.when.at.0 c.args.when.word _ _ _ _ _ _ _
+    server_met c.args.when.addresses g.S.Store.content (sender_in c.args.senders.now) c.args.when.at.0 c.args.when.word
+    _ _ _ _ _ _ _
     c.in_ok-note.ensures _ _ _
     (c.in_ok-tell_fed.ensures _ c.args.when.at.0 c.args.when.word c.args.from c.args.bytes.now
     c.feed_server-refused.ensures) (c.in_ok-finish_server.ensures (sender_in c.args.senders.now))

@@ -3,5 +3,6 @@ use Rattle.coap_world.proofs.running.turn.on_set.Goals as goal
 
 pub returns : goal.returns
 returns g c = λ sender past.
-    was_set g.S.Store.content sender c.args.when.at.0 c.args.when.word _ _ _ _ _ _ _ c.in_ok-note.ensures _ _ _ _
-    (c.in_ok-refused.ensures sender) (c.in_ok-finish_server.ensures sender) past
+    was_set c.args.when.addresses g.S.Store.content sender c.args.when.at.0 c.args.when.word _ _ _ _ _ _ _
+    c.in_ok-note.ensures _ _ _ _
+    (c.in_ok-refused.ensures c.args.when.addresses sender) (c.in_ok-finish_server.ensures sender) past
