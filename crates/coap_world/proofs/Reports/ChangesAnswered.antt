@@ -32,7 +32,7 @@ use Rattle.coap_world.proofs.Reports.Answered.{all_answered}
 use Rattle.coap_world.proofs.Reports.ByAnswer.{Answering, answering_back, by_answer, heard_so}
 use Rattle.coap_world.proofs.Reports.Located.{LaterAll}
 use Rattle.coap_world.proofs.Reports.NoneBad.{changes_of, none_bad}
-use Rattle.coap_world.proofs.Reports.OnceDone.{applies_in}
+use Rattle.coap_world.proofs.Reports.OnceDone.{applied_since, applies_in}
 use Rattle.coap_world.proofs.Reports.Understood.{heard_understood}
 use Rattle.coap_world.proofs.Requests.LastRequests.{of_call_at}
 use Rattle.coap_world.proofs.Requests.OfACall.{Lawful, lawful_back, later_back}
@@ -157,8 +157,9 @@ module _ (config : Config) (range : IsConfig config) (all : List Entry) (whole :
           made = answered;
           says = says_code h.message h.transfer none_fetched none_bad_block report
               (by_answer config (client_of w) c k number report made) h.may;
-          applied = λ success. applies_in config number all range.client_szx whole in_range h.message h.sending
-              (before.0 h.sending h.sent) h.of h.token success w before earlier answered;
+          applied = λ success. applied_since config number all range.client_szx whole in_range h.message.code w
+              (applies_in config number all range.client_szx whole in_range h.message h.sending
+              (before.0 h.sending h.sent) h.of h.token success w before earlier answered);
         }
 
     changes_in : (t : List Entry) → Later t → Lawful config t → Answering config (client_of t) → (report : Report) (r : R.Request)
