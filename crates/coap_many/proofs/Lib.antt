@@ -1,0 +1,17 @@
+pub mod Entries
+pub mod Numbers
+pub mod Seen
+pub mod Views
+pub mod Clocked
+pub mod Positions
+pub mod Told
+pub mod Pointed
+pub mod Owned
+pub mod RealTime
+pub mod Versions
+pub mod OneWinner
+pub mod OneMaker
+pub mod NeverBack
+pub mod Goes
+pub mod Begins
+pub mod FailedAnswers
