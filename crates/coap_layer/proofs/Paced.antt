@@ -8,3 +8,4 @@ pub mod AcksAreReplies
 pub mod RepliedOnce
 pub mod ResetsAreReplies
 pub mod AtAnyTime
+pub mod AtOneClock

@@ -1,6 +1,6 @@
--- Two layers, and the datagrams between them (RFC 7252, sections 4.2 to 4.5). None arrives later than MAX_LATENCY after
--- it was sent (section 4.8.2).
-use Rattle.coap_layer.specs.Trace.{Setup}
+-- Two layers, and the datagrams between them, in the words of one clock (RFC 7252, sections 4.2 to 4.5). None arrives
+-- later than MAX_LATENCY after it was sent (section 4.8.2). `Paced` says what they do, each by its own clock, and
+-- `OneClock` what two do that have one.
 use Rattle.std.specs.Prelude.{◌≡◌, ◌⊎◌, ◌≤◌, ℕ, ◌+◌, true, Some, None, List, [], ◌∷◌}
 use Rattle.coap_types.specs.Past.{Ever, Sometime, Always, Since}
 use Rattle.coap_types.specs.declared.endpoint.Endpoint.{Endpoint}
@@ -8,7 +8,6 @@ use Rattle.coap_types.specs.declared.message.Kind.TheVariants.{Con, Non, Ack, Rs
 use Rattle.coap_codec.specs.Message.{Message, Spells}
 use Rattle.coap_layer.specs.Trace.{Receive, Reply, Response, Acked, Answer, Becomes, Entry}
 use Rattle.coap_layer.specs.Words.{Incoming, handed, taken, hands_up, Open, begun, outstanding}
-use Rattle.coap_layer.specs.Rows.{LayerLaw}
 use Rattle.coap_layer.specs.Sends.{IsIn, PlainOut, GoesOut}
 use Rattle.coap_types.specs.declared.transmission.TheConstants.{LAST_ARRIVAL_MS as last_arrival}
 use Rattle.coap_types.specs.declared.transmission.TheConstants.{MAX_LATENCY_MS as max_latency}
@@ -42,13 +41,6 @@ pub record GaveOut (to : Endpoint) (bytes : List ℕ) (when : ℕ) (e : Entry) :
   pub from : e.at ≤ when
   pub till : when ≤ e.at + max_latency
 
--- what comes from the other's address was sent by it, once or more often, or never arrives
-abbrev pub IsFair : Endpoint → Endpoint → List Hop → Hop → Type 0
-IsFair near far past (Near e) =
-    (bytes : List ℕ) → e.call ≡ Receive far bytes → Ever (OnFar (GaveOut near bytes e.at)) past
-IsFair near far past (Far e) =
-    (bytes : List ℕ) → e.call ≡ Receive near bytes → Ever (OnNear (GaveOut far bytes e.at)) past
-
 -- the message that was handed up last, at this moment
 abbrev pub IsLatest : List Entry → ℕ → Incoming → Type 0
 IsLatest past at m = Since (λ h. (handed h ≡ Some m) × (h.at ≡ at)) (λ h. handed h ≡ None) past
@@ -66,14 +58,6 @@ pub record RepliesAtOnce (past : List Entry) (at id : ℕ) (bytes : List ℕ) : 
 abbrev pub RepliesSo : List Entry → Entry → Type 0
 RepliesSo past e =
     (to : Endpoint) (id : ℕ) (bytes : List ℕ) → e.call ≡ Reply to id bytes → RepliesAtOnce past e.at id bytes
-
--- the layers that began with these words, what went between them, and how each replies
-pub record ChannelLaw (one other : Setup) (near far : Endpoint) (all : List Hop) : Type 0 where
-  pub near_law : LayerLaw one (near_of all)
-  pub far_law : LayerLaw other (far_of all)
-  pub near_replies : Always RepliesSo (near_of all)
-  pub far_replies : Always RepliesSo (far_of all)
-  pub fair : Always (IsFair near far) all
 
 -- the CON or NON that is handed up arrived in these bytes; a CON is remembered
 pub record HandedBy (e : Entry) (m : Incoming) : Type 0 where
@@ -150,12 +134,6 @@ pub record Takes (near : Endpoint) (con : Open) (e : Entry) : Type 0 where
   pub from : con.first ≤ e.at
   pub till : e.at ≤ con.first + last_arrival
 
--- An acknowledgement says that the other layer has taken that very CON.
-abbrev pub AcksTaken : Endpoint → Endpoint → List Hop → Type 0
-AcksTaken near far all =
-    Always (λ past e. (x : Entry) (con : Open) → e ≡ Near x → con.to ≡ far → HearsAck con (near_of past) x
-    → Ever (OnFar (Takes near con)) past) all
-
 -- these bytes are given as the reply to this very CON, at the moment at which it is handed up
 pub record RepliesTo (near : Endpoint) (con : Open) (bytes : List ℕ) (past : List Entry) (e : Entry) : Type 0 where
   pub call : e.call ≡ Reply near con.id bytes
@@ -170,29 +148,3 @@ abbrev pub AcksReplied : Endpoint → Endpoint → List Hop → Type 0
 AcksReplied near far all =
     Always (λ past e. (x : Entry) (con : Open) → e ≡ Near x → con.to ≡ far → (h : HearsAck con (near_of past) x)
     → Sometime (OnFarThen (RepliesTo near con h.bytes)) past) all
-
--- a message from there with the CON's Message ID is handed up, while the CON can arrive
-pub record HandsUpAs (near : Endpoint) (con : Open) (e : Entry) : Type 0 where
-  pub message : Incoming
-  pub up : handed e ≡ Some message
-  pub from_is : message.from ≡ near
-  pub id_is : message.message.id ≡ con.id
-  pub from : con.first ≤ e.at
-  pub till : e.at ≤ con.first + last_arrival
-
--- What was taken is not handed up again: LAST_ARRIVAL_MS is less than EXCHANGE_LIFETIME (section 4.8.2).
-abbrev pub TakenOnce : Endpoint → List Hop → Type 0
-TakenOnce near all =
-    (con : Open) → Always (λ past e. OnFar (HandsUpAs near con) e → Ever (OnFar (Takes near con)) past → ⊥) all
-
--- What is handed up with a CON's Message ID, while the CON can arrive, is that very CON, and is remembered.
-abbrev pub OnlyThatCon : Endpoint → Endpoint → List Hop → Type 0
-OnlyThatCon near far all =
-    (con : Open) → Ever (λ b. begun b ≡ Some con) (near_of all)
-    → Always (λ past e. OnFar (HandsUpAs near con) e → OnFar (Takes near con) e) all
-
--- So a CON is handed up at most once.
-abbrev pub HandedOnce : Endpoint → List Hop → Type 0
-HandedOnce near all =
-    (con : Open) → Ever (λ b. begun b ≡ Some con) (near_of all)
-    → Always (λ past e. OnFar (HandsUpAs near con) e → Ever (OnFar (HandsUpAs near con)) past → ⊥) all

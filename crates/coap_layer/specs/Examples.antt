@@ -8,7 +8,8 @@ use Rattle.coap_layer.specs.Trace.{Expired, Entry, Setup}
 use Rattle.coap_layer.specs.Words.{Open}
 use Rattle.coap_layer.specs.Rows.{LayerLaw}
 use Rattle.coap_layer.specs.Sends.{AtLeast, SendsIt}
-use Rattle.coap_layer.specs.Channel.{Hop, Near, OnFar, near_of, ChannelLaw, HearsAck, Takes}
+use Rattle.coap_layer.specs.Channel.{Hop, Near, OnFar, near_of, HearsAck, Takes}
+use Rattle.coap_layer.specs.OneClock.{ChannelLaw}
 
 -- how the layers of the examples began
 abbrev pub began : Setup

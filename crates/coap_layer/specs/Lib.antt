@@ -10,9 +10,9 @@ pub mod Sendable
 pub mod Sends
 pub mod Channel
 pub mod Clocks
-pub mod Apart
 pub mod Taking
 pub mod Paced
+pub mod OneClock
 pub mod Rested
 pub mod AtAnyTime
 pub mod Examples

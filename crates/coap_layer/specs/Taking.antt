@@ -12,6 +12,7 @@ use Rattle.coap_types.specs.declared.transmission.TheConstants.{MAX_LATENCY_MS a
 use Rattle.coap_codec.specs.Message.{Message, Spells}
 use Rattle.coap_codec.specs.Spelling.{message_bytes}
 use Rattle.coap_layer.specs.Channel.{Hop, Near, Far, near_of, far_of, OnNear, OnFar, OnFarThen, Takes, RepliesTo}
+use Rattle.coap_layer.specs.Clocks.{max_gain}
 use Rattle.coap_layer.specs.Ids.{Issued, Withholds}
 use Rattle.coap_layer.specs.Rows.{Outstanding}
 use Rattle.coap_layer.specs.Sends.{IsIn, IsOpen}
@@ -149,13 +150,13 @@ pub record TakesAcks (past : List Entry) (e : Entry) : Type 0 where
 abbrev pub AllTakeAcks : List Entry → Type 0
 AllTakeAcks t = Always TakesAcks t
 
--- a Reset of this CON is taken while it is outstanding, and no later than its Message ID may be given again
+-- a Reset of this CON is taken while it is outstanding, and max_gain before its Message ID may be given again at the latest
 pub record HearsReset (con : Open) (past : List Entry) (e : Entry) : Type 0 where
   pub is_outstanding : IsIn con (outstanding past)
   pub bytes : List ℕ
   pub call : e.call ≡ Receive con.to bytes
   pub answer : e.answer ≡ Becomes (Reset con.id)
-  pub young : e.at ≤ con.first + id_reuse_after
+  pub young : e.at + max_gain ≤ con.first + id_reuse_after
 
 -- Where the CON carries a request or a response, the Reset is the very reply that the other layer was given to it.
 abbrev pub ResetsMeant : Endpoint → Endpoint → List Hop → Type 0

@@ -8,12 +8,12 @@ ghost use Rattle.coap_layer.specs.Rested.{RestedSince};
 ghost use Rattle.coap_layer.specs.Follows.{HandedUpOnce, CopiesInTime, IdsApart, OneOutstanding, EndsOutstanding};
 ghost use Rattle.coap_layer.specs.Follows.{IsExact, RemembersFew, IdsSmall, ResponsesSpelled};
 ghost use Rattle.coap_types.specs.declared.endpoint.Endpoint.{Endpoint};
-ghost use Rattle.coap_layer.specs.Channel.{Hop, ChannelLaw, HandedAsSpelled, AcksHeard, ArrivesAsSent, ConsBegun};
-ghost use Rattle.coap_layer.specs.Channel.{NonsSent, OnlyThatCon, HandedOnce, AcksReplied, AcksTaken, TakenOnce};
+ghost use Rattle.coap_layer.specs.Channel.{Hop, HandedAsSpelled, AcksHeard, ArrivesAsSent, ConsBegun};
+ghost use Rattle.coap_layer.specs.Channel.{NonsSent, AcksReplied};
+ghost use Rattle.coap_layer.specs.OneClock.{ChannelLaw};
 ghost use Rattle.coap_layer.specs.Words.{numbers};
 ghost use Rattle.coap_layer.specs.Taking.{AllTakeAcks, AreOver, ConsTaken, ConsTakenWithin, HeldIsMany, IdsAreFree};
 ghost use Rattle.coap_layer.specs.Taking.{NonsTaken, NonsTakenWithin, OverWithin, RepliedOnce, ResetsMeant};
-ghost use Rattle.coap_layer.specs.Apart.{ConsApart};
 ghost use Rattle.coap_layer.specs.Sends.{FiveAtMost, AllAlike, ConsSpelled, OneOpen, LastBegun, EachGoesOut, InOrder};
 ghost use Rattle.coap_layer.specs.Sends.{TakenSent, TakenSince};
 ghost use Rattle.coap_layer.specs.Machine.Steps.{Asked, Steps, entries};
@@ -102,9 +102,6 @@ pub fn channel_law()
     // A Non-confirmable message that arrives was sent at most MAX_LATENCY before (section 4.3).
     ensures plain { (one other : Setup) (near far : Endpoint) (all : List Hop) → ChannelLaw one other near far all
         → NonsSent near far all }
-    // What arrives under a Confirmable message's Message ID meanwhile is that very message (section 4.4).
-    ensures only { (one other : Setup) (near far : Endpoint) (all : List Hop) → ChannelLaw one other near far all
-        → OnlyThatCon near far all }
     // A Confirmable message that arrives where another can be remembered is taken, or was before (sections 4.2 and 4.5).
     ensures taking { (one other : Setup) (near far : Endpoint) (all : List Hop) → ChannelLaw one other near far all
         → ConsTaken other.remembered near all }
@@ -127,21 +124,9 @@ pub fn channel_law()
     // A Confirmable message is replied to once at most (section 4.2).
     ensures replied_once { (one other : Setup) (near far : Endpoint) (all : List Hop) → ChannelLaw one other near far all
         → RepliedOnce near all }
-    // It is handed up at most once.
-    ensures handed { (one other : Setup) (near far : Endpoint) (all : List Hop) → ChannelLaw one other near far all
-        → HandedOnce near all }
-    // A Confirmable message that was taken is not handed up again (sections 4.5 and 4.8.2).
-    ensures once { (one other : Setup) (near far : Endpoint) (all : List Hop) → ChannelLaw one other near far all
-        → TakenOnce near all }
-    // One that is taken, or too old to arrive, where a newer one begins isn't handed up behind that one (section 4.7).
-    ensures apart { (one other : Setup) (near far : Endpoint) (all : List Hop) → ChannelLaw one other near far all
-        → ConsApart near all }
     // An acknowledgement that is taken is the reply that was given to that very message, which was taken (section 4.2).
     ensures replied { (one other : Setup) (near far : Endpoint) (all : List Hop) → ChannelLaw one other near far all
         → AcksReplied near far all }
-    // An acknowledgement is taken only of a Confirmable message that the other layer has taken.
-    ensures taken { (one other : Setup) (near far : Endpoint) (all : List Hop) → ChannelLaw one other near far all
-        → AcksTaken near far all }
     // A Reset that is taken for a request or a response is the reply that was given to that very message (section 4.2).
     ensures resets { (one other : Setup) (near far : Endpoint) (all : List Hop) → ChannelLaw one other near far all
         → ResetsMeant near far all }

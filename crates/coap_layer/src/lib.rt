@@ -30,7 +30,9 @@ mod up;
 pub use content::Content;
 pub use datagram::Datagram;
 pub use empty::{ack, reset};
-pub use laws::{any_time_law, channel_law, layer_law, paced_channel_law, sendable_law, sending_law, witness_law};
+pub use laws::{
+    any_time_law, channel_law, layer_law, paced_channel_law, sendable_law, sending_law, witness_law,
+};
 pub use layer::Layer;
 pub use message_id::{IdSource, ids_law};
 pub use setup::Setup;

@@ -7,7 +7,7 @@ pub mod OneEndATurn
 pub mod AfterATurn
 pub mod ClientTurns
 pub mod ServerTurns
-pub mod HopsAreFair
+pub mod SentByTheLayer
 pub mod HopsAreAChannel
 pub mod ReportsAreTaken
 pub mod EntriesInTime

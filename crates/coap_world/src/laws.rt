@@ -5,7 +5,8 @@ ghost use Rattle.coap_types.specs.declared.transmission.TheConstants.{MAX_LATENC
 ghost use Rattle.coap_types.specs.declared.message.Kind.{Kind};
 ghost use Rattle.coap_types.specs.declared.message.Kind.TheVariants.{Ack};
 ghost use Rattle.coap_types.specs.declared.transmission.TheConstants.{MAX_TRANSMIT_WAIT_MS as max_transmit_wait};
-ghost use Rattle.coap_layer.specs.Channel.{ChannelLaw, near_of, far_of};
+ghost use Rattle.coap_layer.specs.Channel.{near_of, far_of};
+ghost use Rattle.coap_layer.specs.OneClock.{ChannelLaw};
 ghost use Rattle.coap_layer.specs.Clocks as layers;
 ghost use Rattle.coap_layer.specs.Paced as paced;
 ghost use Rattle.coap_client.specs.Law as clients;

@@ -8,7 +8,8 @@ use Rattle.coap_types.proofs.Facts.Traces.{Ever_map}
 use Rattle.coap_types.specs.declared.endpoint.Endpoint.{Endpoint}
 use Rattle.coap_types.specs.SameEndpoint.{same_endpoint}
 use Rattle.coap_types.specs.declared.transmission.TheConstants.{EXCHANGE_LIFETIME_MS as exchange_lifetime}
-use Rattle.coap_layer.specs.Channel.{Hop, Near, Far, near_of, far_of, OnFar, ChannelLaw, BegunAs, Takes}
+use Rattle.coap_layer.specs.Channel.{Hop, Near, Far, near_of, far_of, OnFar, BegunAs, Takes}
+use Rattle.coap_layer.specs.OneClock.{ChannelLaw}
 use Rattle.coap_layer.specs.Ids.{Issued, latest, NumbersLaw}
 use Rattle.coap_layer.specs.Machine.Calls.{IsBegun, IsTaken}
 use Rattle.coap_layer.specs.Rows.{LayerLaw}
@@ -19,11 +20,10 @@ use Rattle.coap_layer.specs.Trace.{Answer, Becomes, Nothing, Is, Sent, Busied, N
 use Rattle.coap_layer.specs.Words.{clock, Incoming, handed, hands_up, Open, begun, outstanding, issued, issued_by, numbers}
 use Rattle.coap_layer.proofs.Arrivals.HandedUpOnce.{taken_handed}
 use Rattle.coap_layer.proofs.Arrivals.RoomWhenFewCome.{more}
-use Rattle.coap_layer.proofs.Between.TakenOnce.{kept_by}
-use Rattle.coap_layer.proofs.Between.WhatArrivesWasSent.{begun_as}
+use Rattle.coap_layer.proofs.Between.WhatIsTaken.{kept_by}
 use Rattle.coap_layer.proofs.Copies.CopiesInTime.{one_outstanding}
 use Rattle.coap_layer.proofs.Copies.WhatIsOpen.{place_same}
-use Rattle.coap_layer.proofs.Facts.Hops.{earlier}
+use Rattle.coap_layer.proofs.Paced.AtOneClock.{earlier, begun_as}
 use Rattle.coap_layer.proofs.ListLemmas.{both}
 use Rattle.coap_layer.proofs.Machine.WhatIsIssued.{numbers_law}
 use Rattle.coap_layer.proofs.Numbers.HeldIsMany.{held_is_many}

@@ -13,8 +13,9 @@ use Rattle.coap_types.specs.declared.transmission.TheConstants.{ID_REUSE_AFTER_M
 use Rattle.coap_types.proofs.Facts.Traces.{Ever_map, Ever_by_law, forget}
 use Rattle.coap_codec.specs.Message.{Message, Spells}
 use Rattle.coap_codec.specs.Spelling.{message_bytes}
-use Rattle.coap_layer.specs.Channel.{Hop, Near, Far, near_of, far_of, OnNear, OnFar, OnFarThen, ChannelLaw, BegunAs}
+use Rattle.coap_layer.specs.Channel.{Hop, Near, Far, near_of, far_of, OnNear, OnFar, OnFarThen, BegunAs}
 use Rattle.coap_layer.specs.Channel.{HandedBy, PlainSent}
+use Rattle.coap_layer.specs.OneClock.{ChannelLaw}
 use Rattle.coap_layer.specs.Machine.Calls.{IsBegun, IsTaken}
 use Rattle.coap_layer.specs.Rows.{LayerLaw, Stands, Row, Sorts, Ignores, IsSpelled, Plains, ignores_non, ignores_reset}
 use Rattle.coap_layer.specs.Rows.{ignores_ack, ignores_unmatched, ignores_new, rejects, drops, takes_ack, takes_reset}
@@ -29,11 +30,11 @@ use Rattle.coap_layer.proofs.Arrivals.AcksAreTaken.{sorts_as}
 use Rattle.coap_layer.proofs.Arrivals.HandedAsSpelled.{handed_so}
 use Rattle.coap_layer.proofs.Arrivals.HandedUpOnce.{handed_up, taken_handed}
 use Rattle.coap_layer.proofs.Arrivals.RoomWhenFewCome.{has_room, few_before}
-use Rattle.coap_layer.proofs.Between.TakenOnce.{kept_by}
-use Rattle.coap_layer.proofs.Between.WhatArrivesWasSent.{begun_as, plain_sent}
+use Rattle.coap_layer.proofs.Between.WhatIsTaken.{kept_by}
 use Rattle.coap_layer.proofs.Between.WhatComesByType.{one_message}
 use Rattle.coap_layer.proofs.Copies.WhatIsOpen.{some_in}
-use Rattle.coap_layer.proofs.Facts.Hops.{earlier, near_later}
+use Rattle.coap_layer.proofs.Facts.Hops.{near_later}
+use Rattle.coap_layer.proofs.Paced.AtOneClock.{earlier, begun_as, plain_sent}
 use Rattle.coap_layer.proofs.Numbers.EqualIdsAreApart.{small}
 use Rattle.coap_layer.proofs.Numbers.OneEntryForAnId.{Numbers, one_entry, sent_number, no_plain, SendsPlain}
 

@@ -11,7 +11,8 @@ use Rattle.coap_types.specs.declared.endpoint.Endpoint.{Endpoint}
 use Rattle.coap_types.specs.declared.message.Kind.TheVariants.{Ack, Rst}
 use Rattle.coap_types.specs.declared.role.Role.TheVariants as role
 use Rattle.coap_types.specs.SameEndpoint.{same_endpoint}
-use Rattle.coap_layer.specs.Channel.{Hop, Near, Far, near_of, far_of, OnNear, OnFar, OnFarThen, ChannelLaw, Takes}
+use Rattle.coap_layer.specs.Channel.{Hop, Near, Far, near_of, far_of, OnNear, OnFar, OnFarThen, Takes}
+use Rattle.coap_layer.specs.OneClock.{ChannelLaw}
 use Rattle.coap_layer.specs.Machine.Calls.{IsBegun}
 use Rattle.coap_layer.specs.Rows.{LayerLaw, Row, Sorts, Ignores, Outstanding, ignores_non, ignores_reset, ignores_ack}
 use Rattle.coap_layer.specs.Rows.{ignores_unmatched, ignores_new, rejects, drops, takes_ack, takes_reset, takes_answer}
@@ -25,7 +26,8 @@ use Rattle.coap_layer.proofs.Between.IdsAreFree.{taken_begun}
 use Rattle.coap_layer.proofs.Copies.CopiesInTime.{in_filter_map, left_same}
 use Rattle.coap_layer.proofs.Copies.OverStays.{not_new, over}
 use Rattle.coap_layer.proofs.Copies.WhatIsOpen.{some_in, place_same}
-use Rattle.coap_layer.proofs.Facts.Hops.{earlier, near_later, near_more, to_far}
+use Rattle.coap_layer.proofs.Facts.Hops.{near_later, near_more, to_far}
+use Rattle.coap_layer.proofs.Paced.AtOneClock.{earlier}
 use Rattle.coap_layer.proofs.ListLemmas.{both}
 use Rattle.coap_layer.proofs.Out.EachGoesOut.{cons_spelled}
 

@@ -6,7 +6,8 @@ use Rattle.coap_types.specs.Past.{Ever, Always}
 use Rattle.coap_types.specs.declared.endpoint.Endpoint.{Endpoint}
 use Rattle.coap_types.specs.declared.transmission.TheConstants.{LAST_ARRIVAL_MS as last_arrival}
 use Rattle.coap_layer.specs.Channel.{Hop, Near, Far, near_of, far_of, OnNear, OnFar, OnFarThen}
-use Rattle.coap_layer.specs.Channel.{ChannelLaw, Takes}
+use Rattle.coap_layer.specs.Channel.{Takes}
+use Rattle.coap_layer.specs.OneClock.{ChannelLaw}
 use Rattle.coap_layer.specs.Machine.Calls.{IsBegun}
 use Rattle.coap_layer.specs.Rows.{LayerLaw}
 use Rattle.coap_layer.specs.Sends.{IsIn, packet_of, GoesAlike}
@@ -16,7 +17,7 @@ use Rattle.coap_layer.specs.Trace.{Entry}
 use Rattle.coap_layer.specs.Words.{clock, Open, begun}
 use Rattle.coap_layer.proofs.Arrivals.RoomWhenFewCome.{has_room, few_before}
 use Rattle.coap_layer.proofs.Between.TakenWhereRoom.{cons_taken}
-use Rattle.coap_layer.proofs.Facts.Hops.{earlier}
+use Rattle.coap_layer.proofs.Paced.AtOneClock.{earlier}
 use Rattle.coap_layer.proofs.Out.EachGoesOut.{all_alike}
 use Rattle.coap_layer.proofs.Numbers.OneEntryForAnId.{begins_of}
 

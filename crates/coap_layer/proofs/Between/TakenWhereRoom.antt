@@ -10,7 +10,8 @@ use Rattle.coap_types.specs.declared.role.Role.TheVariants as role
 use Rattle.coap_types.specs.declared.transmission.TheConstants.{LAST_ARRIVAL_MS as last_arrival}
 use Rattle.coap_codec.specs.Message.{Message}
 use Rattle.coap_layer.specs.Arrivals.{Whole}
-use Rattle.coap_layer.specs.Channel.{Hop, Near, Far, near_of, far_of, OnFar, OnFarThen, ChannelLaw, Takes}
+use Rattle.coap_layer.specs.Channel.{Hop, Near, Far, near_of, far_of, OnFar, OnFarThen, Takes}
+use Rattle.coap_layer.specs.OneClock.{ChannelLaw}
 use Rattle.coap_layer.specs.Machine.Calls.{IsBegun, IsTaken}
 use Rattle.coap_layer.specs.Rows.{LayerLaw, Row, Arrives, Sorts, Ignores, ignores_non, ignores_reset, ignores_ack}
 use Rattle.coap_layer.specs.Rows.{ignores_unmatched, ignores_new, rejects, drops, takes_ack, takes_reset, takes_answer}
@@ -22,11 +23,12 @@ use Rattle.coap_layer.specs.Words.{clock, Incoming, handed, handed_by, handed_in
 use Rattle.coap_layer.specs.Words.{remembered, Open}
 use Rattle.coap_layer.specs.Words as words
 use Rattle.coap_types.proofs.Facts.Traces.{Ever_by_law, forget}
+use Rattle.coap_layer.proofs.Between.WhatIsTaken.{kept_by}
+use Rattle.coap_layer.proofs.Facts.Hops.{near_later}
+use Rattle.coap_layer.proofs.Paced.AtOneClock.{earlier, takes_it}
 use Rattle.coap_layer.proofs.Arrivals.HandedUpOnce.{handed_up, taken_handed}
-use Rattle.coap_layer.proofs.Between.TakenOnce.{kept_by, takes_it}
 use Rattle.coap_layer.proofs.Between.WhatComesByType.{one_message}
 use Rattle.coap_layer.proofs.Facts.Arrivals.{one_arrival}
-use Rattle.coap_layer.proofs.Facts.Hops.{earlier, near_later}
 use Rattle.coap_layer.proofs.Out.EachGoesOut.{cons_spelled}
 
 -- a message of its class

@@ -1,11 +1,9 @@
 -- Two layers' traces, entry by entry.
-use Rattle.coap_layer.specs.Trace.{Setup}
 use Rattle.std.proofs.Common.{◌≡◌, inl, inr, List, [], ◌∷◌, ◌++◌, refl, ap, sym, ◌∙◌, subst}
-use Rattle.coap_types.specs.Past.{Ever, Always}
+use Rattle.coap_types.specs.Past.{Ever}
 use Rattle.coap_types.proofs.Facts.Traces.{Ever_back}
-use Rattle.coap_types.specs.declared.endpoint.Endpoint.{Endpoint}
 use Rattle.coap_layer.specs.Trace.{Entry}
-use Rattle.coap_layer.specs.Channel.{Hop, Near, Far, near_of, far_of, OnNear, OnFar, ChannelLaw}
+use Rattle.coap_layer.specs.Channel.{Hop, Near, Far, near_of, far_of, OnNear, OnFar}
 
 pub near_ever : (P : Entry → Type 0) (all : List Hop) → Ever (OnNear P) all → Ever P (near_of all)
 near_ever P [] h = h
@@ -37,28 +35,3 @@ pub near_later : (P : Entry → Type 0) (whole later r : List Hop) → whole ≡
     → Ever P (near_of whole)
 near_later P whole later r is h = subst (Ever P) (sym (ap near_of is ∙ near_more later r))
     (Ever_back P (near_of later) (near_of r) h)
-
--- the law holds of each past
-module _ (one other : Setup) (near far : Endpoint) where
-  pub earlier : (past : List Hop) (h : Hop) → ChannelLaw one other near far (h ∷ past)
-      → ChannelLaw one other near far past
-  earlier past (Near e) law = record {
-    near_law = law.near_law.1;
-    far_law = law.far_law;
-    near_replies = law.near_replies.1;
-    far_replies = law.far_replies;
-    fair = law.fair.1;
-  }
-  earlier past (Far e) law = record {
-    near_law = law.near_law;
-    far_law = law.far_law.1;
-    near_replies = law.near_replies;
-    far_replies = law.far_replies.1;
-    fair = law.fair.1;
-  }
-
-  pub each_hop : (C : List Hop → Hop → Type 0)
-      → ((past : List Hop) (h : Hop) → ChannelLaw one other near far (h ∷ past) → C past h) → (all : List Hop)
-      → ChannelLaw one other near far all → Always C all
-  each_hop C f [] law = tt
-  each_hop C f (h ∷ past) law = (f past h law, each_hop C f past (earlier past h law))

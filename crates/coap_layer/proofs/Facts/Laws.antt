@@ -9,24 +9,20 @@ use Rattle.coap_layer.specs.Ids.{Issued, upcoming}
 use Rattle.coap_layer.specs.Trace.{Receive, Entry}
 use Rattle.coap_layer.specs.Words.{Open, begun}
 use Rattle.coap_layer.specs.Rows.{LayerLaw}
-use Rattle.coap_layer.specs.Apart.{ConsApart}
 use Rattle.coap_layer.specs.Follows.{HandedUpOnce, CopiesInTime, OneOutstanding, ResponsesSpelled}
 use Rattle.coap_layer.specs.Sends.{Begins, ConsSpelled, SpellsCon, EachGoesOut, TakenSince}
-use Rattle.coap_layer.specs.Channel.{Hop, Far, near_of, HandedAsSpelled, AcksHeard, ChannelLaw, BegunAs, NonsSent}
-use Rattle.coap_layer.specs.Channel.{HandedOnce, AcksReplied, AcksTaken, OnlyThatCon}
+use Rattle.coap_layer.specs.Channel.{Hop, Far, near_of, HandedAsSpelled, AcksHeard, BegunAs, NonsSent}
+use Rattle.coap_layer.specs.OneClock.{ChannelLaw}
 use Rattle.coap_types.specs.declared.message.TheConstants.{MESSAGE_IDS as message_ids}
 use Rattle.coap_layer.proofs.Arrivals.ResponsesAreSpelled as responses
-use Rattle.coap_layer.proofs.Between.AcksAreReplies as acks
-use Rattle.coap_layer.proofs.Between.GoneIsNotBehind as gone
 use Rattle.coap_layer.proofs.Between.WhatComesByType as comes
 use Rattle.coap_layer.proofs.Copies.CopiesInTime as copies
 use Rattle.coap_layer.proofs.Arrivals.HandedAsSpelled as handed
-use Rattle.coap_layer.proofs.Between.WhatArrivesWasSent as hops
+use Rattle.coap_layer.proofs.Paced.AtOneClock as hops
 use Rattle.coap_layer.proofs.Numbers.EqualIdsAreApart as ids
 use Rattle.coap_layer.proofs.Numbers.OneEntryForAnId as numbered
 use Rattle.coap_layer.proofs.Out.InOrder as order
 use Rattle.coap_layer.proofs.Out.EachGoesOut as outs
-use Rattle.coap_layer.proofs.Between.TakenOnce as takings
 
 pub handed_up_once : (setup : Setup) (t : List Entry) → LayerLaw setup t → HandedUpOnce t
 handed_up_once = copies.handed_up_once
@@ -78,18 +74,3 @@ module _ (one other : Setup) (near far : Endpoint) where
 
   pub nons_sent : (all : List Hop) → ChannelLaw one other near far all → NonsSent near far all
   nons_sent = hops.nons_sent one other near far
-
-  pub handed_once : (all : List Hop) → ChannelLaw one other near far all → HandedOnce near all
-  handed_once = takings.handed_once one other near far
-
-  pub only_that_con : (all : List Hop) → ChannelLaw one other near far all → OnlyThatCon near far all
-  only_that_con = takings.only_that_con one other near far
-
-  pub cons_apart : (all : List Hop) → ChannelLaw one other near far all → ConsApart near all
-  cons_apart = gone.cons_apart one other near far
-
-  pub acks_replied : (all : List Hop) → ChannelLaw one other near far all → AcksReplied near far all
-  acks_replied = acks.acks_replied one other near far
-
-  pub acks_taken : (all : List Hop) → ChannelLaw one other near far all → AcksTaken near far all
-  acks_taken = acks.acks_taken one other near far

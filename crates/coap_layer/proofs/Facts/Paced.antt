@@ -6,7 +6,8 @@ use Rattle.coap_types.specs.declared.message.Kind.TheVariants.{Con}
 use Rattle.coap_types.specs.declared.transmission.TheConstants.{EXCHANGE_LIFETIME_MS as exchange_lifetime}
 use Rattle.coap_codec.specs.Message.{Message, Spells}
 use Rattle.coap_layer.specs.Channel.{Hop, Far, near_of, BegunAs}
-use Rattle.coap_layer.specs.Clocks.{Clocks, turned, max_gain, KeepPace}
+use Rattle.coap_layer.specs.Clocks.{Clocks, turned, one_clock, max_gain, KeepPace}
+use Rattle.coap_layer.specs.OneClock as single
 use Rattle.coap_layer.specs.Paced.{Meanwhile, CanArrive, ChannelLaw, ArrivesAsSent, NonsSent, HandedOnce, OnlyThatCon, ConsApart}
 use Rattle.coap_layer.specs.Paced.{AcksReplied, AcksTaken, AcksLately, AcksBehind}
 use Rattle.coap_layer.specs.Rested.{RestedSince}
@@ -15,6 +16,7 @@ use Rattle.coap_layer.specs.Trace.{Setup, Receive, Entry}
 use Rattle.coap_layer.specs.Words.{clock, Open, begun}
 use Rattle.coap_layer.proofs.Copies.RestedSince as rested
 use Rattle.coap_layer.proofs.Paced.AcksAreReplies as acks
+use Rattle.coap_layer.proofs.Paced.AtOneClock as once
 use Rattle.coap_layer.proofs.Paced.Facts as facts
 use Rattle.coap_layer.proofs.Paced.Gaps as gaps
 use Rattle.coap_layer.proofs.Paced.GoneIsNotBehind as gone
@@ -43,6 +45,20 @@ rested_since = rested.rested_since
 
 pub pace_turned : (c : Clocks) → KeepPace c → KeepPace (turned c)
 pace_turned = gaps.pace_turned
+
+-- by one clock
+
+pub at_once : (at : ℕ) (past : List Entry) (P : ℕ → Type 0) → Meanwhile one_clock at past P → P at
+at_once = facts.at_once
+
+pub once_earlier : (here other : Setup) (near far : Endpoint) (past : List Hop) (h : Hop)
+    → single.ChannelLaw here other near far (h ∷ past) → single.ChannelLaw here other near far past
+once_earlier = facts.earlier one_clock
+
+-- two clocks that show the same are one
+pub by_one : (c : Clocks) → ((i : ℕ) → c.near i ≡ c.far i) → (here other : Setup) (near far : Endpoint) (all : List Hop)
+    → ChannelLaw c here other near far all → single.ChannelLaw here other near far all
+by_one = once.by_one
 
 module _ (c : Clocks) (one other : Setup) (near far : Endpoint) where
   pub earlier : (past : List Hop) (h : Hop) → ChannelLaw c one other near far (h ∷ past)

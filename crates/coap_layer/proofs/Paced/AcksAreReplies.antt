@@ -20,9 +20,9 @@ use Rattle.coap_layer.specs.Rows.{LayerLaw, Row}
 use Rattle.coap_layer.specs.Sends.{IsIn, as_begun, ReplyOut, StoredOut, SpellsCon}
 use Rattle.coap_layer.specs.Trace.{Setup, Packet, Receive, Reply, Entry}
 use Rattle.coap_layer.specs.Words.{Incoming, handed, reply_in, awaits, Open, outstanding}
+use Rattle.coap_layer.proofs.Between.WhatIsTaken.{alone}
+use Rattle.coap_layer.proofs.Between.StoredReplies.{by_clock, since_young}
 use Rattle.coap_layer.proofs.Arrivals.HandedAsSpelled.{handed_so, Heard, heard, IsOf, latest_is}
-use Rattle.coap_layer.proofs.Between.AcksAreReplies.{by_clock, since_young}
-use Rattle.coap_layer.proofs.Between.TakenOnce.{alone}
 use Rattle.coap_layer.proofs.Between.WhatComesByType.{Comes, a_con, a_non, a_reply, a_stored, a_reset, comes}
 use Rattle.coap_layer.proofs.Between.WhatComesByType.{one_message, replied_call, spelled_begun}
 use Rattle.coap_layer.proofs.Copies.CopiesInTime.{was_begun, begun_by}

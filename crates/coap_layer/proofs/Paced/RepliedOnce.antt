@@ -11,9 +11,9 @@ use Rattle.coap_layer.specs.Machine.Calls.{IsTaken}
 use Rattle.coap_layer.specs.Rows.{LayerLaw, Row}
 use Rattle.coap_layer.specs.Trace.{Reply, Entry}
 use Rattle.coap_layer.specs.Words.{Awaited, awaits, awaits_in, handed, Open}
+use Rattle.coap_layer.proofs.Between.WhatIsTaken.{kept_by}
 use Rattle.coap_layer.proofs.Arrivals.HandedUpOnce.{taken_handed}
 use Rattle.coap_layer.proofs.Arrivals.HandedAsSpelled.{latest_before}
-use Rattle.coap_layer.proofs.Between.TakenOnce.{kept_by}
 use Rattle.coap_layer.proofs.Paced.TakenOnce.{handed_once}
 use Rattle.coap_layer.proofs.Facts.Hops.{to_far}
 

@@ -17,14 +17,15 @@ use Rattle.coap_layer.specs.Sends.{plain, reply, stored, reset}
 use Rattle.coap_layer.specs.Channel.{HandedBy, Hop, Near, Far, near_of, far_of, OnFar, GaveOut, IsLatest, RepliesAtOnce}
 use Rattle.coap_layer.specs.Channel.{BegunAs, OnFarThen, SentSo}
 use Rattle.coap_layer.specs.Clocks.{Clocks, turned, max_gain}
-use Rattle.coap_layer.specs.Paced.{Meanwhile, ChannelLaw, CanArrive, Takes, RepliesTo, HearsReset, ResetsMeant}
-use Rattle.coap_layer.specs.Taking.{IsTold}
+use Rattle.coap_layer.specs.Paced.{Meanwhile, ChannelLaw, CanArrive, Takes, RepliesTo, ResetsMeant}
+use Rattle.coap_layer.specs.Taking.{IsTold, HearsReset}
 use Rattle.coap_types.specs.declared.transmission.TheConstants.{EXCHANGE_LIFETIME_MS as exchange_lifetime}
 use Rattle.coap_types.specs.declared.transmission.TheConstants.{LAST_ARRIVAL_MS as last_arrival}
 use Rattle.coap_types.specs.declared.transmission.TheConstants.{ID_REUSE_AFTER_MS as id_reuse_after}
 use Rattle.coap_types.specs.declared.transmission.TheConstants.{MAX_LATENCY_MS as max_latency}
+use Rattle.coap_layer.proofs.Between.WhatIsTaken.{alone}
+use Rattle.coap_layer.proofs.Between.StoredReplies.{by_clock, since_young}
 use Rattle.coap_layer.proofs.Copies.CopiesInTime.{was_begun, begun_by}
-use Rattle.coap_layer.proofs.Between.AcksAreReplies.{by_clock, since_young}
 use Rattle.coap_layer.proofs.Paced.AcksAreReplies.{Part}
 use Rattle.coap_layer.proofs.Between.WhatComesByType.{one_message, replied_call, spelled_begun, SpellsReply}
 use Rattle.coap_layer.proofs.Between.WhatComesByType.{stored_reply}
@@ -38,7 +39,6 @@ use Rattle.coap_layer.proofs.Paced.WhatArrivesWasSent.{begun_as, sent_so, Came, 
 use Rattle.coap_layer.specs.Machine.Calls.{IsBegun}
 use Rattle.coap_layer.proofs.Numbers.OneEntryForAnId.{one_con, no_plain, SendsPlain}
 use Rattle.coap_layer.proofs.Out.EachGoesOut.{goes_out}
-use Rattle.coap_layer.proofs.Between.TakenOnce.{alone}
 use Rattle.coap_layer.proofs.Paced.TakenOnce.{IsNear, near_before, takes_it}
 use Rattle.coap_layer.proofs.Between.WhatAResetSays.{reset_id, no_fault, sent_what, Lawful, HeardReset, arrived_reset}
 use Rattle.coap_layer.proofs.Between.WhatAResetSays.{rejected_class}

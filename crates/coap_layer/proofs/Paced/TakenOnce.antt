@@ -15,9 +15,9 @@ use Rattle.coap_layer.specs.Paced.{Meanwhile, ChannelLaw, CanArrive, Takes, Hand
 use Rattle.coap_layer.specs.Rows.{LayerLaw}
 use Rattle.coap_layer.specs.Trace.{Setup, Receive, Entry}
 use Rattle.coap_layer.specs.Words.{Incoming, handed, hands_up, HandsUpSince, Open}
+use Rattle.coap_layer.proofs.Between.WhatIsTaken.{up_by}
 use Rattle.coap_layer.proofs.Arrivals.HandedAsSpelled.{handed_so}
 use Rattle.coap_layer.proofs.Arrivals.HandedUpOnce.{up_new}
-use Rattle.coap_layer.proofs.Between.TakenOnce.{up_by}
 use Rattle.coap_layer.proofs.Facts.Hops.{far_ever, near_later}
 use Rattle.coap_layer.proofs.Numbers.OneEntryForAnId.{SendsPlain, one_con, no_plain}
 use Rattle.coap_layer.proofs.Paced.Facts.{earlier, each_hop}

@@ -15,7 +15,10 @@ use Rattle.coap_layer.specs.Words.{Open}
 use Rattle.coap_layer.specs.Rows.{LayerLaw, IsSpelled}
 use Rattle.coap_layer.specs.Machine.State.{start, made}
 use Rattle.coap_layer.specs.Machine.Steps.{Asked, Steps, entries, left_after}
-use Rattle.coap_layer.specs.Channel.{Hop, Near, Far, GaveOut, RepliesAtOnce, ChannelLaw, HearsAck, Takes}
+use Rattle.coap_layer.specs.Channel.{Hop, Near, Far, GaveOut, RepliesAtOnce, HearsAck, Takes}
+use Rattle.coap_layer.specs.OneClock.{ChannelLaw}
+use Rattle.coap_layer.proofs.Paced.AtOneClock.{one_pace}
+use Rattle.std.proofs.Common.{◌≤◌}
 use Rattle.coap_layer.specs.Examples.{IsAcknowledged}
 use Rattle.coap_layer.proofs.Facts.Calls.{led_steps}
 
@@ -151,6 +154,7 @@ ack_out = record { out = inl refl; from = omega arith; till = omega arith }
 channel : ChannelLaw began began client server hops
 unfolding decoded frame_fault body_at walk walk_of option_at nibbles_at value_at extended payload_at is_spelled has_spelling options_bytes
 channel = record {
+  pace = one_pace;
   near_law = near_lawful;
   far_law = far_lawful;
   near_replies = ((λ to id bytes h. absurd (cc h)), ((λ to id bytes h. absurd (cc h)), tt));
@@ -161,14 +165,24 @@ channel = record {
     ((λ to id bytes h. absurd (cc h)), tt),
   );
   fair = (
-    (λ bytes h. inl (subst (λ (x : List ℕ). GaveOut client x 20
-        (made (left_after (start began) (far_takes ∷ [])) 10 far_replies.call))
-        (same_bytes ack bytes server server h) ack_out)),
+    (λ bytes h. record {
+      instant = 20;
+      shown = refl;
+      later = let k : 10 ≤ 20 = omega arith in k;
+      so = inl (subst (λ (x : List ℕ). GaveOut client x 20
+          (made (left_after (start began) (far_takes ∷ [])) 10 far_replies.call))
+          (same_bytes ack bytes server server h) ack_out);
+    }),
     (
       (λ bytes h. absurd (cc h)),
       (
-        (λ bytes h. inl (subst (λ (x : List ℕ). GaveOut server x 10 (made (start began) 0 near_begins.call))
-            (same_bytes request bytes client client h) request_out)),
+        (λ bytes h. record {
+          instant = 10;
+          shown = refl;
+          later = let k : 0 ≤ 10 = omega arith in k;
+          so = inl (subst (λ (x : List ℕ). GaveOut server x 10 (made (start began) 0 near_begins.call))
+              (same_bytes request bytes client client h) request_out);
+        }),
         ((λ bytes h. absurd (cc h)), tt),
       ),
     ),

@@ -1,13 +1,8 @@
--- The same hops, with the other layer as the near one, stand in the law as well.
-use Rattle.std.proofs.Common.{◌≡◌, inl, inr, List, [], ◌∷◌, ◌++◌, refl, ap, sym, subst}
-use Rattle.coap_types.specs.Past.{Ever, Always}
-use Rattle.coap_types.specs.declared.endpoint.Endpoint.{Endpoint}
-use Rattle.coap_layer.specs.Channel.{Hop, Near, Far, near_of, far_of, OnNear, OnFar, GaveOut, IsFair, RepliesSo}
-use Rattle.coap_layer.specs.Channel.{ChannelLaw}
-use Rattle.coap_layer.specs.Rows.{LayerLaw}
+-- The same hops, with the other layer as the near one.
+use Rattle.std.proofs.Common.{◌≡◌, inl, inr, List, [], ◌∷◌, refl, ap}
+use Rattle.coap_types.specs.Past.{Ever}
+use Rattle.coap_layer.specs.Channel.{Hop, Near, Far, near_of, far_of, OnNear, OnFar}
 use Rattle.coap_layer.specs.Trace.{Entry}
-use Rattle.coap_layer.specs.declared.setup.Setup.{Setup}
-use Rattle.coap_layer.proofs.Facts.Hops.{earlier}
 use Rattle.coap_world.specs.Hops.{across}
 
 pub near_across : (hs : List Hop) → near_of (across hs) ≡ far_of hs
@@ -33,32 +28,3 @@ far_there P (Far e ∷ hs) (inl h) = inl h
 far_there P (Far e ∷ hs) (inr h) = inr (far_there P hs h)
 far_there P (Near e ∷ hs) (inl h) = absurd h
 far_there P (Near e ∷ hs) (inr h) = inr (far_there P hs h)
-
-fair_across : (near far : Endpoint) (hs : List Hop) → Always (IsFair near far) hs → Always (IsFair far near) (across hs)
-fair_across near far [] h = tt
-fair_across near far (Near e ∷ hs) h = (
-  (λ bytes is. far_there (GaveOut near bytes e.at) hs (h.0 bytes is)),
-  fair_across near far hs h.1,
-)
-fair_across near far (Far e ∷ hs) h = (
-  (λ bytes is. near_there (GaveOut far bytes e.at) hs (h.0 bytes is)),
-  fair_across near far hs h.1,
-)
-
-pub channel_across : (one other : Setup) (near far : Endpoint) (hs : List Hop) → ChannelLaw one other near far hs
-    → ChannelLaw other one far near (across hs)
-channel_across one other near far hs law =
-    record {
-      near_law = subst (LayerLaw other) (sym (near_across hs)) law.far_law;
-      far_law = subst (LayerLaw one) (sym (far_across hs)) law.near_law;
-      near_replies = subst (Always RepliesSo) (sym (near_across hs)) law.far_replies;
-      far_replies = subst (Always RepliesSo) (sym (far_across hs)) law.near_replies;
-      fair = fair_across near far hs law.fair;
-    }
-
--- the law holds of each past
-pub channel_back : (one other : Setup) (near far : Endpoint) (later past : List Hop)
-    → ChannelLaw one other near far (later ++ past) → ChannelLaw one other near far past
-channel_back one other near far [] past law = law
-channel_back one other near far (h ∷ later) past law =
-    channel_back one other near far later past (earlier one other near far (later ++ past) h law)

@@ -1,43 +1,54 @@
--- The hops of a legal run stand in the law of two layers and the datagrams between them.
-use Rattle.std.proofs.Common.{List, sym, subst}
-use Rattle.coap_types.specs.Past.{Always}
-use Rattle.coap_layer.specs.Channel.{RepliesSo, ChannelLaw}
-use Rattle.coap_layer.specs.Rows.{LayerLaw}
-use Rattle.coap_client.proofs.Facts.Laws as client_facts
-use Rattle.coap_server.proofs.Facts.Laws as server_facts
+-- What a run that is legal by one clock leaves, and that its hops stand in the law of two layers and the datagrams between
+-- them: it is legal by two clocks that show the same.
+use Rattle.std.proofs.Common.{◌≡◌, ◌≤◌, ℕ, List, length, refl, arith}
+use Rattle.coap_types.specs.Past.{Ever, all_of}
+use Rattle.coap_layer.specs.OneClock.{ChannelLaw}
+use Rattle.coap_layer.proofs.Facts.Paced.{by_one}
+use Rattle.coap_world.specs.Clocks.{of_layers}
 use Rattle.coap_world.specs.Events.{Config, Event}
-use Rattle.coap_world.specs.Hops.{hops_of}
-use Rattle.coap_world.specs.Legal.{Legal}
-use Rattle.coap_world.specs.Record.{Turn, RecordOf, entries_of, client_of, server_trace}
-use Rattle.coap_world.proofs.Delivery.GivenOutBefore.{all_fair}
-use Rattle.coap_world.proofs.Delivery.HopsAreEntries.{near_is, far_is}
-use Rattle.coap_world.proofs.Delivery.HopsAreFair.{Ran, ran}
+use Rattle.coap_world.specs.Hops.{SentIn, hops_of}
+use Rattle.coap_world.specs.Legal.{NotBefore, Legal}
+use Rattle.coap_world.specs.Record.{Given, Turn, RecordOf, entries_of, client_of, server_trace, given_in}
+use Rattle.coap_world.proofs.Delivery.AfterATurn.{Still}
+use Rattle.coap_world.proofs.Delivery.ClientInTime as client
+use Rattle.coap_world.proofs.Delivery.ServerInTime as server
+use Rattle.coap_world.proofs.Paced.HopsAreAChannel as paced
+use Rattle.coap_world.proofs.Paced.OneClock.{both, both_legal, till}
+
+pub record Ran (config : Config) (turns : List Turn) : Type 0 where
+  pub still : (t : ℕ) → NotBefore turns t → Still config t (entries_of turns)
+  pub sent : (g : Given) → Ever (λ h. h ≡ g) (all_of (given_in config.addresses) turns)
+      → SentIn config.addresses (hops_of config turns) g
 
 module _ (config : Config) (events : List Event) (turns : List Turn) (made : RecordOf config events turns)
     (legal : Legal config turns) where
-  pub run : Ran config turns
-  run =
+  ran : paced.Ran (both turns) config legal.range.addresses.two (both_legal config turns legal).clocks turns
+  ran =
       let below = made.client.exchanges in
       let under = made.server.exchanges in
-      ran config legal.range.addresses.two turns made.made legal.events
-      (all_fair config.addresses turns made.made legal.events) (below.left, below.layer)
-      (under.left, under.layer)
+      paced.ran (both turns) config legal.range.addresses.two (both_legal config turns legal).clocks turns made.made
+      (both_legal config turns legal).events (below.left, below.layer) (under.left, under.layer)
+
+  pub run : Ran config turns
+  run = record {
+    still = λ t last.
+        (let s = ran.still (length turns) (omega arith) in
+        let le = till config.addresses turns t (length turns) legal.events last in
+        record {
+          client = client.later_by config ((both turns).client (length turns)) t (client_of (entries_of turns)) le s.client;
+          server = server.later_by config ((both turns).server (length turns)) t (server_trace config (entries_of turns))
+              le s.server;
+          client_none = s.client_none;
+          server_none = s.server_none;
+        });
+    sent = ran.sent;
+  }
 
   pub channel : ChannelLaw config.client_setup config.server_setup config.addresses.client config.addresses.server
       (hops_of config turns)
-  channel =
-      let near = near_is config (entries_of turns) in
-      let far = far_is config (entries_of turns) in
-      let client = client_of (entries_of turns) in
-      let server = server_trace config (entries_of turns) in
-      record {
-        near_law = subst (LayerLaw config.client_setup) (sym near)
-            (client_facts.layer config.addresses.server config.client_sizes config.client_setup client made.client);
-        far_law = subst (LayerLaw config.server_setup) (sym far)
-            (server_facts.layer config.limits config.server_szx config.server_setup server made.server);
-        near_replies = subst (Always RepliesSo) (sym near)
-            (client_facts.replies config.addresses.server config.client_sizes config.client_setup client made.client);
-        far_replies = subst (Always RepliesSo) (sym far)
-            (server_facts.replies config.limits config.server_szx config.server_setup server made.server);
-        fair = run.fair;
-      }
+  channel = by_one (of_layers (both turns)) (λ i. same i) config.client_setup config.server_setup config.addresses.client
+      config.addresses.server (hops_of config turns)
+      (paced.channel (both turns) config events turns made (both_legal config turns legal))
+    where
+      same : (i : ℕ) → (of_layers (both turns)).near i ≡ (of_layers (both turns)).far i
+      same i = refl

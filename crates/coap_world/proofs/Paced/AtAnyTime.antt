@@ -26,7 +26,7 @@ use Rattle.coap_world.proofs.Delivery.ClientTurns as client_turns
 use Rattle.coap_world.proofs.Delivery.GivenOutBefore.{one_call, tick_of, packet_is, server_call, client_call, never_there}
 use Rattle.coap_world.proofs.Delivery.GivenOutBefore.{never_here}
 use Rattle.coap_world.proofs.Delivery.HopsAreEntries.{begins_silent, near_is, far_is}
-use Rattle.coap_world.proofs.Delivery.HopsAreFair.{found_in, sent_still, begins_by, client_down, server_down}
+use Rattle.coap_world.proofs.Delivery.SentByTheLayer.{found_in, sent_still, begins_by, client_down, server_down}
 use Rattle.coap_world.proofs.Delivery.ServerInTime as server
 use Rattle.coap_world.proofs.Delivery.ServerTurns as server_turns
 use Rattle.coap_world.proofs.Paced.AfterATurn.{Still, Leaves}

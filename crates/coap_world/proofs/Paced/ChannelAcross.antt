@@ -1,14 +1,15 @@
 -- The same hops, with the other layer as the near one, and its clock, stand in the law as well.
-use Rattle.std.proofs.Common.{◌≤◌, List, [], ◌∷◌, sym, subst}
+use Rattle.std.proofs.Common.{◌≤◌, List, [], ◌∷◌, ◌++◌, sym, subst}
 use Rattle.coap_types.specs.Past.{Always}
 use Rattle.coap_types.specs.declared.endpoint.Endpoint.{Endpoint}
 use Rattle.coap_layer.specs.Channel.{Hop, Near, Far, GaveOut, RepliesSo}
-use Rattle.coap_layer.specs.Clocks.{Clocks, turned}
+use Rattle.coap_layer.specs.Clocks.{Clocks, turned, one_clock}
+use Rattle.coap_layer.specs.OneClock as once
 use Rattle.coap_layer.specs.Paced.{IsFair, ChannelLaw}
 use Rattle.coap_layer.specs.Rows.{LayerLaw}
 use Rattle.coap_layer.specs.Words.{clock}
 use Rattle.coap_layer.specs.declared.setup.Setup.{Setup}
-use Rattle.coap_layer.proofs.Facts.Paced.{pace_turned}
+use Rattle.coap_layer.proofs.Facts.Paced.{earlier, pace_turned}
 use Rattle.coap_world.specs.Hops.{across}
 use Rattle.coap_world.proofs.Delivery.ChannelAcross.{near_across, far_across, near_there, far_there}
 
@@ -49,3 +50,15 @@ channel_across c one other near far hs law =
       far_replies = subst (Always RepliesSo) (sym (far_across hs)) law.near_replies;
       fair = fair_across c near far hs law.fair;
     }
+
+-- by one clock
+
+pub once_across : (one other : Setup) (near far : Endpoint) (hs : List Hop) → once.ChannelLaw one other near far hs
+    → once.ChannelLaw other one far near (across hs)
+once_across = channel_across one_clock
+
+pub once_back : (one other : Setup) (near far : Endpoint) (later past : List Hop)
+    → once.ChannelLaw one other near far (later ++ past) → once.ChannelLaw one other near far past
+once_back one other near far [] past law = law
+once_back one other near far (h ∷ later) past law =
+    once_back one other near far later past (earlier one_clock one other near far (later ++ past) h law)

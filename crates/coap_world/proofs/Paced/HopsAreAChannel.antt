@@ -22,8 +22,8 @@ use Rattle.coap_world.specs.Record.{entries_of, RecordOf}
 use Rattle.coap_world.proofs.Delivery.ClientInTime as client
 use Rattle.coap_world.proofs.Delivery.ClientTurns as client_turns
 use Rattle.coap_world.proofs.Delivery.HopsAreEntries.{begins_silent, near_is, far_is}
-use Rattle.coap_world.proofs.Delivery.HopsAreFair.{by_server, by_client, found_in, sent_still, begins_by, client_down}
-use Rattle.coap_world.proofs.Delivery.HopsAreFair.{server_down}
+use Rattle.coap_world.proofs.Delivery.SentByTheLayer.{by_server, by_client, found_in, sent_still, begins_by, client_down}
+use Rattle.coap_world.proofs.Delivery.SentByTheLayer.{server_down}
 use Rattle.coap_world.proofs.Delivery.ServerInTime as server
 use Rattle.coap_world.proofs.Delivery.ServerTurns as server_turns
 use Rattle.coap_world.proofs.Paced.AfterATurn.{Still, Goes}

@@ -17,7 +17,7 @@ use Rattle.coap_world.specs.Record.{Given, given_as, Entry, OfClient, OfServer, 
 use Rattle.coap_world.specs.declared.addresses.Addresses.{Addresses}
 
 -- what the one clock shows at the event of this number; behind the last one it stands still
-abbrev at_event : List Turn → ℕ → ℕ
+abbrev pub at_event : List Turn → ℕ → ℕ
 at_event [] n = 0
 at_event (t ∷ past) n = cond (nat_le (length past) n) t.event.at (at_event past n)
 
@@ -34,7 +34,7 @@ here t past n le = ap (λ b. cond b t.event.at (at_event past n)) (le-leb (lengt
 before : (t : Turn) (past : List Turn) (n : ℕ) → n < length past → at_event (t ∷ past) n ≡ at_event past n
 before t past n less = ap (λ b. cond b t.event.at (at_event past n)) (not_le (length past) n less)
 
-till : (addresses : Addresses) (turns : List Turn) (at n : ℕ) → AllLegal addresses turns → NotBefore turns at
+pub till : (addresses : Addresses) (turns : List Turn) (at n : ℕ) → AllLegal addresses turns → NotBefore turns at
     → at_event turns n ≤ at
 till addresses [] at n legal last = omega arith
 till addresses (t ∷ past) at n legal last = ⊎_elim
@@ -58,7 +58,7 @@ rises addresses (t ∷ past) i j legal le = by (rises addresses past i j legal.1
     by r (inr behind) q =
         let a = here t past i behind in let b = here t past j (omega (arith, behind, le)) in omega (arith, a, b)
 
-abbrev both : List Turn → clocks.Clocks
+abbrev pub both : List Turn → clocks.Clocks
 both turns = record { client = at_event turns; server = at_event turns }
 
 paced : (addresses : Addresses) (turns : List Turn) → AllLegal addresses turns
@@ -156,15 +156,16 @@ by_one config turns legal = (
   },
 )
 
-pub by_two : (config : Config) (turns : List Turn) → Legal config turns → (c : clocks.Clocks) × clocks.Legal c config turns
-by_two config turns legal = (
-  both turns,
-  record {
-    clocks = record {
-      near = paced config.addresses turns legal.events;
-      far = paced config.addresses turns legal.events;
-    };
-    range = legal.range;
-    events = each config.addresses turns turns (λ n less. refl) legal.events;
-  },
-)
+pub both_legal : (config : Config) (turns : List Turn) → Legal config turns → clocks.Legal (both turns) config turns
+both_legal config turns legal = record {
+  clocks = record {
+    near = paced config.addresses turns legal.events;
+    far = paced config.addresses turns legal.events;
+  };
+  range = legal.range;
+  events = each config.addresses turns turns (λ n less. refl) legal.events;
+}
+
+pub by_two : (config : Config) (turns : List Turn) → Legal config turns
+    → (c : clocks.Clocks) × clocks.Legal c config turns
+by_two config turns legal = (both turns, both_legal config turns legal)

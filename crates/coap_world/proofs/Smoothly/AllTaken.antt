@@ -1,7 +1,8 @@
 -- At each event of a smooth run the Confirmable messages were taken in time.
 use Rattle.std.proofs.Common.{◌≤◌, ◌<◌, ℕ, ◌+◌, List, [], ◌∷◌, ◌++◌, arith, Bool, true, false, cond}
 use Rattle.coap_types.specs.declared.endpoint.Endpoint.{Endpoint}
-use Rattle.coap_layer.specs.Channel.{Hop, ChannelLaw}
+use Rattle.coap_layer.specs.Channel.{Hop}
+use Rattle.coap_layer.specs.OneClock.{ChannelLaw}
 use Rattle.coap_layer.specs.Taking.{ConsTakenWithin, OverWithin}
 use Rattle.coap_layer.specs.declared.setup.Setup.{Setup}
 use Rattle.coap_block.specs.Sizes.{Sizes}
@@ -14,7 +15,7 @@ use Rattle.coap_world.specs.Record.{Entry, OfClient, OfServer, Turn, entries_of,
 use Rattle.coap_world.specs.Legal.{Legal}
 use Rattle.coap_world.specs.Smooth.{Smooth, FewCome, to_client, to_server, count_came, is_then}
 use Rattle.coap_world.specs.TakenInTime.{TakenInTime, AllTakenInTime}
-use Rattle.coap_world.proofs.Delivery.ChannelAcross.{channel_across}
+use Rattle.coap_world.proofs.Paced.ChannelAcross.{once_across as channel_across}
 use Rattle.coap_world.proofs.Delivery.HopsAreAChannel as joined
 use Rattle.coap_world.proofs.Smoothly.FewArrive.{few_arrive}
 use Rattle.coap_world.proofs.Smoothly.Standing.{Stands, stands, before, legal_of, record_of}

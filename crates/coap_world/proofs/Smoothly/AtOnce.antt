@@ -5,7 +5,8 @@ use Rattle.std.proofs.lemmas.List.{map-append}
 use Rattle.coap_types.specs.Past.{Ever, Sometime, Always}
 use Rattle.coap_types.proofs.Facts.Traces.{Ever_append, Sometime_back}
 use Rattle.coap_types.specs.declared.endpoint.Endpoint.{Endpoint}
-use Rattle.coap_layer.specs.Channel.{Hop, Far, near_of, OnNear, OnFarThen, RepliesTo, ChannelLaw, AcksReplied}
+use Rattle.coap_layer.specs.Channel.{Hop, Far, near_of, OnNear, OnFarThen, RepliesTo, AcksReplied}
+use Rattle.coap_layer.specs.OneClock.{ChannelLaw}
 use Rattle.coap_layer.specs.Rows.{LayerLaw}
 use Rattle.coap_layer.specs.Sends.{IsIn, IsOpen}
 use Rattle.coap_layer.specs.Taking.{AllTakeAcks, ArrivesWithin, EndsWithin, RepliedOnce}

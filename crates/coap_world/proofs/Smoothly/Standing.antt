@@ -11,7 +11,7 @@ use Rattle.coap_world.specs.Legal.{IsConfig, Legal, AllLegal}
 use Rattle.coap_world.specs.Record.{Entry, OfClient, OfServer, Turn, RecordOf, Makes, entries_of, client_of, server_trace}
 use Rattle.coap_world.specs.Smooth.{GoesSmoothly, Smooth}
 use Rattle.coap_world.proofs.Delivery.HopsAreAChannel as joined
-use Rattle.coap_world.proofs.Delivery.HopsAreFair.{Ran}
+use Rattle.coap_world.proofs.Delivery.HopsAreAChannel.{Ran}
 use Rattle.coap_world.proofs.Delivery.OneEndATurn.{ClientTurn, ServerTurn, side}
 use Rattle.coap_world.proofs.Smoothly.SentIsGivenOut.{Turned}
 use Rattle.coap_world.specs.declared.addresses.Addresses.{Addresses}

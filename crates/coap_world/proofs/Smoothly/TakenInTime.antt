@@ -5,7 +5,8 @@ use Rattle.coap_types.specs.Past.{Ever, Sometime}
 use Rattle.coap_types.proofs.Facts.Traces.{Ever_append, Always_back, Sometime_back}
 use Rattle.coap_types.specs.declared.message.Kind.TheVariants.{Con, Ack, Rst}
 use Rattle.coap_codec.specs.Message.{Message, Spells}
-use Rattle.coap_layer.specs.Channel.{Hop, Near, Far, near_of, far_of, OnNear, OnFar, OnFarThen, Takes, ChannelLaw}
+use Rattle.coap_layer.specs.Channel.{Hop, Near, Far, near_of, far_of, OnNear, OnFar, OnFarThen, Takes}
+use Rattle.coap_layer.specs.OneClock.{ChannelLaw}
 use Rattle.coap_layer.specs.EmptyMessages.{ack_bytes, reset_bytes}
 use Rattle.coap_layer.specs.Rows.{Stands as Stands_in, LayerLaw}
 use Rattle.coap_layer.specs.Sends.{IsOpen}

@@ -9,7 +9,8 @@ use Rattle.coap_types.proofs.Facts.Traces.{Ever_back, Ever_front}
 use Rattle.coap_types.specs.SameEndpoint.{same_endpoint}
 use Rattle.coap_types.specs.declared.endpoint.Endpoint.{Endpoint}
 use Rattle.coap_block.specs.Sizes.{Sizes}
-use Rattle.coap_layer.specs.Channel.{Hop, ChannelLaw, far_of}
+use Rattle.coap_layer.specs.Channel.{Hop, far_of}
+use Rattle.coap_layer.specs.OneClock.{ChannelLaw}
 use Rattle.coap_layer.specs.Rows.{LayerLaw, Busy}
 use Rattle.coap_layer.specs.Sends.{as_begun, IsOpen}
 use Rattle.coap_layer.specs.Taking.{ResetsMeant}

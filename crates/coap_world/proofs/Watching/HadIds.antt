@@ -4,7 +4,8 @@ use Rattle.std.proofs.Common.{◌≡◌, ℕ, ◌+◌, ◌≤◌, ◌<◌, max, 
 use Rattle.std.proofs.Common.{append_assoc}
 use Rattle.coap_types.specs.Past.{Ever, Always}
 use Rattle.coap_types.proofs.Facts.Traces.{Always_back}
-use Rattle.coap_layer.specs.Channel.{Hop, ChannelLaw}
+use Rattle.coap_layer.specs.Channel.{Hop}
+use Rattle.coap_layer.specs.OneClock.{ChannelLaw}
 use Rattle.coap_layer.specs.Ids.{Issued}
 use Rattle.coap_layer.specs.Machine.State.{start}
 use Rattle.coap_layer.specs.Rows.{LayerLaw, Stands}
@@ -24,7 +25,7 @@ use Rattle.coap_world.specs.Events.{Config, TickServer}
 use Rattle.coap_world.specs.Hops.{hops_of, across, server_asked}
 use Rattle.coap_world.specs.Record.{Entry, OfClient, OfServer, Turn, entries_of, server_trace}
 use Rattle.coap_world.specs.Smooth.{max_age, most_that_come, NoStranger}
-use Rattle.coap_world.proofs.Delivery.ChannelAcross.{channel_across}
+use Rattle.coap_world.proofs.Paced.ChannelAcross.{once_across as channel_across}
 use Rattle.coap_world.proofs.Delivery.EntriesInTime.{Every, every_map}
 use Rattle.coap_world.proofs.Delivery.HopsAreAChannel as joined
 use Rattle.coap_world.proofs.Delivery.HopsAreEntries.{server_layer}

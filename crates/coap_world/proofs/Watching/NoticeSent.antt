@@ -28,7 +28,7 @@ use Rattle.coap_world.specs.Hops.{server_adds}
 use Rattle.coap_world.specs.Record.{Entry, OfServer, server_trace}
 use Rattle.coap_world.proofs.Delivery.EntriesInTime.{Every}
 use Rattle.coap_world.proofs.Delivery.HopsAreEntries.{server_layer, server_next}
-use Rattle.coap_world.proofs.Delivery.HopsAreFair.{found_in}
+use Rattle.coap_world.proofs.Delivery.SentByTheLayer.{found_in}
 use Rattle.coap_world.proofs.Delivery.ServerInTime as server
 use Rattle.coap_world.proofs.Smoothly.Confirms.{IsEntrySo}
 use Rattle.coap_world.proofs.Smoothly.Standing.{ForServer}

@@ -14,7 +14,8 @@ use Rattle.coap_codec.specs.Message.{Message, Spells}
 use Rattle.coap_codec.specs.Spelling.{message_bytes}
 use Rattle.coap_codec.proofs.Facts.EveryDatagram.{one_message}
 use Rattle.coap_codec.proofs.Facts.Spelling.{one_spelling}
-use Rattle.coap_layer.specs.Channel.{Hop, Near, Far, near_of, far_of, OnNear, OnFar, ChannelLaw}
+use Rattle.coap_layer.specs.Channel.{Hop, Near, Far, near_of, far_of, OnNear, OnFar}
+use Rattle.coap_layer.specs.OneClock.{ChannelLaw}
 use Rattle.coap_layer.specs.Rows.{LayerLaw}
 use Rattle.coap_layer.specs.Taking.{came, NonsTakenWithin, HandsUpWithin, SendsNon, SentNon, TakesWithin}
 use Rattle.coap_layer.specs.Trace as L
@@ -30,7 +31,8 @@ use Rattle.coap_world.specs.Hops.{server_adds, hops_at, hops_in, hops_of, across
 use Rattle.coap_world.specs.Record.{Entry, OfServer, Turn, entries_of, server_trace}
 use Rattle.coap_world.specs.Smooth.{max_age}
 use Rattle.coap_world.proofs.Delivery.AfterATurn.{on_far}
-use Rattle.coap_world.proofs.Delivery.ChannelAcross.{channel_across, near_across, far_across}
+use Rattle.coap_world.proofs.Delivery.ChannelAcross.{near_across, far_across}
+use Rattle.coap_world.proofs.Paced.ChannelAcross.{once_across as channel_across}
 use Rattle.coap_world.proofs.Delivery.HopsAreAChannel as joined
 use Rattle.coap_world.proofs.Smoothly.AllTaken.{Beneath, Goes, goes_before, taken_here}
 use Rattle.coap_world.proofs.Smoothly.ArrivesInTime.{arrive_in_time}

@@ -8,7 +8,8 @@ use Rattle.coap_types.specs.declared.endpoint.Endpoint.{Endpoint}
 use Rattle.coap_types.specs.declared.message.Kind.{Kind}
 use Rattle.coap_types.specs.declared.message.Kind.TheVariants.{Con, Non}
 use Rattle.coap_codec.specs.Message.{Message}
-use Rattle.coap_layer.specs.Channel.{Hop, OnNear, ChannelLaw, ConsBegun, NonsSent}
+use Rattle.coap_layer.specs.Channel.{Hop, OnNear, ConsBegun, NonsSent}
+use Rattle.coap_layer.specs.OneClock.{ChannelLaw}
 use Rattle.coap_layer.specs.Follows.{IdsSmall}
 use Rattle.coap_layer.specs.Rows.{LayerLaw}
 use Rattle.coap_layer.specs.Taking.{NonsTakenWithin}
@@ -21,7 +22,7 @@ use Rattle.coap_world.specs.Events.{Config}
 use Rattle.coap_world.specs.Hops.{client_adds, server_adds, hops_at, hops_in, hops_of, across}
 use Rattle.coap_world.specs.Record.{Entry, OfClient, OfServer, Turn, entries_of, client_of, server_trace}
 use Rattle.coap_world.specs.Smooth.{max_age}
-use Rattle.coap_world.proofs.Delivery.ChannelAcross.{channel_across}
+use Rattle.coap_world.proofs.Paced.ChannelAcross.{once_across as channel_across}
 use Rattle.coap_world.proofs.Delivery.ClientInTime as client
 use Rattle.coap_world.proofs.Delivery.ClientTurns as client_turns
 use Rattle.coap_world.proofs.Delivery.HopsAreAChannel as joined

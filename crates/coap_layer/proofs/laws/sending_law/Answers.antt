@@ -1,8 +1,8 @@
+use Rattle.coap_layer.proofs.Between.WhatIsTaken.{alone}
 use Rattle.coap_layer.proofs.Copies.FiveAtMost.{five_at_most}
 use Rattle.coap_layer.proofs.Copies.WhatIsOpen.{one_open}
 use Rattle.coap_layer.proofs.Out.EachGoesOut.{all_alike, cons_spelled, each_goes_out}
 use Rattle.coap_layer.proofs.Out.InOrder.{in_order, taken_sent, taken_since}
-use Rattle.coap_layer.proofs.Between.TakenOnce.{alone}
 use Rattle.coap_layer.proofs.laws.sending_law.Goals as goal
 
 pub returns-clause-five : goal.returns-clause-five

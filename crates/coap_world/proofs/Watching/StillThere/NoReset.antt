@@ -7,7 +7,8 @@ use Rattle.coap_types.specs.declared.endpoint.Endpoint.{Endpoint}
 use Rattle.coap_types.specs.declared.message.Kind.TheVariants.{Non}
 use Rattle.coap_types.specs.declared.transmission.TheConstants.{EXCHANGE_LIFETIME_MS as exchange_lifetime}
 use Rattle.coap_types.proofs.Facts.Traces.{Always_back, Ever_map, forget}
-use Rattle.coap_layer.specs.Channel.{ChannelLaw, Hop, Near, OnFarThen, RepliesTo, near_of, far_of}
+use Rattle.coap_layer.specs.Channel.{Hop, Near, OnFarThen, RepliesTo, near_of, far_of}
+use Rattle.coap_layer.specs.OneClock.{ChannelLaw}
 use Rattle.coap_layer.specs.Rows.{LayerLaw}
 use Rattle.coap_layer.specs.Sends.{IsOpen, as_begun}
 use Rattle.coap_layer.specs.Taking.{HearsReset, ResetsMeant}
@@ -29,7 +30,8 @@ use Rattle.coap_world.specs.Events.{Config}
 use Rattle.coap_world.specs.Hops.{across, hops_in, server_adds}
 use Rattle.coap_world.specs.Legal.{IsConfig}
 use Rattle.coap_world.specs.Record.{Entry, OfServer, client_of, server_trace}
-use Rattle.coap_world.proofs.Delivery.ChannelAcross.{near_across, far_across, channel_across, channel_back}
+use Rattle.coap_world.proofs.Delivery.ChannelAcross.{near_across, far_across}
+use Rattle.coap_world.proofs.Paced.ChannelAcross.{once_across as channel_across, once_back as channel_back}
 use Rattle.coap_world.proofs.Delivery.End.{front, front_is}
 use Rattle.coap_world.proofs.Delivery.EntriesInTime.{Every, Timely}
 use Rattle.coap_world.proofs.Delivery.HopsAreEntries.{client_layer, server_layer, near_is, far_is}

@@ -13,7 +13,8 @@ use Rattle.coap_codec.specs.Message.{Message, Spells}
 use Rattle.coap_codec.proofs.Facts.EveryDatagram.{one_message}
 use Rattle.coap_layer.specs.Arrivals.{Faulted, Whole, Shows}
 use Rattle.coap_layer.specs.Channel.{HandedBy, Hop, Near, Far, near_of, far_of, OnFar, OnFarThen, GaveOut, IsLatest}
-use Rattle.coap_layer.specs.Channel.{RepliesAtOnce, RepliesSo, ChannelLaw, BegunAs, PlainSent, SentSo, ArrivesAsSent}
+use Rattle.coap_layer.specs.Channel.{RepliesAtOnce, RepliesSo, BegunAs, PlainSent, SentSo, ArrivesAsSent}
+use Rattle.coap_layer.specs.OneClock.{ChannelLaw}
 use Rattle.coap_layer.specs.Rows.{LayerLaw, Row}
 use Rattle.coap_layer.specs.Sends.{IsIn, ReplyOut, StoredOut, ResetOut, SpellsCon, GoesOut, first, copy, plain, reply}
 use Rattle.coap_layer.specs.Sends.{stored, reset}
@@ -22,7 +23,8 @@ use Rattle.coap_layer.specs.Trace.{Entry}
 use Rattle.coap_layer.specs.Words.{Incoming, handed, Open, begun}
 use Rattle.coap_layer.specs.declared.setup.Setup.{Setup}
 use Rattle.coap_layer.proofs.Facts.Arrivals.{one_arrival}
-use Rattle.coap_layer.proofs.Facts.Hops.{to_far, near_later, earlier}
+use Rattle.coap_layer.proofs.Facts.Hops.{to_far, near_later}
+use Rattle.coap_layer.proofs.Facts.Paced.{at_once, once_earlier as earlier}
 use Rattle.coap_layer.proofs.Facts.Laws.{begins_of, begun_as, each_goes_out, handed_spelled, nons_sent, spelled_begun}
 use Rattle.coap_layer.proofs.Facts.Sendings.{some_in}
 use Rattle.coap_world.proofs.Watching.StillThere.RepliesFed.{Gives}
@@ -265,5 +267,6 @@ module _ (sent : AllSent) (one other : Setup) (near far : Endpoint) (whole : Lis
         given_there = by_suffix P (λ q k. OnFar (GaveOut near bytes x.at) k) (OnFarThen (Gives near id bytes IsIt)) down
             (gave r.message r.kind r.id_is bytes r.spells) whole
             (record { law = earlier one other near far whole (Near x) all_law; later = []; is = refl })
-            (Sometime_of_Ever _ whole (all_law.fair.0 bytes call));
+            (Sometime_of_Ever _ whole (at_once x.at (far_of whole) (λ when. Ever (OnFar (GaveOut near bytes when)) whole)
+            (all_law.fair.0 bytes call)));
       }

@@ -1,7 +1,8 @@
 -- What the laws beneath say of Resets (RFC 7641, section 3.6).
 use Rattle.std.proofs.Common.{ℕ, List}
 use Rattle.coap_types.specs.declared.endpoint.Endpoint.{Endpoint}
-use Rattle.coap_layer.specs.Channel.{ChannelLaw, Hop}
+use Rattle.coap_layer.specs.Channel.{Hop}
+use Rattle.coap_layer.specs.OneClock.{ChannelLaw}
 use Rattle.coap_layer.specs.Follows.{IdsSmall}
 use Rattle.coap_layer.specs.Rows.{LayerLaw}
 use Rattle.coap_layer.specs.Taking.{ResetsMeant}

@@ -20,7 +20,7 @@ use Rattle.coap_server.specs.Follows.Tells.{Pair}
 use Rattle.coap_server.specs.Follows.Told.{ServesPair}
 use Rattle.coap_server.specs.Law.{ServerLaw, own_of}
 use Rattle.coap_server.specs.Trace as S
-use Rattle.coap_layer.specs.Channel.{ChannelLaw}
+use Rattle.coap_layer.specs.OneClock.{ChannelLaw}
 use Rattle.coap_world.specs.Hops.{hops_in}
 use Rattle.coap_world.specs.Events.{Config}
 use Rattle.coap_world.specs.Legal.{IsConfig}

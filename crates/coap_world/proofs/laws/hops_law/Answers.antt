@@ -1,6 +1,6 @@
 use Rattle.coap_world.specs.Hops.{hops_of}
 use Rattle.coap_world.specs.Record.{entries_of}
-use Rattle.coap_world.proofs.Delivery.ChannelAcross.{channel_across}
+use Rattle.coap_world.proofs.Paced.ChannelAcross.{once_across as channel_across}
 use Rattle.coap_world.proofs.Delivery.HopsAreEntries.{near_is, far_is}
 use Rattle.coap_world.proofs.Delivery.HopsAreAChannel as joined
 use Rattle.coap_world.proofs.laws.hops_law.Goals as goal
