@@ -12,7 +12,7 @@ ghost use Rattle.coap_layer.specs.Trace as below;
 ghost use Rattle.coap_layer.specs.Machine.Ups.{IsQuiet};
 ghost use Rattle.coap_exchange.specs.AnswererSteps.{asked_in};
 ghost use Rattle.coap_exchange.specs.AnswererLaw.{Led, Step, fresh_state};
-ghost use Rattle.coap_exchange.specs.Machine.AnswererShown.{Leads, MayNotify, sending_as};
+ghost use Rattle.coap_exchange.specs.Machine.AnswererShown.{MayNotify, sending_as};
 ghost use Rattle.coap_exchange.specs.AnswererTrace.{Incoming, Take};
 
 use crate::deferrals::Deferrals;
@@ -151,8 +151,6 @@ impl<A: Allocator + Copy, S: BuildHasher> Model for Answerer<A, S> {
 impl<A: Allocator + Copy> Answerer<A, BuildHasherDefault<FoldHasher>> {
     /// A server's side to which nothing has happened. The word picks its first Message ID.
     pub fn new(alloc: A, word: u64) -> Self
-        // To a `new` answerer no call has led.
-        ensures led { Led (usual word) [] result.state }
         // A `new` answerer is in the state in which no call was made, by its word.
         ensures start { result.state ≡ fresh_state (usual word) }
         // A `new` answerer has no input to take back.
@@ -165,8 +163,6 @@ impl<A: Allocator + Copy> Answerer<A, BuildHasherDefault<FoldHasher>> {
 impl<A: Allocator + Copy, S: BuildHasher> Answerer<A, S> {
     /// The same, with a hasher for the messages that are remembered.
     pub fn with_hasher(alloc: A, word: u64, hasher: S) -> Self
-        // To an answerer of `with_hasher` no call has led.
-        ensures led { Led (usual word) [] result.state }
         // An answerer of `with_hasher` is in the state in which no call was made, whatever the hasher.
         ensures start { result.state ≡ fresh_state (usual word) }
         // An answerer of `with_hasher` has no input to take back.
@@ -177,8 +173,6 @@ impl<A: Allocator + Copy, S: BuildHasher> Answerer<A, S> {
 
     /// The same, with so many messages that are remembered at most.
     pub fn with_setup(alloc: A, setup: Setup, hasher: S) -> Self
-        // To an answerer of `with_setup` no call has led, and as many messages can be remembered as were chosen.
-        ensures led { Led setup [] result.state }
         // An answerer of `with_setup` is in the state in which no call was made, by its word and number of places.
         ensures start { result.state ≡ fresh_state setup }
         // An answerer of `with_setup` has no input to take back.
@@ -243,9 +237,6 @@ impl<A: Allocator + Copy, S: BuildHasher> Answerer<A, S> {
         // What becomes of an arrival, and what that leaves, is a step of the answerer's machine.
         ensures step { IfOk result (λ answer. (up : below.Answer)
             × Step self.old.state (Incoming now.0 from bytes.now up answer) self.new.state) }
-        // Every history that led to the answerer leads on with this arrival, unless it was refused memory.
-        ensures led { IfOk result (λ answer. (up : below.Answer)
-            × Leads self.old (Incoming now.0 from bytes.now up answer) self.new) }
         // After an arrival a request that was handed up may be answered.
         ensures answerable { OnOk result (self.new.answerable ≡ true) }
         // The token of a request that is handed up has at most 8 bytes.
@@ -285,8 +276,6 @@ impl<A: Allocator + Copy, S: BuildHasher> Answerer<A, S> {
     pub fn next_out(&mut self) -> Option<Datagram<A>>
         // Which datagram the answerer gives out, and what that leaves, is a step of its machine.
         ensures step { Step self.old.state (Take result) self.new.state }
-        // Every history that led to the answerer leads on with a datagram that it gives out.
-        ensures led { Leads self.old (Take result) self.new }
         // A datagram that is given out leaves whether a request may be answered.
         ensures answerable { self.new.answerable ≡ self.old.answerable }
         // Where a notification could be sent before a datagram is given out, it still can.

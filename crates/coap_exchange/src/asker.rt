@@ -13,7 +13,7 @@ ghost use Rattle.coap_exchange.specs.declared.matching.Opening.TheVariants as op
 ghost use Rattle.coap_exchange.specs.AskerFollows.{message_told};
 ghost use Rattle.coap_exchange.specs.AskerLaw.{Led, Step, fresh_state};
 ghost use Rattle.coap_exchange.specs.AskerRequests.{opening_of};
-ghost use Rattle.coap_exchange.specs.Machine.AskerShown.{IsAskable, Leads};
+ghost use Rattle.coap_exchange.specs.Machine.AskerShown.{IsAskable};
 ghost use Rattle.coap_exchange.specs.AskerTrace.{Call, Ask as Asks, Receive, Ticks, Keep, Release, Take};
 
 use crate::arrivals::{
@@ -139,8 +139,6 @@ impl<A: Allocator + Copy> Asker<A, BuildHasherDefault<FoldHasher>> {
     /// A client's side to which nothing has happened. The word picks the first token and the first
     /// Message ID.
     pub fn new(alloc: A, server: Endpoint, word: u64) -> Self
-        // To a `new` asker no call has led.
-        ensures led { Led server (usual word) [] result.state }
         // A `new` asker is in the state in which no call was made, by its server and its word.
         ensures start { result.state ≡ fresh_state server (usual word) }
         // A `new` asker has no input to take back.
@@ -153,8 +151,6 @@ impl<A: Allocator + Copy> Asker<A, BuildHasherDefault<FoldHasher>> {
 impl<A: Allocator + Copy, S: BuildHasher> Asker<A, S> {
     /// The same, with a hasher for the messages that are remembered.
     pub fn with_hasher(alloc: A, server: Endpoint, word: u64, hasher: S) -> Self
-        // To an asker of `with_hasher` no call has led.
-        ensures led { Led server (usual word) [] result.state }
         // An asker of `with_hasher` is in the state in which no call was made, whatever the hasher.
         ensures start { result.state ≡ fresh_state server (usual word) }
         // An asker of `with_hasher` has no input to take back.
@@ -165,8 +161,6 @@ impl<A: Allocator + Copy, S: BuildHasher> Asker<A, S> {
 
     /// The same, with so many messages that are remembered at most.
     pub fn with_setup(alloc: A, server: Endpoint, setup: Setup, hasher: S) -> Self
-        // To an asker of `with_setup` no call has led, and as many messages can be remembered as were chosen.
-        ensures led { Led server setup [] result.state }
         // An asker of `with_setup` is in the state in which no call was made, by its word and number of places.
         ensures start { result.state ≡ fresh_state server setup }
         // An asker of `with_setup` has no input to take back.
@@ -199,9 +193,6 @@ impl<A: Allocator + Copy, S: BuildHasher> Asker<A, S> {
         // The token of a request, or why it is refused, and what that leaves, is a step of the asker's machine.
         ensures step { result ≢ Err refusals.Memory → (answer : below.Answer)
             × Step self.old.state (Asks now.0 ask.now word answer result) self.new.state }
-        // Every history that led to the asker leads on with this request, unless it was refused memory.
-        ensures led { result ≢ Err refusals.Memory → (answer : below.Answer)
-            × Leads self.old (Asks now.0 ask.now word answer result) self.new }
         // The token that a request gets has at most 8 bytes.
         ensures few { IfOk result (λ token. length token ≤ max_token_len) }
         // A request is taken back with the last input.
@@ -267,9 +258,6 @@ impl<A: Allocator + Copy, S: BuildHasher> Asker<A, S> {
         // What becomes of an arrival, and what that leaves, is a step of the asker's machine.
         ensures step { IfOk result (λ event. (up : below.Answer) × (settled : Bool)
             × Step self.old.state (Receive now.0 from bytes.now up settled event) self.new.state) }
-        // Every history that led to the asker leads on with this arrival, unless it was refused memory.
-        ensures led { IfOk result (λ event. (up : below.Answer) × (settled : Bool)
-            × Leads self.old (Receive now.0 from bytes.now up settled event) self.new) }
         // The token of a response that is told has at most 8 bytes.
         ensures few { IfOk result (λ event. IfSome (message_told event) (λ m. length m.token ≤ max_token_len)) }
         // An arrival at the asker can be taken back.
@@ -303,9 +291,6 @@ impl<A: Allocator + Copy, S: BuildHasher> Asker<A, S> {
         // What a tick does, and what that leaves, is a step of the asker's machine.
         ensures step { IfOk result (λ turn. (answer : below.Answer)
             × Step self.old.state (Ticks now.0 answer turn) self.new.state) }
-        // Every history that led to the asker leads on with this tick, unless it was refused memory.
-        ensures led { IfOk result (λ turn. (answer : below.Answer)
-            × Leads self.old (Ticks now.0 answer turn) self.new) }
         // A tick of the asker can be taken back.
         ensures before { OnOk result (self.new.before ≡ Some self.old.state) }
         // A tick that is refused memory leaves the asker as it was.
@@ -348,8 +333,6 @@ impl<A: Allocator + Copy, S: BuildHasher> Asker<A, S> {
     pub fn keep(&mut self, token: &Token) -> bool
         // Whether a token is kept, and what that leaves, is a step of the asker's machine.
         ensures step { Step self.old.state (Keep token.now result) self.new.state }
-        // Every history that led to the asker leads on with a token that is kept, or has no place.
-        ensures led { Leads self.old (Keep token.now result) self.new }
         // That a token is kept is taken back with the last input.
         ensures before { self.new.before ≡ self.old.before }
     {
@@ -361,8 +344,6 @@ impl<A: Allocator + Copy, S: BuildHasher> Asker<A, S> {
     pub fn release(&mut self, token: &Token) -> bool
         // Whether a token was kept, and what its release leaves, is a step of the asker's machine.
         ensures step { Step self.old.state (Release token.now result) self.new.state }
-        // Every history that led to the asker leads on with a token that is released.
-        ensures led { Leads self.old (Release token.now result) self.new }
         // That a token is released is taken back with the last input.
         ensures before { self.new.before ≡ self.old.before }
     {
@@ -374,8 +355,6 @@ impl<A: Allocator + Copy, S: BuildHasher> Asker<A, S> {
     pub fn next_out(&mut self) -> Option<Datagram<A>>
         // Which datagram the asker gives out, and what that leaves, is a step of its machine.
         ensures step { Step self.old.state (Take result) self.new.state }
-        // Every history that led to the asker leads on with a datagram that it gives out.
-        ensures led { Leads self.old (Take result) self.new }
         // What the asker gave out is not taken back.
         ensures before { self.new.before ≡ None }
         // No more datagrams wait at an asker than a list in memory holds.

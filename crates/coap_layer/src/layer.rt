@@ -5,7 +5,7 @@ ghost use Rattle.std.specs.Prelude.{◌≡◌, ◌<◌, ◌^◌, [], None, Some,
 ghost use Rattle.std.specs.Prelude.{length, true, false, max};
 ghost use Rattle.coap_codec.specs.Message.{Message};
 ghost use Rattle.coap_layer.specs.Machine.LayerLed.{LayerLed};
-ghost use Rattle.coap_layer.specs.Machine.Moves.{Leads, Moves};
+ghost use Rattle.coap_layer.specs.Machine.Moves.{Moves};
 ghost use Rattle.coap_layer.specs.Machine.Shown.{MayReply};
 ghost use Rattle.coap_layer.specs.Machine.State.{copies, made, start, usual};
 ghost use Rattle.coap_layer.specs.Machine.Ups.{IsQuiet, IsTick, answer_as};
@@ -76,8 +76,6 @@ impl<A: Allocator + Copy> Layer<A, BuildHasherDefault<FoldHasher>> {
     pub fn new(alloc: A, word: u64) -> Self
         // A `new` layer is in the state in which no call was made, by its word.
         ensures start { result.state ≡ start (usual word) }
-        // To a `new` layer no call has led, and 4,096 messages can be remembered.
-        ensures led { LayerLed (usual word) [] result.state }
         // A `new` layer has no input to take back.
         ensures before { result.before ≡ None }
     {
@@ -91,8 +89,6 @@ impl<A: Allocator + Copy, S: BuildHasher> Layer<A, S> {
     pub fn with_hasher(alloc: A, word: u64, hasher: S) -> Self
         // A layer of `with_hasher` is in the state in which no call was made, whatever the hasher.
         ensures start { result.state ≡ start (usual word) }
-        // To a layer of `with_hasher` no call has led, and 4,096 messages can be remembered.
-        ensures led { LayerLed (usual word) [] result.state }
         // A layer of `with_hasher` has no input to take back.
         ensures before { result.before ≡ None }
     {
@@ -103,8 +99,6 @@ impl<A: Allocator + Copy, S: BuildHasher> Layer<A, S> {
     pub fn with_setup(alloc: A, setup: Setup, hasher: S) -> Self
         // A layer of `with_setup` is in the state in which no call was made, by its word and number of places.
         ensures start { result.state ≡ start setup }
-        // To a layer of `with_setup` no call has led, and as many messages can be remembered as were chosen.
-        ensures led { LayerLed setup [] result.state }
         // A layer of `with_setup` has no input to take back.
         ensures before { result.before ≡ None }
     {
@@ -157,8 +151,6 @@ impl<A: Allocator + Copy, S: BuildHasher> Layer<A, S> {
     ) -> Result<Up<'d>, AllocError>
         // What an arrival becomes, and what the layer is then, is a step of its machine.
         ensures step { IfOk result (λ up. Moves self.old now.0 (Receive from bytes.now) (answer_as up) self.new) }
-        // Every history that led to the layer leads on with this arrival, unless it was refused memory.
-        ensures led { IsOk result → Leads self.old now.0 (Receive from bytes.now) self.new }
         // An arrival can be taken back: the state before it is kept.
         ensures before { OnOk result (self.new.before ≡ Some self.old.state) }
         // To a message that is handed up a reply may be given.
@@ -205,8 +197,6 @@ impl<A: Allocator + Copy, S: BuildHasher> Layer<A, S> {
     pub fn pass(&mut self, now: Moment)
         // That time passes is a step of the layer's machine.
         ensures step { Moves self.old now.0 Pass Nothing self.new }
-        // Every history that led to the layer leads on with a moment that is handed in.
-        ensures led { Leads self.old now.0 Pass self.new }
         // A moment that is handed in is taken back with the last input.
         ensures before { self.new.before ≡ self.old.before }
         // A moment that is handed in leaves the room as it was.
@@ -223,8 +213,6 @@ impl<A: Allocator + Copy, S: BuildHasher> Layer<A, S> {
         // What a tick does, a copy, a failure or nothing, is a step of the layer's machine.
         ensures step { IfOk result (λ tick. (answer : Answer) × IsTick tick answer
             × Moves self.old now.0 Ticks answer self.new) }
-        // Every history that led to the layer leads on with this tick, unless it was refused memory.
-        ensures led { IsOk result → Leads self.old now.0 Ticks self.new }
         // A tick can be taken back: the state before it is kept.
         ensures before { OnOk result (self.new.before ≡ Some self.old.state) }
         // A tick that is refused memory leaves the layer as it was.
@@ -259,8 +247,6 @@ impl<A: Allocator + Copy, S: BuildHasher> Layer<A, S> {
     pub fn next_out(&mut self) -> Option<Datagram<A>>
         // Which datagram is given out, and what that leaves, is a step of the layer's machine.
         ensures step { Moves self.old 0 Take (Gives result) self.new }
-        // Every history that led to the layer leads on with a datagram that is given out.
-        ensures led { Leads self.old 0 Take self.new }
         // What was given out is not taken back.
         ensures before { self.new.before ≡ None }
         // A datagram that is given out leaves the room as it was.

@@ -1,5 +1,5 @@
 -- The history of a server stands in its law.
-use Rattle.std.proofs.Common.{slice_index, ◌<◌, ℕ, zero, suc, List, [], ◌∷◌, refl, arith}
+use Rattle.std.proofs.Common.{List, refl, arith}
 use Rattle.coap_codec.specs.Reading.{extended, value_at, nibbles_at, option_at, walk_of, walk, payload_at, frame_fault}
 use Rattle.coap_codec.specs.Reading.{body_at}
 use Rattle.coap_codec.specs.Decoded.{decoded}
@@ -11,7 +11,7 @@ use Rattle.coap_layer.specs.Machine.Steps.{Asked as Below, Steps, left_after}
 use Rattle.coap_layer.proofs.Facts.Sendable.{sendable_when_short}
 use Rattle.coap_exchange.specs.AnswererSteps.{content_of, content_with}
 use Rattle.coap_exchange.specs.AnswererLaw.{lower_of, ResponseLaw}
-use Rattle.coap_exchange.specs.ServerExample.{token, get, asked, content, notification, run}
+use Rattle.coap_exchange.specs.ServerExample.{token, asked, content, notification, run}
 
 abbrev below : List Below
 below = lower_of run

@@ -1,5 +1,5 @@
 -- What contracts see of a server's side.
-use Rattle.std.specs.Prelude.{◌≡◌, ◌≢◌, ◌<◌, ◌⊎◌, ℕ, max, Bool, true, false, Option, Some, None, List, ◌∷◌}
+use Rattle.std.specs.Prelude.{◌≡◌, ◌≢◌, ◌<◌, ◌⊎◌, ℕ, max, Bool, true, false, Option, Some, None, List}
 use Rattle.std.specs.Option.{option_map}
 use Rattle.coap_types.specs.Roles.{role_of}
 use Rattle.coap_types.specs.declared.endpoint.Endpoint.{Endpoint}
@@ -16,10 +16,9 @@ use Rattle.coap_exchange.specs.declared.answerer.Asked.{Asked}
 use Rattle.coap_exchange.specs.declared.answerer.Ended.{Ended}
 use Rattle.coap_exchange.specs.declared.separate.Deferred.{Deferred}
 use Rattle.coap_exchange.specs.declared.separate.Separate.{Separate}
-use Rattle.coap_exchange.specs.AnswererTrace.{Response, Own, Call, Sending}
+use Rattle.coap_exchange.specs.AnswererTrace.{Response, Own, Sending}
 use Rattle.coap_exchange.specs.AnswererSteps.{content_with, ready_at}
-use Rattle.coap_exchange.specs.AnswererLaw.{State, Led}
-use Rattle.coap_layer.specs.declared.setup.Setup.{Setup}
+use Rattle.coap_exchange.specs.AnswererLaw.{State}
 
 -- its state, the state that `undo` would leave, whether the request that the last input handed up may be answered, and
 -- whether there is room for a separate response
@@ -28,10 +27,6 @@ pub record Shown : Type 0 where
   pub before : Option State
   pub answerable : Bool
   pub room : Bool
-
--- what led to the one leads by this call to the other
-abbrev pub Leads : Shown → Call → Shown → Type 0
-Leads old c new = (setup : Setup) (t : List Call) → Led setup t old.state → Led setup (c ∷ t) new.state
 
 abbrev pub own_with : ℕ → Option Asked → List Deferred → List Separate → Option Ended → Option Sending → Own
 own_with clock pending deferred separate ended unmatched =

@@ -1,28 +1,22 @@
 -- What contracts see of a client's side.
-use Rattle.std.specs.Prelude.{◌≤◌, ℕ, Option, Some, None, List, ◌∷◌, length}
+use Rattle.std.specs.Prelude.{◌≤◌, ℕ, Option, Some, None, List, length}
 use Rattle.coap_types.specs.declared.endpoint.Endpoint.{Endpoint}
 use Rattle.coap_layer.specs.Sendable.{IsSendable}
 use Rattle.coap_layer.specs.Machine.State as L
 use Rattle.coap_layer.specs.declared.up.SendRefusal.{SendRefusal}
 use Rattle.coap_layer.specs.declared.up.SendRefusal.TheVariants as send
-use Rattle.coap_layer.specs.declared.setup.Setup.{Setup}
 use Rattle.coap_exchange.specs.declared.asker.AskRefusal.{AskRefusal}
 use Rattle.coap_exchange.specs.declared.asker.AskRefusal.TheVariants as refusal
 use Rattle.coap_exchange.specs.declared.held.Held.{Held}
-use Rattle.coap_exchange.specs.AskerTrace.{Request, Own, Call}
+use Rattle.coap_exchange.specs.AskerTrace.{Request, Own}
 use Rattle.coap_exchange.specs.AskerRequests.{content_of}
-use Rattle.coap_exchange.specs.AskerLaw.{State, Led}
+use Rattle.coap_exchange.specs.AskerLaw.{State}
 use Rattle.coap_types.specs.declared.token.TheConstants.{MAX_TOKEN_LEN as max_token_len}
 
 -- its state, and the state that `undo` would leave
 pub record Shown : Type 0 where
   pub state : State
   pub before : Option State
-
--- what led to the one leads by this call to the other
-abbrev pub Leads : Shown → Call → Shown → Type 0
-Leads old c new =
-    (server : Endpoint) (setup : Setup) (t : List Call) → Led server setup t old.state → Led server setup (c ∷ t) new.state
 
 abbrev pub own_with : ℕ → Endpoint → ℕ → Held → Own
 own_with clock server word held =

@@ -11,7 +11,7 @@ ghost use Rattle.coap_exchange.specs.declared.answerer.Asked.{Asked as AskedSpec
 ghost use Rattle.coap_exchange.specs.declared.answerer.Due.TheVariants as dues;
 ghost use Rattle.coap_exchange.specs.AnswererLaw.{Led, Step};
 ghost use Rattle.coap_exchange.specs.AnswererTrace.{Call, Ticks};
-ghost use Rattle.coap_exchange.specs.Machine.AnswererShown.{Leads, MayNotify, MayRespond};
+ghost use Rattle.coap_exchange.specs.Machine.AnswererShown.{MayNotify, MayRespond};
 ghost use Rattle.coap_exchange.specs.Machine.Rests.{AnswererRests, AnswererTurns, has_due};
 ghost use Rattle.coap_exchange.specs.Machine.WhatIsDue.{takes_con, takes_response};
 
@@ -31,9 +31,6 @@ impl<A: Allocator + Copy, S: BuildHasher> Answerer<A, S> {
         // What a tick does, and what that leaves, is a step of the answerer's machine.
         ensures step { IfOk result (λ due. (done : below.Answer) × (room : Bool)
             × Step self.old.state (Ticks now.0 done room due) self.new.state) }
-        // Every history that led to the answerer leads on with this tick, unless it was refused memory.
-        ensures led { IfOk result (λ due. (done : below.Answer) × (room : Bool)
-            × Leads self.old (Ticks now.0 done room due) self.new) }
         // To a request that a tick calls ready a response may be sent at that moment.
         ensures ready { IfOk result (λ due. (a : AskedSpec) → due ≡ dues.Ready a → MayRespond self.new now.0 a) }
         // The token of a request that a tick calls ready has at most 8 bytes.

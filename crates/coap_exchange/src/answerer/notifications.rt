@@ -5,7 +5,7 @@ ghost use Rattle.coap_layer.specs.Machine.State.{answer_of};
 ghost use Rattle.coap_layer.specs.Trace as below;
 ghost use Rattle.coap_exchange.specs.AnswererLaw.{Step};
 ghost use Rattle.coap_exchange.specs.AnswererTrace.{Ready, Notifies, NotifiesPlain};
-ghost use Rattle.coap_exchange.specs.Machine.AnswererShown.{Leads, MayNotify, IsAnswerWith};
+ghost use Rattle.coap_exchange.specs.Machine.AnswererShown.{MayNotify, IsAnswerWith};
 ghost use Rattle.coap_exchange.specs.Machine.WhatIsDue.{takes_con};
 
 use crate::answerer::{Answerer, Response};
@@ -31,8 +31,6 @@ impl<A: Allocator + Copy, S: BuildHasher> Answerer<A, S> {
     pub fn ready(&mut self, now: Moment, to: Endpoint) -> Result<bool, AllocError>
         // Whether a notification may be sent, and what asking leaves, is a step of the answerer's machine.
         ensures step { IfOk result (λ may. Step self.old.state (Ready now.0 to may) self.new.state) }
-        // Every history that led to the answerer leads on with this question, unless it was refused memory.
-        ensures led { IfOk result (λ may. Leads self.old (Ready now.0 to may) self.new) }
         // A notification may be sent exactly where no CON to the endpoint is outstanding and a Message ID is free.
         ensures answer { IfOk result (λ may. may ≡ takes_con self.old.state now.0 to) }
         // Where the answer is yes, `notify` may be called at that moment.
@@ -75,8 +73,6 @@ impl<A: Allocator + Copy, S: BuildHasher> Answerer<A, S> {
         requires response { IsAnswerWith token.now response.now }
         // Which Message ID a notification has, and what that leaves, is a step of the answerer's machine.
         ensures step { Step self.old.state (Notifies now.0 to token.now response.now word result.0) self.new.state }
-        // Every history that led to the answerer leads on with this notification, which is never refused.
-        ensures led { Leads self.old (Notifies now.0 to token.now response.now word result.0) self.new }
         // A notification is taken back with the last input.
         ensures before { self.new.before ≡ self.old.before }
     {
@@ -103,8 +99,6 @@ impl<A: Allocator + Copy, S: BuildHasher> Answerer<A, S> {
         requires response { IsAnswerWith token.now response.now }
         // A notification in a NON, its Message ID, and what it leaves, are a step of the answerer's machine.
         ensures step { Step self.old.state (NotifiesPlain now.0 to token.now response.now result.0) self.new.state }
-        // Every history that led to the answerer leads on with the notification in a NON.
-        ensures led { Leads self.old (NotifiesPlain now.0 to token.now response.now result.0) self.new }
         // A notification in a NON leaves what `undo` takes back as it was.
         ensures before { self.new.before ≡ self.old.before }
     {

@@ -4,7 +4,7 @@ ghost use Rattle.coap_types.specs.declared.endpoint.Endpoint.{Endpoint as Endpoi
 ghost use Rattle.coap_types.specs.declared.message.Kind.TheVariants.{Con};
 ghost use Rattle.coap_layer.specs.Trace as below;
 ghost use Rattle.coap_exchange.specs.AnswererLaw.{Step};
-ghost use Rattle.coap_exchange.specs.Machine.AnswererShown.{Leads, MayAnswer, MayNotify, MayRespond, IsAnswer};
+ghost use Rattle.coap_exchange.specs.Machine.AnswererShown.{MayAnswer, MayNotify, MayRespond, IsAnswer};
 ghost use Rattle.coap_exchange.specs.AnswererTrace.{Answers, Defers, Responds};
 
 use crate::answerer::{Answerer, Asked, Response};
@@ -27,8 +27,6 @@ impl<A: Allocator + Copy, S: BuildHasher> Answerer<A, S> {
         // What a response at once leaves is a step of the answerer's machine.
         ensures step { (sent : below.Answer)
             × Step self.old.state (Answers asked.now response.now sent) self.new.state }
-        // Every history that led to the answerer leads on with this response, which is never refused.
-        ensures led { (sent : below.Answer) × Leads self.old (Answers asked.now response.now sent) self.new }
         // A response at once is taken back with the request that it answers.
         ensures before { self.new.before ≡ self.old.before }
     {
@@ -45,8 +43,6 @@ impl<A: Allocator + Copy, S: BuildHasher> Answerer<A, S> {
         requires con { asked.now.kind ≡ Con }
         // Whether a request is deferred, and what that leaves, is a step of the answerer's machine.
         ensures step { Step self.old.state (Defers now.0 asked.now delay_ms result) self.new.state }
-        // Every history that led to the answerer leads on with this deferral, or with its refusal.
-        ensures led { Leads self.old (Defers now.0 asked.now delay_ms result) self.new }
         // After a deferral, or its refusal, a request may be answered.
         ensures answerable { self.new.answerable ≡ true }
         // Where a notification could be sent and a deferral sends nothing, it still can.
@@ -77,8 +73,6 @@ impl<A: Allocator + Copy, S: BuildHasher> Answerer<A, S> {
         requires response { IsAnswer asked.now response.now }
         // Which Message ID a separate response has, and what that leaves, is a step of the answerer's machine.
         ensures step { Step self.old.state (Responds now.0 asked.now response.now word result.0) self.new.state }
-        // Every history that led to the answerer leads on with this separate response, which is never refused.
-        ensures led { Leads self.old (Responds now.0 asked.now response.now word result.0) self.new }
         // A separate response is taken back with the tick that called its request ready.
         ensures before { self.new.before ≡ self.old.before }
     {

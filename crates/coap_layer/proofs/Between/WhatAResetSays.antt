@@ -1,5 +1,5 @@
 -- What a Reset says, and what goes out beside it.
-use Rattle.std.proofs.Common.{◌-◌, ◌≡◌, ◌⊎◌, inl, inr, ℕ, ◌<◌, ◌/◌, ◌%◌, List, ◌∷◌, ap, sym, subst, arith}
+use Rattle.std.proofs.Common.{◌≡◌, ◌⊎◌, inl, inr, ℕ, ◌<◌, ◌/◌, ◌%◌, List, ◌∷◌, ap, sym, subst, arith}
 use Rattle.coap_types.specs.Past.{Always}
 use Rattle.coap_types.proofs.Facts.Traces.{Ever_of_Since}
 use Rattle.coap_types.specs.Roles.{role_of}

@@ -1,11 +1,10 @@
 -- The first moment at which something holds, and at which a tick of the layer does a step.
-use Rattle.std.proofs.Common.{◌≡◌, ◌≢◌, ◌≤◌, ℕ, ◌+◌, ◌/◌, ◌%◌, Bool, true, false, Option, Some, None, List, [], ◌∷◌}
-use Rattle.std.proofs.Common.{refl, sym, ◌∙◌, ◌||◌, ◌==◌, not, cond, slice_get, arith}
+use Rattle.std.proofs.Common.{◌≡◌, ◌≢◌, ℕ, ◌+◌, ◌/◌, ◌%◌, Bool, true, false, Option, Some, None, List, [], ◌∷◌}
+use Rattle.std.proofs.Common.{refl, ◌||◌, ◌==◌, not, cond, slice_get, arith}
 use Rattle.coap_types.specs.declared.transmission.TheConstants.{ID_REUSE_AFTER_MS as id_reuse_after}
 use Rattle.coap_layer.specs.declared.message_id.TheConstants.{GROUP_SIZE as group_size}
 use Rattle.coap_layer.proofs.ListLemmas.{lt_true, true_lt}
-use Rattle.coap_types.specs.declared.endpoint.Moment.{Moment}
-use Rattle.coap_types.specs.FirstMoment.{HoldsOn, IsFirstMoment}
+use Rattle.coap_types.specs.FirstMoment.{HoldsOn}
 use Rattle.coap_layer.specs.Trace.{Idle, Copied, Expired}
 use Rattle.coap_layer.specs.Words.{Open}
 use Rattle.coap_layer.specs.Machine.State.{is_copy_due, is_failed, is_free, is_rested, tick_of}

@@ -1,7 +1,7 @@
 -- Two layers that stand in the law of a channel: a CON is begun at 0, arrives at 10 and is acknowledged; the
 -- acknowledgement is taken at 20 (RFC 7252, section 4.2).
 use Rattle.coap_layer.specs.Examples.{began}
-use Rattle.std.proofs.Common.{◌≡◌, ◌<◌, inl, inr, ℕ, List, [], ◌∷◌, ◌++◌, true, refl, ap, subst, arith}
+use Rattle.std.proofs.Common.{◌≡◌, inl, inr, ℕ, List, [], ◌∷◌, ◌++◌, true, refl, ap, subst, arith}
 use Rattle.coap_types.specs.declared.endpoint.Endpoint.{Endpoint}
 use Rattle.coap_types.specs.declared.message.Kind.TheVariants.{Con, Ack}
 use Rattle.coap_codec.specs.Message.{Message, Spells}

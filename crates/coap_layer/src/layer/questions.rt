@@ -1,7 +1,7 @@
 //! What an end asks its layer before it sends or waits.
 ghost use Rattle.std.specs.Prelude.{◌≡◌, ◌≢◌, ◌≤◌, ◌<◌, ◌^◌, ℕ, max, true, false, IsOk, IfOk, IfSome, IfNone, OnOk, OnErr};
 ghost use Rattle.coap_types.specs.FirstMoment.{IsFirstMoment};
-ghost use Rattle.coap_layer.specs.Machine.Moves.{Leads, Moves, would_answer};
+ghost use Rattle.coap_layer.specs.Machine.Moves.{Moves, would_answer};
 ghost use Rattle.coap_layer.specs.Machine.State.{is_free};
 ghost use Rattle.coap_layer.specs.Machine.Waits.{any_has_step};
 ghost use Rattle.coap_layer.specs.Trace.{Ticks, Room as AsksRoom, AsksFree, Is, Idle};
@@ -75,8 +75,6 @@ impl<A: Allocator + Copy, S: BuildHasher> Layer<A, S> {
     pub fn room(&mut self, now: Moment, to: Endpoint) -> Result<bool, AllocError>
         // Whether there is room, and what asking leaves, is a step of the layer's machine.
         ensures step { IfOk result (λ may. Moves self.old now.0 (AsksRoom to) (Is may) self.new) }
-        // Every history that led to the layer leads on with the question for room, unless it was refused memory.
-        ensures led { IsOk result → Leads self.old now.0 (AsksRoom to) self.new }
         // A question for room is taken back with the last input.
         ensures before { self.new.before ≡ self.old.before }
         // Where the answer is yes, there is room for a message.
@@ -128,8 +126,6 @@ impl<A: Allocator + Copy, S: BuildHasher> Layer<A, S> {
     pub fn is_free(&mut self, now: Moment) -> bool
         // Whether a Message ID is free, and what asking leaves, is a step of the layer's machine.
         ensures step { Moves self.old now.0 AsksFree (Is result) self.new }
-        // Every history that led to the layer leads on with the question for a Message ID.
-        ensures led { Leads self.old now.0 AsksFree self.new }
         // A question for a Message ID is taken back with the last input.
         ensures before { self.new.before ≡ self.old.before }
         // A question for a Message ID leaves the room as it was.

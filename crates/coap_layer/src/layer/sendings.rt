@@ -1,7 +1,7 @@
 //! What an end sends, and that no more copies of it go out.
 ghost use Rattle.std.specs.Prelude.{◌≡◌, ◌≢◌, ◌≤◌, Err, OnErr, length, true, false};
 ghost use Rattle.coap_layer.specs.declared.up.SendRefusal.TheVariants as refused;
-ghost use Rattle.coap_layer.specs.Machine.Moves.{Leads, Moves, would_answer};
+ghost use Rattle.coap_layer.specs.Machine.Moves.{Moves, would_answer};
 ghost use Rattle.coap_layer.specs.Machine.Shown.{MayReply};
 ghost use Rattle.coap_layer.specs.Machine.Ups.{sent_as};
 ghost use Rattle.coap_layer.specs.Sendable.{IsSendable};
@@ -27,8 +27,6 @@ impl<A: Allocator + Copy, S: BuildHasher> Layer<A, S> {
         requires short { length bytes.now ≤ max_message_len }
         // What a reply leaves is a step of the layer's machine.
         ensures step { Moves self.old 0 (Reply to id.0 bytes.now) Nothing self.new }
-        // Every history that led to the layer leads on with this reply, which is never refused.
-        ensures led { Leads self.old 0 (Reply to id.0 bytes.now) self.new }
         // A reply belongs to the input that it answers, and is taken back with it.
         ensures before { self.new.before ≡ self.old.before }
     {
@@ -58,8 +56,6 @@ impl<A: Allocator + Copy, S: BuildHasher> Layer<A, S> {
         // What the sending of a Confirmable message answers and leaves is a step of the layer's machine.
         ensures step { result ≢ Err refused.Memory
             → Moves self.old now.0 (Confirm to content.now word) (sent_as result) self.new }
-        // Every history that led to the layer leads on with this Confirmable message, unless it was refused memory.
-        ensures led { result ≢ Err refused.Memory → Leads self.old now.0 (Confirm to content.now word) self.new }
         // A Confirmable message is taken back with the last input.
         ensures before { self.new.before ≡ self.old.before }
         // With room a Confirmable message is not refused memory.
@@ -106,8 +102,6 @@ impl<A: Allocator + Copy, S: BuildHasher> Layer<A, S> {
         // What the sending of a Non-confirmable message answers and leaves is a step of the layer's machine.
         ensures step { result ≢ Err refused.Memory
             → Moves self.old now.0 (Plain to content.now) (sent_as result) self.new }
-        // Every history that led to the layer leads on with this Non-confirmable message, unless refused memory.
-        ensures led { result ≢ Err refused.Memory → Leads self.old now.0 (Plain to content.now) self.new }
         // A Non-confirmable message is taken back with the last input.
         ensures before { self.new.before ≡ self.old.before }
         // With room a Non-confirmable message is not refused memory.
@@ -142,8 +136,6 @@ impl<A: Allocator + Copy, S: BuildHasher> Layer<A, S> {
     pub fn settle(&mut self, to: Endpoint, id: Id) -> bool
         // That the copies of a message end, since its answer came, is a step of the layer's machine (section 5.2.2).
         ensures step { Moves self.old 0 (Settle to id.0) (Is result) self.new }
-        // Every history that led to the layer leads on with a message that is settled.
-        ensures led { Leads self.old 0 (Settle to id.0) self.new }
         // What is settled is open again once the last input is taken back.
         ensures before { self.new.before ≡ self.old.before }
         // To settle a message leaves the room as it was.

@@ -1,7 +1,6 @@
 use Rattle.std.proofs.Common.{ap}
 use Rattle.coap_exchange.specs.Machine.AnswererShown.{sending_as}
 use Rattle.coap_exchange.specs.Machine.Listed.{listed}
-use Rattle.coap_exchange.proofs.Leading.ServerLeads.{led_call}
 use Rattle.coap_exchange.proofs.Calls.ServerCalls.{answered}
 use Rattle.coap_exchange.proofs.answerer.Answerer.answer.Goals as goal
 
@@ -14,6 +13,3 @@ returns-clause-step g c =
           (listed inside.separate.items) inside.ended (sending_as inside.unmatched) c.args.self.now.state c.args.asked.now c.args.response.now sent.0
           (ap (λ s. s.state) c.self.view_is) c.requires.may.pending c.requires.response sent.1 sent.2,
     )
-
-pub returns-clause-led : goal.returns-clause-led
-returns-clause-led g c = let s = returns-clause-step g c in (s.0, λ setup t led. led_call setup t _ _ _ led s.1)

@@ -1,6 +1,5 @@
 use Rattle.std.proofs.Common.{◌≡◌, not, false, is_some, refl, rules, ap, sym, subst, ◌∙◌, arith}
 use Rattle.coap_layer.specs.Machine.Ups.{answer_as}
-use Rattle.coap_exchange.proofs.Leading.ServerLeads.{led_call}
 use Rattle.coap_exchange.proofs.Calls.ServerCalls.{has_room, keeps, may_take, received}
 use Rattle.std.proofs.lemmas.Bool.{and_parts}
 use Rattle.coap_exchange.specs.Machine.AnswererShown.{sending_as}
@@ -51,9 +50,6 @@ returns-clause-step g c =
           (c.after_arrival.ensures.now ∙ ap (separate_after c.args.from up) c.settle_down.ensures.now) (search rules)
           c.unmatched_by-self-inside.ensures,
     )
-
-pub returns-clause-led : goal.returns-clause-led
-returns-clause-led g c = let s = returns-clause-step g c in (s.0, λ setup t led. led_call setup t _ _ _ led s.1)
 
 pub returns-clause-kept : goal.returns-clause-kept
 returns-clause-kept g c same at there may =

@@ -10,7 +10,6 @@ use Rattle.coap_exchange.specs.Machine.AnswererShown.{Shown, own_with, sending_a
 use Rattle.coap_exchange.specs.Machine.WhatIsDue.{takes_con, takes_response}
 use Rattle.coap_exchange.specs.AnswererSteps.{asking_room, due_of, failed_by, ready_at, ready_if, separate_unless}
 use Rattle.coap_exchange.specs.Machine.Listed.{listed}
-use Rattle.coap_exchange.proofs.Leading.ServerLeads.{led_call}
 use Rattle.coap_exchange.proofs.Calls.ServerTicks.{asks_freely, asking_clock, may_respond, placed, readied, ticked}
 use Rattle.coap_exchange.proofs.Calls.ServerTicks.{waits_its_turn}
 use Rattle.coap_exchange.proofs.Calls.RoomIsKept.{may_still, ticked_confirms}
@@ -93,9 +92,6 @@ returns-clause-step g c =
           (c.failed_by-self-inside.ensures step.0 step.1
           ∙ ap (failed_by step.0) (ap listed c.deref-2.ensures.value ∙ list)),
     )
-
-pub returns-clause-led : goal.returns-clause-led
-returns-clause-led g c = let s = returns-clause-step g c in (s.0, s.1, λ setup t led. led_call setup t _ _ _ led s.2)
 
 pub returns-clause-ready : goal.returns-clause-ready
 returns-clause-ready g c a h =

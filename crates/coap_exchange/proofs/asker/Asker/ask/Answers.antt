@@ -1,7 +1,6 @@
 use Rattle.std.proofs.Common.{rules, ap, refl, []}
 use Rattle.coap_layer.specs.Trace as below
 use Rattle.coap_exchange.specs.declared.matching.Opening.TheVariants as openings
-use Rattle.coap_exchange.proofs.Leading.ClientLeads.{led_call}
 use Rattle.coap_exchange.proofs.Calls.AskingCalls.{refused, told_spent}
 use Rattle.coap_exchange.proofs.asker.Asker.ask.Goals as goal
 
@@ -22,15 +21,3 @@ returns-in-Spent-clause-step g c e = (
       (below.Is c.is_free.result) openings.Spent _ (search rules) c.is_free.ensures.step refl
       (told_spent c.is_free.result c.spent_refusal.result [] c.spent_refusal.ensures),
 )
-
-pub returns-in-Running-clause-led : goal.returns-in-Running-clause-led
-returns-in-Running-clause-led g c e = let s =
-    returns-in-Running-clause-step g c e in (s.0, λ server setup t led. led_call server setup t _ _ _ led s.1)
-
-pub returns-in-Spent-clause-led : goal.returns-in-Spent-clause-led
-returns-in-Spent-clause-led g c e = let s = returns-in-Spent-clause-step g c e
-    in (s.0, λ server setup t led. led_call server setup t _ _ _ led s.1)
-
-pub returns-in-Sends-clause-led : goal.returns-in-Sends-clause-led
-returns-in-Sends-clause-led g c e = let s = c.send.ensures.step e
-    in (s.0, λ server setup t led. led_call server setup t _ _ _ led s.1)

@@ -5,7 +5,6 @@ use Rattle.coap_layer.specs.Machine.Ups.{answer_as}
 use Rattle.coap_exchange.specs.Machine.AskerShown.{own_with}
 use Rattle.coap_exchange.specs.AskerArrivals.{told}
 use Rattle.coap_exchange.specs.AskerFollows.{message_told}
-use Rattle.coap_exchange.proofs.Leading.ClientLeads.{led_call}
 use Rattle.coap_exchange.proofs.Telling.FewTokenBytes.{told_few}
 use Rattle.coap_exchange.proofs.Calls.ClientCalls.{received_old, replied}
 use Rattle.coap_exchange.proofs.asker.Asker.receive.Goals as goal
@@ -33,10 +32,6 @@ returns-clause-step g c =
           (c.verdict-verdict.ensures l.clock c.self.inside.word)
           c.id_in-id.ensures c.clock-at.ensures c.act.ensures.steps.1 (search rules) c.told.ensures,
     )
-
-pub returns-clause-led : goal.returns-clause-led
-returns-clause-led g c = let s = returns-clause-step g c
-    in (s.0, s.1, λ server setup t led. led_call server setup t _ _ _ led s.2)
 
 pub returns-clause-few : goal.returns-clause-few
 returns-clause-few g c =

@@ -1,5 +1,4 @@
 use Rattle.std.proofs.Common.{rules, ap}
-use Rattle.coap_exchange.proofs.Leading.ClientLeads.{led_call}
 use Rattle.coap_exchange.proofs.Calls.ClientCalls.{ticked_old}
 use Rattle.coap_exchange.proofs.asker.Asker.tick.Goals as goal
 
@@ -14,7 +13,3 @@ returns-clause-step g c =
           c.turn_of-turn.result step.2 c.clock.ensures (c.turn_of-turn.ensures l.clock c.self.inside.word step.0 step.1)
           (search rules),
     )
-
-pub returns-clause-led : goal.returns-clause-led
-returns-clause-led g c = let s = returns-clause-step g c
-    in (s.0, λ server setup t led. led_call server setup t _ _ _ led s.1)

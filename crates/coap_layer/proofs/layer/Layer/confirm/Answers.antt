@@ -13,7 +13,6 @@ use Rattle.coap_layer.specs.Trace.{Packet, with_head}
 use Rattle.coap_layer.specs.Words.{Open}
 use Rattle.coap_types.specs.declared.transmission.TheConstants.{ACK_TIMEOUT_MS as ack_timeout}
 use Rattle.coap_types.specs.declared.transmission.TheConstants.{TIMEOUT_VALUES as timeout_values}
-use Rattle.coap_layer.proofs.Machine.Forgetting.{led_step}
 use Rattle.coap_layer.proofs.Calls.Remembered.{upto_later}
 use Rattle.coap_layer.proofs.Calls.Outstanding.{busy_is}
 use Rattle.coap_layer.proofs.Calls.Places.{before_same, within_pushed}
@@ -30,9 +29,6 @@ returns-in-Some-clause-step g c _ =
     (ap (λ s. s.state) c.self.view_is) c.requires.spelled (search rules)
     c.args.word c.is_busy-busy.result c.would_give.result c.in-Some.refusal busy c.would_give.ensures
     (sym c.refusal.ensures ∙ c.in-Some.is)
-
-pub returns-in-Some-clause-led : goal.returns-in-Some-clause-led
-returns-in-Some-clause-led g c sent first t led = led_step first t _ _ _ _ _ led (returns-in-Some-clause-step g c sent)
 
 pub returns-in_default-make_room-clause-room : goal.returns-in_default-make_room-clause-room
 returns-in_default-make_room-clause-room g c has same =
@@ -99,9 +95,6 @@ returns-clause-step g c _ =
     (ap arrivals_in (c.send_con.ensures.entries ∙ c.make_room.ensures.entries))
     (c.send_con.ensures.open ∙ ap (λ cs. open_now cs ++ begun) c.make_room.ensures.sendings)
     (c.send_con.ensures.waiting ∙ ap (λ (q : List Packet). q ++ out) c.make_room.ensures.waiting)
-
-pub returns-clause-led : goal.returns-clause-led
-returns-clause-led g c sent first t led = led_step first t _ _ _ _ _ led (returns-clause-step g c sent)
 
 pub returns-clause-before : goal.returns-clause-before
 returns-clause-before g c =

@@ -3,7 +3,6 @@ use Rattle.coap_layer.specs.Machine.Parts.{held}
 use Rattle.coap_layer.specs.Machine.State.{State, forgotten}
 use Rattle.coap_layer.specs.Trace.{AsksFree, Is}
 use Rattle.coap_layer.proofs.Calls.CallsAreSteps.{step_of, still}
-use Rattle.coap_layer.proofs.Machine.Forgetting.{led_step}
 use Rattle.coap_layer.proofs.Calls.Places.{kept_later}
 use Rattle.coap_layer.proofs.layer.Layer.is_free.Goals as goal
 
@@ -20,6 +19,3 @@ returns-clause-step g c =
     (ap (λ s. s.state) c.self.view_is) tt (search rules) (ap Is c.would_give.ensures) refl
     (ap forgotten (sym (still h at AsksFree (Is c.would_give.result) h.awaits (λ a. refl)
     (λ x. refl) refl refl refl refl refl)))
-
-pub returns-clause-led : goal.returns-clause-led
-returns-clause-led g c word t led = led_step word t _ _ _ _ _ led (returns-clause-step g c)

@@ -3,7 +3,6 @@ use Rattle.coap_layer.specs.Machine.Parts.{held}
 use Rattle.coap_layer.specs.Machine.State.{State, forgotten}
 use Rattle.coap_layer.specs.Trace.{Gives, Take}
 use Rattle.coap_layer.proofs.Calls.CallsAreSteps.{first_is, moved, step_of, taken_so}
-use Rattle.coap_layer.proofs.Machine.Forgetting.{led_step}
 use Rattle.coap_layer.proofs.Calls.TakenIn.{room_kept}
 use Rattle.coap_layer.proofs.layer.Layer.next_out.Goals as goal
 
@@ -22,6 +21,3 @@ returns-clause-step g c =
     c.pop_front.ensures.items (λ more. c.pop_front.ensures.variant.1 (search rules)))) refl
     (ap (λ q. forgotten (moved h h.clock h.awaits h.arrived h.open_cons q)) c.pop_front.ensures.rest
     ∙ ap forgotten (sym (taken_so h c.pop_front.result)))
-
-pub returns-clause-led : goal.returns-clause-led
-returns-clause-led g c word t led = led_step word t _ _ _ _ _ led (returns-clause-step g c)

@@ -6,7 +6,6 @@ use Rattle.coap_layer.specs.Machine.Parts.{held, open_before}
 use Rattle.coap_layer.specs.Machine.Sendings.{open_now}
 use Rattle.coap_layer.specs.Machine.State.{State}
 use Rattle.coap_layer.specs.Trace.{Packet, with_head}
-use Rattle.coap_layer.proofs.Machine.Forgetting.{led_step}
 use Rattle.coap_layer.proofs.Calls.Places.{before_same}
 use Rattle.coap_layer.proofs.Calls.Sent.{non_left, non_refused, not_without}
 use Rattle.coap_layer.proofs.layer.Layer.plain.Goals as goal
@@ -17,9 +16,6 @@ returns-in-Some-clause-step g c _ =
     non_refused h c.args.self.now.state c.args.now.0 c.later-at.result.0 c.args.to c.args.content.now
     (ap (λ s. s.state) c.self.view_is) c.requires.spelled (search rules)
     c.would_give.result c.in-Some.refusal c.would_give.ensures (sym c.refusal.ensures ∙ c.in-Some.is)
-
-pub returns-in-Some-clause-led : goal.returns-in-Some-clause-led
-returns-in-Some-clause-led g c sent first t led = led_step first t _ _ _ _ _ led (returns-in-Some-clause-step g c sent)
 
 pub returns-clause-step : goal.returns-clause-step
 returns-clause-step g c _ =
@@ -36,9 +32,6 @@ returns-clause-step g c _ =
     (ap arrivals_in (c.send_non.ensures.entries ∙ c.make_room.ensures.entries))
     (ap (λ v. open_now v.items) c.send_non.ensures.sendings ∙ ap open_now c.make_room.ensures.sendings)
     (c.send_non.ensures.waiting ∙ ap (λ (q : List Packet). q ++ out) c.make_room.ensures.waiting)
-
-pub returns-clause-led : goal.returns-clause-led
-returns-clause-led g c sent first t led = led_step first t _ _ _ _ _ led (returns-clause-step g c sent)
 
 pub returns-in_default-make_room-clause-quiet : goal.returns-in_default-make_room-clause-quiet
 returns-in_default-make_room-clause-quiet g c quiet _ =

@@ -8,7 +8,6 @@ use Rattle.coap_layer.specs.Machine.Sendings.{open_now}
 use Rattle.coap_layer.specs.Machine.Sound.{IsKept}
 use Rattle.coap_layer.specs.Machine.State.{State, answer_to, is_live, is_remembered}
 use Rattle.coap_layer.specs.Trace.{Becomes}
-use Rattle.coap_layer.proofs.Machine.Forgetting.{led_step}
 use Rattle.coap_layer.proofs.Calls.Remembered.{on_err, same_arrivals}
 use Rattle.coap_layer.proofs.Calls.Received.{received, awaited_so, quiet_so}
 use Rattle.coap_layer.proofs.Calls.TakenIn.{none_of, room_kept, same_found}
@@ -52,9 +51,6 @@ returns-clause-step g c =
     c.in_ok-sent.ensures.sent
     (c.take_in-mark.ensures.waiting ∙ ap (λ q. q ++ option_to_list c.in_ok-sent.sent) c.in_ok-grow.ensures.waiting)
     c.awaiting-self-inside.ensures
-
-pub returns-clause-led : goal.returns-clause-led
-returns-clause-led g c _ word t led = led_step word t _ _ _ _ _ led (returns-clause-step g c)
 
 pub returns-in_err-sent-clause-quiet : goal.returns-in_err-sent-clause-quiet
 returns-in_err-sent-clause-quiet g c quiet =

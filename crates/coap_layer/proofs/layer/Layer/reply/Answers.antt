@@ -5,7 +5,6 @@ use Rattle.coap_layer.specs.Machine.Parts.{awaited, held}
 use Rattle.coap_layer.specs.Machine.State.{State, is_live}
 use Rattle.coap_layer.specs.Trace.{Nothing, Reply}
 use Rattle.coap_layer.proofs.Calls.CallsAreSteps.{step_of, replied_left}
-use Rattle.coap_layer.proofs.Machine.Forgetting.{led_step}
 use Rattle.coap_layer.proofs.Calls.Remembered.{same_arrivals, upto_back, upto_front, upto_more}
 use Rattle.coap_layer.proofs.Calls.Places.{before_same, unknown_there, within_more}
 use Rattle.coap_layer.proofs.Calls.Stored.{stored_newest, upto_stored}
@@ -49,9 +48,6 @@ returns-clause-step g c =
     ∙ stored_newest c.self.inside.clock.0 c.args.to id bytes old.settled old.newest unknown)
     (c.push_within.ensures.items ∙ ap (λ b. h.queue ++ record { to = c.args.to; bytes = b } ∷ [])
     c.copied-sent.ensures))
-
-pub returns-clause-led : goal.returns-clause-led
-returns-clause-led g c word t led = led_step word t _ _ _ _ _ led (returns-clause-step g c)
 
 pub returns-clause-before : goal.returns-clause-before
 returns-clause-before g c =

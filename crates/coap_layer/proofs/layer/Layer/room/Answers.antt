@@ -7,7 +7,6 @@ use Rattle.coap_layer.specs.Machine.Sendings.{open_now}
 use Rattle.coap_layer.specs.Machine.State.{State}
 use Rattle.coap_layer.specs.Trace.{Is, Room}
 use Rattle.coap_layer.proofs.Calls.CallsAreSteps.{step_of, still}
-use Rattle.coap_layer.proofs.Machine.Forgetting.{led_step}
 use Rattle.coap_layer.proofs.Calls.Remembered.{same_arrivals, upto_later}
 use Rattle.coap_layer.proofs.Calls.Places.{unknown_later, within_pushed}
 use Rattle.coap_layer.proofs.Calls.Sent.{so_told}
@@ -33,9 +32,6 @@ returns-clause-step g c =
       still h at (Room c.args.to) (Is c.would_confirm-may.result) h.awaits (λ a. refl)
           (λ x. refl) refl refl refl refl refl,
     ))
-
-pub returns-clause-led : goal.returns-clause-led
-returns-clause-led g c _ word t led = led_step word t _ _ _ _ _ led (returns-clause-step g c)
 
 pub returns-in_err-grow-clause-quiet : goal.returns-in_err-grow-clause-quiet
 returns-in_err-grow-clause-quiet g c quiet =

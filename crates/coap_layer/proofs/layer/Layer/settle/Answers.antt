@@ -6,7 +6,6 @@ use Rattle.coap_layer.specs.Machine.Sendings.{open_now}
 use Rattle.coap_layer.specs.Machine.State.{State, forgotten, is_outstanding}
 use Rattle.coap_layer.specs.Trace.{Is, Settle}
 use Rattle.coap_layer.proofs.Calls.CallsAreSteps.{moved, step_of, settled_so}
-use Rattle.coap_layer.proofs.Machine.Forgetting.{led_step}
 use Rattle.coap_layer.proofs.Calls.Outstanding.{ended_before, ended_open}
 use Rattle.coap_layer.proofs.Calls.Places.{before_ended}
 use Rattle.coap_layer.proofs.Calls.Sendings.{outstanding_is}
@@ -35,9 +34,6 @@ returns-clause-step g c =
     (ap (λ cs. forgotten (moved h h.clock h.awaits h.arrived cs h.queue))
     (ap open_now c.end_all.ensures.items ∙ ended_open c.args.to c.args.id.0 c.self.inside.lists.sendings.items)
     ∙ ap forgotten (sym (settled_so h c.args.to c.args.id.0 c.is_outstanding-open.result)))
-
-pub returns-clause-led : goal.returns-clause-led
-returns-clause-led g c word t led = led_step word t _ _ _ _ _ led (returns-clause-step g c)
 
 pub returns-clause-before : goal.returns-clause-before
 returns-clause-before g c =

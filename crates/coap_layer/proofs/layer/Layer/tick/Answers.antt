@@ -10,7 +10,6 @@ use Rattle.coap_layer.specs.Machine.State.{copies, State, is_live, tick_of}
 use Rattle.coap_layer.specs.Trace.{Ticks}
 use Rattle.coap_layer.specs.Words.{left_by}
 use Rattle.coap_layer.proofs.Calls.CallsAreSteps.{step_of, ticked_left}
-use Rattle.coap_layer.proofs.Machine.Forgetting.{led_step}
 use Rattle.coap_layer.proofs.Calls.Remembered.{on_err, same_arrivals}
 use Rattle.coap_layer.proofs.Calls.Places.{within_pushed}
 use Rattle.coap_layer.proofs.Calls.TakenIn.{none_of, room_kept}
@@ -37,9 +36,6 @@ returns-clause-step g c =
           (left_by (record { at = at; call = Ticks; answer = answer_for due; out = out })) (open_now cs)) sendings)
           (c.take_tick-due.ensures.waiting ∙ ap (λ q. q ++ out) c.in_ok-grow.ensures.waiting)),
     )
-
-pub returns-clause-led : goal.returns-clause-led
-returns-clause-led g c _ word t led = led_step word t _ _ _ _ _ led ((returns-clause-step g c).2)
 
 pub take_tick-due-requires-clause-up_to : goal.take_tick-due-requires-clause-up_to
 take_tick-due-requires-clause-up_to g c = subst (IsUpTo c.self.inside.clock.0)
