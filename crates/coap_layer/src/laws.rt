@@ -121,13 +121,14 @@ pub fn channel_law()
     // IDs, one is free, whatever the number that can be remembered.
     ensures free { (one other : Setup) (near far : Endpoint) (all : List Hop) → ChannelLaw one other near far all
         → IdsAreFree one.word near far all }
-    // A Confirmable message is replied to once at most (section 4.2).
+    // By one clock, too, a Confirmable message is replied to once at most (section 4.2).
     ensures replied_once { (one other : Setup) (near far : Endpoint) (all : List Hop) → ChannelLaw one other near far all
         → RepliedOnce near all }
-    // An acknowledgement that is taken is the reply that was given to that very message, which was taken (section 4.2).
+    // By one clock, too, an acknowledgement that is taken is the reply that was given to that very message (section 4.2).
     ensures replied { (one other : Setup) (near far : Endpoint) (all : List Hop) → ChannelLaw one other near far all
         → AcksReplied near far all }
-    // A Reset that is taken for a request or a response is the reply that was given to that very message (section 4.2).
+    // By one clock, too, a Reset that is taken for a request or a response is the reply that was given to that very message
+    // (section 4.2).
     ensures resets { (one other : Setup) (near far : Endpoint) (all : List Hop) → ChannelLaw one other near far all
         → ResetsMeant near far all }
 {}

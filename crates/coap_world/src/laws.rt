@@ -66,10 +66,11 @@ pub fn clocks_law()
 
 /// What holds however late datagrams are, and however the ends' clocks run.
 pub fn any_time_law()
-    // What comes from the client's address is a request that the client sent (RFC 7252, sections 4.2 and 5.2).
+    // However late it is, what comes from the client's address is a request that the client sent (RFC 7252, sections 4.2 and
+    // 5.2).
     ensures came { at_any_time.InRuns CamesFrom }
-    // Each body that is reported was held by the server at the call's path, under the version of its ETag, between the call
-    // and the report (RFC 7252, sections 5.8.1 and 5.10.6; RFC 7959, section 2.4).
+    // However late datagrams are, each body that is reported was held by the server at the call's path, under the version of
+    // its ETag, between the call and the report (RFC 7252, sections 5.8.1 and 5.10.6; RFC 7959, section 2.4).
     ensures held { at_any_time.InRuns EachHeld }
     // .. so was each representation that is reported as valid (sections 5.9.1.3 and 5.10.6.2) ..
     ensures valid { at_any_time.InRuns EachValid }
@@ -87,7 +88,7 @@ pub fn any_time_law()
     ensures done { at_any_time.InRuns OnceDone }
     // Each answer was made by the server before, for the client, under that token (section 5.3.2).
     ensures answered { at_any_time.InRuns AllAnswered }
-    // .. and so was each notification (RFC 7641, section 3.2).
+    // .. and so was each notification, whenever it comes (RFC 7641, section 3.2).
     ensures noticed { at_any_time.InRuns AllNoticed }
     // A GET makes at most as many exchanges as 4 passes over the blocks of the longest body (RFC 7959, section 2.4).
     ensures bounded { at_any_time.InRuns AreBounded }
