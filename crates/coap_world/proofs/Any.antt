@@ -1,5 +1,3 @@
 -- At any time.
-pub mod Observations
-pub mod Reports
 pub mod Requests
-pub mod Age
+pub mod Reports

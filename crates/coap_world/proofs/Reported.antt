@@ -7,3 +7,4 @@ pub mod TickOpens
 pub mod TakenBy
 pub mod Since
 pub mod EachReported
+pub mod EightCalls

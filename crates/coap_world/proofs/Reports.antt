@@ -26,6 +26,8 @@ pub mod ValuesHeld
 pub mod Codes
 pub mod Located
 pub mod OnceDone
+pub mod FailureCodes
+pub mod EachFailed
 pub mod LastAnswered
 pub mod HandedOnce
 pub mod AppliedRequest

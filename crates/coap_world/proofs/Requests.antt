@@ -11,6 +11,7 @@ pub mod GetRead
 pub mod Traced
 pub mod LastRequests
 pub mod OfACall
+pub mod AtAnyTime
 pub mod AtMostOnce
 pub mod Conditions
 pub mod Alone

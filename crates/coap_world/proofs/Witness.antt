@@ -20,3 +20,12 @@ pub mod PutsLate
 pub mod ObservedAlone
 pub mod ShowsLate
 pub mod StaysOld
+pub mod ShowsPlain
+pub mod PutsInBlocks
+-- Runs by two clocks, and how old a body may be.
+pub mod PacedClocks
+pub mod ClockTests
+pub mod LastHeld
+pub mod GrowsOld
+pub mod HourAhead
+pub mod PutsTwice

@@ -20,7 +20,7 @@ use Rattle.coap_world.specs.Serves.{AllServed}
 use Rattle.coap_client.specs.Follows.Codes.{ReportsCodes}
 use Rattle.coap_client.specs.Follows.Ends.{AllEnds}
 use Rattle.coap_client.specs.Follows.Taken.{AllTaken}
-use Rattle.coap_world.specs.Done.{OnceDone, NeverFailed}
+use Rattle.coap_world.specs.Done.{EachFailed, OnceDone, NeverFailed}
 
 module _ (config : Config) where
   pub record Agrees (all : List Entry) : Type 0 where
@@ -39,6 +39,8 @@ module _ (config : Config) where
     pub at_most_once : AtMostOnce config all
     pub once_done : OnceDone config all
     pub never_failed : NeverFailed config all
+    -- .. which the server said between call and report, and what 4.04 and 4.12 say of the path was so there
+    pub each_failed : EachFailed config all
     -- what the server holds are its changes, each owned; a local one does what it answers
     pub holds_changes : HoldsChanges config all
     pub changes_owned : ChangesOwned config all

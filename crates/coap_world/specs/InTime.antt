@@ -29,6 +29,6 @@ module _ (config : Config) where
   pub record FewArrive (turns : List Turn) : Type 0 where
     pub at_server : FewCome config.server_setup.remembered (far_of (hops_of config turns))
     pub at_client : FewCome config.client_setup.remembered (near_of (hops_of config turns))
-    -- .. and than there are Message IDs for their answers
+    -- .. and than one group of Message IDs has, for their answers
     pub with_ids_at_server : FewCome most_that_come (far_of (hops_of config turns))
     pub with_ids_at_client : FewCome most_that_come (near_of (hops_of config turns))

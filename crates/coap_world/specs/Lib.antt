@@ -26,6 +26,8 @@ pub mod LegalRuns
 pub mod Rising
 pub mod ObservationRuns
 pub mod LateRuns
+pub mod ClockRuns
+pub mod AgeRuns
 pub mod Run
 pub mod Smooth
 pub mod Young
@@ -44,6 +46,8 @@ pub mod TicksLeave
 pub mod HasIds
 pub mod Current
 pub mod CurrentRuns
+pub mod PlainRuns
+pub mod BlockRuns
 pub mod WhenDue
 pub mod NoticesCome
 pub mod NoticesTaken

@@ -1,4 +1,4 @@
-ghost use Rattle.std.specs.Prelude.{◌≡◌, ◌≤◌, ℕ, ◌+◌, length, List};
+ghost use Rattle.std.specs.Prelude.{◌≡◌, ◌≤◌, ℕ, ◌+◌, length, List, []};
 ghost use Rattle.coap_types.specs.declared.transmission.TheConstants.{EXCHANGE_LIFETIME_MS as exchange_lifetime};
 ghost use Rattle.coap_types.specs.declared.transmission.TheConstants.{LAST_ARRIVAL_MS as last_arrival};
 ghost use Rattle.coap_types.specs.declared.transmission.TheConstants.{MAX_LATENCY_MS as max_latency};
@@ -22,7 +22,7 @@ ghost use Rattle.coap_world.specs.Clocks.{Clocks, of_layers};
 ghost use Rattle.coap_world.specs.Current.{CurrentAlone};
 ghost use Rattle.coap_world.specs.Delivery.{AllFair};
 ghost use Rattle.coap_world.specs.declared.addresses.Addresses.{Addresses};
-ghost use Rattle.coap_world.specs.Done.{NeverFailed, OnceDone};
+ghost use Rattle.coap_world.specs.Done.{EachFailed, NeverFailed, OnceDone};
 ghost use Rattle.coap_world.specs.Events.{Config};
 ghost use Rattle.coap_world.specs.Fresh.{AreBehind, AreFresh, AreFreshIf, ComesIn, GainsAtMost, TickedWithin, age_in};
 ghost use Rattle.coap_world.specs.Given.{AllGiven};
@@ -40,6 +40,7 @@ ghost use Rattle.coap_world.specs.Noticed.{AllNoticed};
 ghost use Rattle.coap_world.specs.Events.{Event};
 ghost use Rattle.coap_world.specs.Legal.{Legal};
 ghost use Rattle.coap_world.specs.Record.{Turn, RecordOf, entries_of, client_of, server_trace};
+ghost use Rattle.coap_world.specs.Reported.{EightAreReported};
 ghost use Rattle.coap_world.specs.Rising.{HeldAreNamed, ValuesRise};
 ghost use Rattle.coap_world.specs.Serves.{AllServed};
 ghost use Rattle.coap_world.specs.Smooth.{FewTold, NoneObserved, Smooth, SmoothAlone};
@@ -74,7 +75,8 @@ pub fn any_time_law()
     ensures held { at_any_time.InRuns EachHeld }
     // .. so was each representation that is reported as valid (sections 5.9.1.3 and 5.10.6.2) ..
     ensures valid { at_any_time.InRuns EachValid }
-    // .. and what a call reports is no older than the request that it answers: it was held behind the sending of that ..
+    // .. and what a call reports is no older than the request that it answers: it was held behind the sending of
+    // that, and a value that comes in parts behind that of the request for its last part ..
     ensures behind { at_any_time.InRuns AreBehind }
     // .. and each value of an observation, since that was taken (RFC 7641, sections 3.2 and 4.4).
     ensures value { at_any_time.InRuns EachValue }
@@ -86,6 +88,9 @@ pub fn any_time_law()
     ensures served { at_any_time.InRuns AllServed }
     // Where Done is reported, a request of the call was applied between call and report (section 5.8).
     ensures done { at_any_time.InRuns OnceDone }
+    // Where Failed is reported, the server said so to a request of the call between call and report, however late
+    // datagrams are, and what 4.04 and 4.12 say of the path was so there (sections 5.8 and 5.9).
+    ensures refused { at_any_time.InRuns EachFailed }
     // Each answer was made by the server before, for the client, under that token (section 5.3.2).
     ensures answered { at_any_time.InRuns AllAnswered }
     // .. and so was each notification, whenever it comes (RFC 7641, section 3.2).
@@ -261,7 +266,8 @@ pub fn fresh_law()
         → AreFreshIf config (λ past t. c.client (length past)) (last_arrival + layers.max_gain) (TickedWithin config time) turns }
     // By one clock: at most EXCHANGE_LIFETIME before.
     ensures by_one { OfLegalRuns (λ config turns. AreFresh config (λ past t. t.event.at) exchange_lifetime turns) }
-    // What a call reports is no older than the request that it answers: it was held behind the sending of that.
+    // What a call reports is no older than the request that it answers: it was held behind the sending of that; nor
+    // is a value that comes in parts older than the request for its last part (RFC 7959, section 2.6).
     ensures behind { by_clocks.InLegalRuns AreBehind }
 {}
 
@@ -279,6 +285,10 @@ pub fn applied_law()
     ensures done { by_clocks.InLegalRuns OnceDone }
     // .. and none, before or after, where Failed is (RFC 7252, section 5.9).
     ensures failed { by_clocks.InLegalRuns NeverFailed }
+    // Where Failed is reported, the server said so to a request of the call between call and report; and where the
+    // code is 4.04, or 4.12 to a call that is no GET, the path held nothing there, or the call's preconditions failed
+    // (RFC 7252, sections 5.8, 5.9 and 5.10.8).
+    ensures refused { by_clocks.InLegalRuns EachFailed }
     // What the server holds are its changes, by their versions (RFC 7252, section 5.10.6), each of which is a local
     // one, or that of the one request to its path that is applied there (section 5.8).
     ensures holds { by_clocks.InLegalRuns HoldsChanges }
@@ -323,15 +333,21 @@ pub fn agreement()
     // input that is refused memory is lost.
     ensures no_fault { OfRecords NeverFaults }
     // In a smooth run, in which nothing is lost and nothing is late, and nothing is observed, calls are answered
-    // smoothly: no exchange is open for more than 2,000 ms where no path has a delay, and else for longer than the longest
-    // delay and 2,999 ms; each ends by an answer, each call is reported, a GET reports what its path holds, where it has no
-    // ETag and no Accept and that stays the same, and any other call the code of a response to it, and it is applied where
-    // that says so (RFC 7252, sections 4.2, 5.2 and 5.8; RFC 7959, section 2).
+    // smoothly: no exchange is open for more than 2,000 ms where no path has a delay, and else for more than 2,999 ms and
+    // the longest delay, which counts as 1,001 ms at least; each ends by an answer, each call is reported, a GET reports
+    // what its path holds, where it has no ETag and no Accept, that stays the same, and the client's limit is at least the
+    // server's, and any other call the code of a response to it, and it is applied where that says so (RFC 7252, sections
+    // 4.2, 5.2 and 5.8; RFC 7959, section 2).
     ensures smooth { OfLegalRuns (λ config turns. Smooth config turns → FewTold config turns → NoneObserved turns
         → AnsweredSmoothly config turns) }
-    // In a smooth run in which the client takes on one observation and nothing else, of a path whose representations fit
-    // one block, the last value is what the path holds, once that has stood for 5,000 ms and a first value was reported
-    // 5,000 ms before, while the observation goes on (RFC 7641, sections 1.3, 3.4 and 4.5).
+    // So where no path has a delay, 8 calls of one block are all reported within 24 s (RFC 7252, section 5.2; the
+    // numbers are a profile).
+    ensures eight { OfLegalRuns (λ config turns. config.delays ≡ [] → Smooth config turns → FewTold config turns
+        → NoneObserved turns → EightAreReported config turns) }
+    // In a smooth run without strangers in which the client takes on one observation and nothing else, of a path whose
+    // representations fit one block, and the client's limit is at least the server's, the last value is what the path
+    // holds, once that has stood for 5,000 ms and a first value was reported 5,000 ms before, while the observation goes on
+    // (RFC 7641, sections 1.3, 3.4 and 4.5).
     ensures current { OfLegalRuns (λ config turns. SmoothAlone config turns → CurrentAlone config turns) }
 {
     open_law();

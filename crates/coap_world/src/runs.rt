@@ -1,4 +1,6 @@
 ghost use Rattle.std.specs.Prelude.{List};
+ghost use Rattle.coap_world.specs.AgeRuns.{Oldest, OldestByTwo};
+ghost use Rattle.coap_world.specs.ClockRuns.{HourAhead, PutsTwice};
 ghost use Rattle.coap_world.specs.Events.{Config, Event};
 ghost use Rattle.coap_world.specs.Legal.{IsConfig};
 ghost use Rattle.coap_world.specs.GoesOn.{GoesOn, MayRun, HasRecord};
@@ -30,4 +32,18 @@ pub fn witness_law()
     // An upload waits until no block of a failed one can come, and is applied alone (RFC 7252, section 4.8.2; RFC 7959,
     // section 2.5).
     ensures holds_back { HoldsBack }
+{}
+
+/// Legal runs by two clocks, and as old a body as may be reported: what is promised over clocks is promised of
+/// something, and with no number that is too high.
+pub fn clocks_witness_law()
+    // A client observes and gets from a server whose clock is an hour ahead and makes a step of 5 s: that is legal by
+    // their two clocks, and by no one clock.
+    ensures hour { HourAhead }
+    // By clocks that don't keep pace, by 100,001 ms, a PUT is applied twice (RFC 7252, sections 4.5 and 4.8.2).
+    ensures twice { PutsTwice }
+    // A body that is reported is 247,000 ms old by one clock: the bound is reached (RFC 7252, section 4.8.2) ..
+    ensures oldest { Oldest }
+    // .. and 252,000 ms by two that keep pace.
+    ensures oldest_by_two { OldestByTwo }
 {}

@@ -1,10 +1,12 @@
 ghost use Rattle.std.specs.Prelude.{map};
 ghost use Rattle.coap_world.specs.AtOnce.{OldWait};
+ghost use Rattle.coap_world.specs.BlockRuns.{PutsInBlocks};
 ghost use Rattle.coap_world.specs.CurrentRuns.{ShowsLate, StaysOld};
 ghost use Rattle.coap_world.specs.EndsSmoothly.{SentByAnswers, YoungEndByAnswers};
 ghost use Rattle.coap_world.specs.HasIds.{HasIds};
 ghost use Rattle.coap_world.specs.InTime.{AllInTime, FewArrive};
 ghost use Rattle.coap_world.specs.Legal.{OfLegalRuns};
+ghost use Rattle.coap_world.specs.PlainRuns.{ShowsPlain};
 ghost use Rattle.coap_world.specs.Prompt.{AllPrompt};
 ghost use Rattle.coap_world.specs.Received.{AreReceived};
 ghost use Rattle.coap_world.specs.Record.{Turn, entries_of};
@@ -39,6 +41,11 @@ pub fn smooth_witness()
     // A run in which a value comes 4,000 ms after the change that it shows, and no earlier, and is the last one, as is
     // promised, 5,000 ms after it (RFC 7641, section 4.5).
     ensures shown { ShowsLate }
+    // The same of a path whose notifications go in NONs, of which one comes at its last moment (RFC 7641, section 4.5).
+    ensures plain { ShowsPlain }
+    // A PUT whose body goes in two blocks is applied once, whole, and reported when it is promised (RFC 7959, section
+    // 2.5).
+    ensures blocks { PutsInBlocks }
     // A run in which a notification is lost: the last value stays an old one.
     ensures old { StaysOld }
 {}

@@ -45,6 +45,7 @@ use Rattle.coap_world.proofs.Requests.CallsInRange.{ranges_by}
 use Rattle.coap_world.proofs.Requests.OfACall.{Lawful, lawful_back}
 use Rattle.coap_world.proofs.Requests.Promised.{comes_by, came_by}
 use Rattle.coap_world.specs.declared.addresses.Addresses.{Addresses}
+use Rattle.coap_world.proofs.Requests.AtAnyTime.{at_any_time}
 
 -- each type's age is at most the greatest
 at_most : (kind : Kind) → age_in kind ≤ exchange_lifetime
@@ -112,7 +113,7 @@ module _ (k : Clocks) (config : Config) (events : List Event) (turns : List Turn
   }
 
   pub behind_by : AreBehind config (entries_of turns)
-  behind_by = are_behind config legal.range.server_szx (entries_of turns) law
+  behind_by = are_behind config legal.range.server_szx (entries_of turns) (at_any_time law)
       (formats_in_of config.addresses turns run.made (ranges_by config.addresses k turns legal.events))
 
   abbrev pub client_clock : List Turn → Turn → ℕ

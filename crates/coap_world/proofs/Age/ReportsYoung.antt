@@ -30,7 +30,9 @@ use Rattle.coap_world.proofs.Reports.ValidHeld.{valid_here}
 use Rattle.coap_world.proofs.Reports.ValidShown.{NamedAt}
 use Rattle.coap_world.proofs.Reports.ValuesHeld.{value_at}
 use Rattle.coap_world.proofs.Reports.ValuesShown.{notification_code}
-use Rattle.coap_world.proofs.Requests.OfACall.{Lawful, lawful_back}
+use Rattle.coap_world.proofs.Any.Requests.OfACall as any
+use Rattle.coap_world.proofs.Requests.OfACall.{Lawful}
+use Rattle.coap_world.proofs.Requests.AtAnyTime.{at_any_time}
 
 module _ (config : Config) (small : config.server_szx ≤ 6) (past : List Entry) (c : C.Call)
     (law : Lawful config (OfClient c ∷ past)) (formats : FormatsIn past) (gain max_age : ℕ)
@@ -43,8 +45,8 @@ module _ (config : Config) (small : config.server_szx ≤ 6) (past : List Entry)
   abbrev Y : List Entry → Entry → Type 0
   Y = Young config law.clocks gain max_age now
 
-  abbrev before : Lawful config past
-  before = lawful_back config past (OfClient c) law
+  abbrev before : any.Lawful config past
+  before = any.lawful_back config past (OfClient c) (at_any_time law)
 
   types : IsOfType c
   types = (are_of_types config.addresses.server config.client_sizes config.client_setup (client_of (OfClient c ∷ past))
@@ -132,5 +134,9 @@ module _ (config : Config) (small : config.server_szx ≤ 6) (past : List Entry)
       law.client).0 number
       sequence tag format body made in
       each_within config (And (ShownAt config f.last) Y) (And (ValueSince config number sequence tag format body) Y) past
-      (λ p e l i k. (value_at config small number sequence tag format body past c law formats f p e l i k.0, k.1)) past before
+      (λ p e l i k. (
+        value_at config small number sequence tag format body past c
+            (at_any_time law) formats f p e l i k.0,
+        k.1,
+      )) past before
       (within_self config past) (last_young number sequence tag format body f)

@@ -20,7 +20,7 @@ use Rattle.coap_world.specs.Events.{Config}
 use Rattle.coap_world.specs.Fresh.{age_in}
 use Rattle.coap_world.specs.Hops.{hops_in}
 use Rattle.coap_world.specs.Record.{Entry, OfClient, OfServer, server_trace}
-use Rattle.coap_world.proofs.Requests.OfACall.{Lawful, lawful_back}
+use Rattle.coap_world.proofs.Any.Requests.OfACall.{Lawful, lawful_back}
 use Rattle.coap_world.proofs.Reports.FormatsSet.{FormatsIn}
 use Rattle.coap_world.proofs.Reports.Shown.{ShownAt, shown_here, formats_back}
 use Rattle.coap_world.proofs.Reports.ValidShown.{NamedAt, named_here}

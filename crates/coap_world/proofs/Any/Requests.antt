@@ -1,4 +1,2 @@
 -- At any time.
-pub mod Belongs
 pub mod OfACall
-pub mod ServedRight

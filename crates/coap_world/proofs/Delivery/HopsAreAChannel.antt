@@ -1,6 +1,6 @@
 -- What a run that is legal by one clock leaves, and that its hops stand in the law of two layers and the datagrams between
 -- them: it is legal by two clocks that show the same.
-use Rattle.std.proofs.Common.{◌≡◌, ◌≤◌, ℕ, List, length, refl, arith}
+use Rattle.std.proofs.Common.{◌≡◌, ℕ, List, length, refl, arith}
 use Rattle.coap_types.specs.Past.{Ever, all_of}
 use Rattle.coap_layer.specs.OneClock.{ChannelLaw}
 use Rattle.coap_layer.proofs.Facts.Paced.{by_one}

@@ -5,7 +5,7 @@ use Rattle.coap_server.proofs.Facts.Laws as server_facts
 use Rattle.coap_server.proofs.Facts.EachCall.{held_small}
 use Rattle.coap_world.specs.Events.{Config}
 use Rattle.coap_world.specs.Record.{Entry, server_trace}
-use Rattle.coap_world.proofs.Requests.OfACall.{Lawful, lawful_back}
+use Rattle.coap_world.proofs.Any.Requests.OfACall.{Lawful, lawful_back}
 use Rattle.coap_world.specs.Rising.{HeldAreNamed}
 
 pub all_named : (config : Config) (all : List Entry) → Lawful config all → HeldAreNamed config all

@@ -42,6 +42,7 @@ use Rattle.coap_world.proofs.Reports.ValuesShown.{taken_shown}
 use Rattle.coap_world.proofs.Requests.OfACall.{Lawful, lawful_back}
 use Rattle.coap_world.proofs.Requests.Traced.{sent_later}
 use Rattle.coap_world.specs.declared.addresses.Addresses.{Addresses}
+use Rattle.coap_world.proofs.Requests.AtAnyTime.{at_any_time}
 
 pub far_there : (P : T.Entry → Type 0) (adds : List T.Entry) → Ever P adds → Ever (OnFar P) (map Far adds)
 far_there P [] h = h
@@ -221,7 +222,8 @@ module _ (config : Config) where
         → (v : ℕ) → Names v (tag_in n.message) → n.mark.number ≡ sequence_number v
     number_here past c law formats n is k v names =
         let before = lawful_back config past (OfClient c) law in
-        let shown = some_shown config n.message past (taken_shown config small n.number n past c law formats is refl).shown
+        let shown = some_shown config n.message past (taken_shown config small n.number n past c
+        (at_any_time law) formats is refl).shown
         in
         k.sequence ∙ says_number config past before n.message shown k.notification v names
 

@@ -30,6 +30,7 @@ use Rattle.coap_world.specs.Words.{SentFor, ServesAt}
 use Rattle.coap_world.proofs.Requests.Belongs.{each_belongs}
 use Rattle.coap_world.proofs.Requests.OfACall.{Lawful, lawful_back, no_call, no_call_behind}
 use Rattle.coap_world.proofs.Requests.Traced.{traced, brought_in}
+use Rattle.coap_world.proofs.Requests.AtAnyTime.{at_any_time}
 
 number_of_call : (op : Operation) (k : ℕ) → call_of op ≡ Some k → operation_number op ≡ Some k
 number_of_call (Calling number r t) k is = is
@@ -159,4 +160,4 @@ module _ (config : Config) (all : List Entry) (whole : Lawful config all) where
   )
 
   pub each_named : EachNamed config all
-  each_named = named_in all (λ x h. h) whole (each_belongs config all whole)
+  each_named = named_in all (λ x h. h) whole (each_belongs config all (at_any_time whole))

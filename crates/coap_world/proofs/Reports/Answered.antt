@@ -25,7 +25,7 @@ use Rattle.coap_world.specs.Record.{Entry, OfClient, OfServer, client_of, server
 use Rattle.coap_world.specs.Record.{gives_it, settings}
 use Rattle.coap_world.proofs.Reports.HeardWasSent.{Reads, SendsTo, was_given}
 use Rattle.coap_world.proofs.Delivery.HopsAreEntries.{client_layer, client_next, near_is, far_is}
-use Rattle.coap_world.proofs.Requests.OfACall.{Lawful, lawful_back}
+use Rattle.coap_world.proofs.Any.Requests.OfACall.{Lawful, lawful_back}
 use Rattle.coap_world.proofs.Reports.BegunWith.{none_made}
 
 module _ (config : Config) where
@@ -106,7 +106,7 @@ module _ (config : Config) where
       (client_layer config (client_of past)) heard) in
       let near = subst (Ever (Hears config.addresses.server m)) (sym (near_is config (e ∷ past))) layer in
       let g = was_given config.client_setup config.server_setup config.addresses.client config.addresses.server m
-      (hops_in config (e ∷ past)) law.channel near in
+      (hops_in config (e ∷ past)) law.fair near in
       let p : T.Packet = record { to = config.addresses.client; bytes = g.bytes } in
       let far = subst (Ever (SendsTo config.addresses.client g.bytes)) (far_is config (e ∷ past))
       (far_ever (SendsTo config.addresses.client g.bytes) (hops_in config (e ∷ past)) g.sent) in

@@ -1,6 +1,7 @@
 -- Which request of the client it is that is served, or that registered an observer, and what it asks.
-use Rattle.std.proofs.Common.{◌≡◌, ◌≤◌, inl, inr, ℕ, min, Option, Some, None, List, [], ◌∷◌, ap, sym, subst, ◌∙◌, arith}
-use Rattle.coap_types.specs.Recognised.{recognised}
+use Rattle.std.proofs.Common.{◌≡◌, ◌≤◌, inl, inr, ℕ, min, false, Option, Some, None, List, [], ◌∷◌, ap, sym, subst}
+use Rattle.std.proofs.Common.{◌∙◌, arith}
+use Rattle.coap_types.specs.Recognised.{lacks_critical, recognised}
 use Rattle.coap_types.specs.RequestPath.{path_of}
 use Rattle.coap_types.specs.declared.block.Block.{Block}
 use Rattle.coap_types.specs.declared.direction.Direction.TheVariants.{Request}
@@ -25,7 +26,7 @@ use Rattle.coap_world.specs.Events.{Config}
 use Rattle.coap_world.specs.Record.{Entry, OfClient, OfServer, client_of, server_trace, settings}
 use Rattle.coap_world.specs.Words.{ServesAt}
 use Rattle.coap_world.proofs.Requests.LastRequests.{Final}
-use Rattle.coap_world.proofs.Requests.OfACall.{Lawful, lawful_back, final_of, options_asked}
+use Rattle.coap_world.proofs.Any.Requests.OfACall.{Lawful, lawful_back, final_of, options_asked}
 use Rattle.coap_world.proofs.Requests.Traced.{sent_later, traced, brought_in}
 use Rattle.coap_world.proofs.Reports.PathRead.{path_read}
 use Rattle.coap_world.proofs.Reports.BegunWith.{none_made}
@@ -57,6 +58,7 @@ module _ (config : Config) where
     pub sent : WasSent config.client_sizes sending (client_of w)
     pub token : sending.token ≡ x.asked.token
     pub options : x.question.options ≡ recognised Request sending.request.options
+    pub clear : lacks_critical Request sending.request.options ≡ false
     pub path : x.question.path ≡ path_of sending.request.options
     pub size : x.question.szx ≡ config.server_szx
 
@@ -82,6 +84,7 @@ module _ (config : Config) where
         sent = k.sent;
         token = sym (ap (λ (z : Asked). z.token) k.came.asked);
         options = read_as.0;
+        clear = good.critical;
         path = read_as.1 ∙ path_read s.request.options good.critical;
         size = szx_asked config.limits config.server_szx
             (server_trace config k.past) k.call x.asked x.question m k.verdict k.asks read;

@@ -15,7 +15,7 @@ use Rattle.coap_world.specs.Events.{Config}
 use Rattle.coap_world.specs.Record.{Entry, OfClient, OfServer, client_of, server_trace}
 use Rattle.coap_world.specs.Words.{ReportsAt, last_at}
 use Rattle.coap_world.proofs.Reports.Answered.{all_answered}
-use Rattle.coap_world.proofs.Requests.OfACall.{Lawful, lawful_back}
+use Rattle.coap_world.proofs.Any.Requests.OfACall.{Lawful, lawful_back}
 use Rattle.coap_world.specs.Held.{HeldSince, EachHeld}
 use Rattle.coap_world.proofs.Reports.FormatsSet.{FormatsIn}
 use Rattle.coap_world.proofs.Reports.HeldThere.{held_later, Within, within_back, within_self, shown_there, some_shown}

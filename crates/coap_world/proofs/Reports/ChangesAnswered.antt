@@ -37,6 +37,7 @@ use Rattle.coap_world.proofs.Reports.Understood.{heard_understood}
 use Rattle.coap_world.proofs.Requests.LastRequests.{of_call_at}
 use Rattle.coap_world.proofs.Requests.OfACall.{Lawful, lawful_back, later_back}
 use Rattle.coap_world.proofs.Uploads.Pieces.{one_request}
+use Rattle.coap_world.proofs.Requests.AtAnyTime.{at_any_time}
 
 -- a body that is taken is no longer than the client's limit
 
@@ -125,7 +126,7 @@ module _ (config : Config) (range : IsConfig config) (all : List Entry) (whole :
         let calling : Calling number h.request h.transfer ≡ Calling number (record g.request { body = [] }) g.transfer =
         sym h.operation ∙ g.operation in
         let transfer : h.transfer ≡ g.transfer = cc calling in
-        let answered = (all_answered config (OfClient c ∷ w) law).0 h.message h.heard in
+        let answered = (all_answered config (OfClient c ∷ w) (at_any_time law)).0 h.message h.heard in
         let taken : WasTaken (record { number = number; request = r }) (client_of all) =
         before.2 (record { number = number; request = r }) called in
         let none_fetched : (f : _) → h.transfer ≡ Fetches f → ⊥ = λ f e. no_get config.client_sizes g.request.method

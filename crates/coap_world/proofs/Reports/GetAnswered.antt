@@ -47,6 +47,7 @@ use Rattle.coap_world.proofs.Requests.GetRead.{replies_part}
 use Rattle.coap_world.proofs.Requests.LastRequests.{method_is}
 use Rattle.coap_world.proofs.Requests.OfACall.{Lawful, lawful_back, later_back, one_sending}
 use Rattle.coap_world.proofs.Requests.ServedLeaves.{leaves}
+use Rattle.coap_world.proofs.Requests.AtAnyTime.{at_any_time}
 
 starts_low : (asked : Option F.Asked) (held : Held) → IsBelow asked held → length held.body ≤ 1048576
     → offset_by (block_asked asked) ≤ 1048576
@@ -88,7 +89,7 @@ module _ (config : Config) (low : config.server_szx ≤ 6) (number : ℕ) (all :
         let b = brought_served config number all small whole in_range w c later law y here from in
         let same = same_sending b.origin.sending b.origin.sent
         (sym (ap (λ (a : Asked). a.token) b.origin.asked) ∙ under) in
-        let k = asked_by config w c law y here from in
+        let k = asked_by config w c (at_any_time law) y here from in
         let before = later_back config number all small whole in_range (OfServer c) w later in
         let too = same_sending k.sending (before.0 k.sending k.sent) (k.token ∙ under) in
         let methods : Some y.question.method ≡ Some Get = sym b.method

@@ -49,6 +49,7 @@ use Rattle.coap_world.proofs.Requests.HoldsChanges.{last_is}
 use Rattle.coap_world.proofs.Requests.LastRequests.{of_call_at}
 use Rattle.coap_world.proofs.Requests.OfACall.{Lawful, lawful_back, later_back}
 use Rattle.coap_world.proofs.Uploads.Pieces.{ever_given, given_by, one_request}
+use Rattle.coap_world.proofs.Requests.AtAnyTime.{at_any_time}
 
 -- a fetch of what is held asks for a block that can be written, and that begins below its length
 
@@ -235,7 +236,7 @@ module _ (config : Config) (range : IsConfig config) (all : List Entry) (whole :
       (heard_understood config.addresses.server config.client_sizes config.client_setup (client_of t) c law.client m
       heard) t from earlier
       (there since (taken_then t from k.sending k.sent k.of))
-      ((all_answered config (OfClient c ∷ t) law).0 m heard)
+      ((all_answered config (OfClient c ∷ t) (at_any_time law)).0 m heard)
     where
       there : Since t → WasTaken x (client_of t) → HoldsSince config x held t
       there (inl h) taken = h

@@ -1,21 +1,19 @@
 -- What a client hears: the server's message layer sent it before.
 use Rattle.std.proofs.Common.{◌≡◌, inl, inr, ℕ, List, [], ◌∷◌, subst}
 use Rattle.coap_types.specs.Past.{Ever}
-use Rattle.coap_types.proofs.Facts.Traces.{Ever_map}
 use Rattle.coap_types.specs.Roles.{role_of}
 use Rattle.coap_types.specs.declared.endpoint.Endpoint.{Endpoint}
 use Rattle.coap_types.specs.declared.role.Role.TheVariants as role
 use Rattle.coap_codec.specs.Message.{Message, Spells}
 use Rattle.coap_types.specs.declared.message.Kind.TheVariants.{Con}
 use Rattle.coap_layer.specs.Arrivals.{Arrival, Faulted, Whole, Shows}
-use Rattle.coap_layer.specs.Channel.{Hop, Near, Far, near_of, OnFar, GaveOut, far_of}
-use Rattle.coap_layer.specs.Clocks.{Clocks, turned}
-use Rattle.coap_layer.specs.Paced.{Meanwhile, ChannelLaw}
+use Rattle.coap_layer.specs.Channel.{Hop, Near, Far, near_of, OnFar, GaveOut}
 use Rattle.coap_layer.specs.Rows.{Stands, Row, Sorts, HandedAs, Arrives, rejects, drops, takes_ack, takes_reset}
 use Rattle.coap_layer.specs.Rows.{passes_reset, takes_answer, replays, hands_over}
 use Rattle.coap_layer.specs.Sends.{IsIn}
 use Rattle.coap_layer.specs.Trace as T
-use Rattle.coap_layer.proofs.Facts.Paced.{earlier}
+use Rattle.coap_layer.specs.AtAnyTime.{FairLaw}
+use Rattle.coap_layer.proofs.Facts.AtAnyTime.{earlier}
 use Rattle.coap_layer.specs.declared.setup.Setup.{Setup}
 use Rattle.coap_client.specs.Follows.Hears.{Hears}
 
@@ -77,19 +75,15 @@ given_later : (near : Endpoint) (m : Message) (h : Hop) (hs : List Hop) → WasG
 given_later near m h hs k = record { bytes = k.bytes; reads = k.reads; sent = inr k.sent }
 
 module _ (one other : Setup) (near far : Endpoint) (m : Message) where
-  pub was_given : {clocks : Clocks} (hs : List Hop) → ChannelLaw clocks one other near far hs → Ever (Hears far m) (near_of hs)
-      → WasGiven near m hs
-  was_given {clocks} [] law h = absurd h
-  was_given {clocks} (Far e ∷ past) law h = given_later near m (Far e) past
-      (was_given past (earlier clocks one other near far past (Far e) law) h)
-  was_given {clocks} (Near e ∷ past) law (inr h) = given_later near m (Near e) past
-      (was_given past (earlier clocks one other near far past (Near e) law) h)
-  was_given {clocks} (Near e ∷ past) law (inl h) =
-      let gave : Meanwhile (turned clocks) e.at (far_of past) (λ when. Ever (OnFar (GaveOut near h.bytes when)) past) =
-      law.fair.0 h.bytes h.call in
+  pub was_given : (hs : List Hop) → FairLaw one other near far hs → Ever (Hears far m) (near_of hs) → WasGiven near m hs
+  was_given [] law h = absurd h
+  was_given (Far e ∷ past) law h = given_later near m (Far e) past
+      (was_given past (earlier one other near far past (Far e) law) h)
+  was_given (Near e ∷ past) law (inr h) = given_later near m (Near e) past
+      (was_given past (earlier one other near far past (Near e) law) h)
+  was_given (Near e ∷ past) law (inl h) =
       record {
         bytes = h.bytes;
         reads = reads one (near_of past) e far h.bytes m law.near_law.0 h.call h.answer;
-        sent = inr (Ever_map (OnFar (GaveOut near h.bytes (clocks.far gave.instant))) (OnFar (SendsTo near h.bytes))
-            (gave_out near h.bytes (clocks.far gave.instant)) past gave.so);
+        sent = inr (law.fair.0 h.bytes h.call);
       }

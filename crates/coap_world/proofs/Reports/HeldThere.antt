@@ -17,7 +17,7 @@ use Rattle.coap_world.specs.Events.{Config}
 use Rattle.coap_world.specs.Record.{Entry, OfClient, OfServer, client_of, server_trace}
 use Rattle.coap_world.specs.Words.{WasCalled}
 use Rattle.coap_world.proofs.Requests.LastRequests.{of_call_at}
-use Rattle.coap_world.proofs.Requests.OfACall.{Lawful, lawful_back, no_call, no_call_behind}
+use Rattle.coap_world.proofs.Any.Requests.OfACall.{Lawful, lawful_back, no_call, no_call_behind}
 use Rattle.coap_world.proofs.Requests.ReadBack.{bare_options}
 use Rattle.coap_world.proofs.Requests.Traced.{sent_later}
 use Rattle.coap_world.proofs.Reports.ContentRead.{IsShown}

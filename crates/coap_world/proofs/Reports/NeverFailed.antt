@@ -50,6 +50,7 @@ use Rattle.coap_world.proofs.Reports.HandedOnce.{served_once}
 use Rattle.coap_world.proofs.Reports.LastAnswered.{FailsBy, same_last}
 use Rattle.coap_world.proofs.Reports.Located.{LaterAll, Origin, origin_of, brought_served, server_later}
 use Rattle.coap_world.proofs.Reports.Unregistered.{NoneRegisters, none_made}
+use Rattle.coap_world.proofs.Requests.AtAnyTime.{at_any_time}
 
 -- a block that is taken is not refused
 
@@ -144,7 +145,7 @@ module _ (config : Config) (number : ℕ) (all : List Entry) (small : config.cli
         code_is = r.code_is;
         means = r.means;
         there = inl (made, r.last);
-        answered = inr ((all_answered config t law).0 r.message r.heard.heard);
+        answered = inr ((all_answered config t (at_any_time law)).0 r.message r.heard.heard);
       }
 
   client_later : (P : List C.Call → C.Call → Type 0) (e : Entry) (w : List Entry) → Sometime P (client_of w)

@@ -15,7 +15,7 @@ use Rattle.coap_client.proofs.Facts.EachCall.{within_or_beyond, are_bounded}
 use Rattle.coap_world.specs.Bounds.{most_exchanges, AreBounded}
 use Rattle.coap_world.specs.Events.{Config}
 use Rattle.coap_world.specs.Record.{Entry, OfClient, OfServer, client_of, server_trace}
-use Rattle.coap_world.proofs.Requests.OfACall.{Lawful, lawful_back}
+use Rattle.coap_world.proofs.Any.Requests.OfACall.{Lawful, lawful_back}
 use Rattle.coap_world.proofs.Reports.BodiesHeld.{heard_shown}
 use Rattle.coap_world.proofs.Reports.BodiesShort.{was_short}
 use Rattle.coap_world.proofs.Reports.FormatsSet.{FormatsIn}

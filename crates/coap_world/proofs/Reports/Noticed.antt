@@ -9,7 +9,7 @@ use Rattle.coap_world.specs.Answers.{AnswersAt}
 use Rattle.coap_world.specs.Events.{Config}
 use Rattle.coap_world.specs.Record.{Entry, OfClient, OfServer, client_of}
 use Rattle.coap_world.proofs.Reports.Answered.{came_answered}
-use Rattle.coap_world.proofs.Requests.OfACall.{Lawful, lawful_back}
+use Rattle.coap_world.proofs.Any.Requests.OfACall.{Lawful, lawful_back}
 use Rattle.coap_world.specs.Noticed.{AllNoticed}
 
 module _ (config : Config) where

@@ -13,7 +13,7 @@ use Rattle.coap_client.proofs.Facts.Laws as client_facts
 use Rattle.coap_client.proofs.Facts.EachCall.{are_of_observations}
 use Rattle.coap_world.specs.Events.{Config}
 use Rattle.coap_world.specs.Record.{Entry, client_of}
-use Rattle.coap_world.proofs.Requests.OfACall.{Lawful}
+use Rattle.coap_world.proofs.Any.Requests.OfACall.{Lawful}
 use Rattle.coap_world.specs.Held.{WasObserved}
 use Rattle.coap_world.proofs.Reports.PathRead.{path_of_observe, path_of_fetch}
 

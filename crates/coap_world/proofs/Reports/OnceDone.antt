@@ -22,6 +22,7 @@ use Rattle.coap_client.proofs.Facts.EachCall.{reports_codes}
 use Rattle.coap_world.specs.Done.{AppliesSince, AppliesWith, OnceDone}
 use Rattle.coap_world.proofs.Reports.Codes.{succeeds_applied, refusal_none, notice_none}
 use Rattle.coap_world.proofs.Reports.Located.{LaterAll, SentAll, brought_served}
+use Rattle.coap_world.proofs.Requests.AtAnyTime.{at_any_time}
 
 module _ (config : Config) (number : ℕ) (all : List Entry) (small : config.client_sizes.szx ≤ 6) (whole : Lawful config all)
     (in_range : (x : Taken) → WasTaken x (client_of all) → IsRequest x.request) where
@@ -96,7 +97,7 @@ module _ (config : Config) (number : ℕ) (all : List Entry) (small : config.cli
         (applies_in r.message r.heard.sending (before.0 r.heard.sending r.heard.sent) r.heard.of_call r.heard.token
         (ap is_applied r.code_is ∙ succeeds_applied r.heard.sending.operation code r.means) w before
         (lawful_back config w (OfClient c) law)
-        ((all_answered config t law).0 r.message r.heard.heard))
+        ((all_answered config t (at_any_time law)).0 r.message r.heard.heard))
 
     done_in : (t : List Entry) → Later t → Lawful config t
         → Always (λ past e. ReportsAt config (record { number = number; report = C.Done code }) past e

@@ -19,7 +19,7 @@ use Rattle.coap_client.proofs.Facts.EachCall.{reports_codes, all_ends, all_taken
 use Rattle.coap_world.specs.Agrees.{Agrees}
 use Rattle.coap_world.specs.Applied.{EachBelongs, AppliedWhole, AtMostOnce}
 use Rattle.coap_world.specs.Bounds.{AreBounded}
-use Rattle.coap_world.specs.Done.{OnceDone, NeverFailed}
+use Rattle.coap_world.specs.Done.{EachFailed, OnceDone, NeverFailed}
 use Rattle.coap_world.specs.Held.{EachHeld, EachValid, EachValue}
 use Rattle.coap_world.specs.Holds.{HoldsChanges, ChangesOwned}
 use Rattle.coap_world.specs.Rising.{HeldAreNamed, ValuesRise}
@@ -28,12 +28,14 @@ use Rattle.coap_world.proofs.Observations.HeldAreNamed.{all_named}
 use Rattle.coap_world.proofs.Observations.Rising.{all_rise}
 use Rattle.coap_world.proofs.Reports.Noticed.{all_noticed}
 use Rattle.coap_world.proofs.Reports.BodiesHeld.{each_held}
+use Rattle.coap_world.proofs.Reports.EachFailed.{each_failed}
 use Rattle.coap_world.proofs.Reports.NoneBeyond.{bounded}
 use Rattle.coap_world.proofs.Reports.FormatsSet.{formats_in_of}
 use Rattle.coap_world.proofs.Reports.ValidHeld.{each_valid}
 use Rattle.coap_world.proofs.Reports.ValuesHeld.{each_value}
 use Rattle.coap_world.proofs.Reports.NeverFailed.{never_failed}
 use Rattle.coap_world.proofs.Reports.OnceDone.{once_done}
+use Rattle.coap_world.proofs.Requests.AtAnyTime.{at_any_time}
 
 module _ (k : Clocks) (config : Config) (events : List Event) (turns : List Turn) (run : RecordOf config events turns)
     (legal : Legal k config turns) where
@@ -43,14 +45,14 @@ module _ (k : Clocks) (config : Config) (events : List Event) (turns : List Turn
   -- what is reported was held
 
   pub bodies : EachHeld config (entries_of turns)
-  bodies = each_held config legal.range.server_szx (entries_of turns) law
+  bodies = each_held config legal.range.server_szx (entries_of turns) (at_any_time law)
       (formats_in_of config.addresses turns run.made (ranges_by config.addresses k turns legal.events))
 
   pub valid : EachValid config (entries_of turns)
-  valid = each_valid config (entries_of turns) law
+  valid = each_valid config (entries_of turns) (at_any_time law)
 
   pub values : EachValue config (entries_of turns)
-  values = each_value config legal.range.server_szx (entries_of turns) law
+  values = each_value config legal.range.server_szx (entries_of turns) (at_any_time law)
       (formats_in_of config.addresses turns run.made (ranges_by config.addresses k turns legal.events))
 
   -- the values of an observation rise
@@ -60,7 +62,7 @@ module _ (k : Clocks) (config : Config) (events : List Event) (turns : List Turn
       (formats_in_of config.addresses turns run.made (ranges_by config.addresses k turns legal.events))
 
   pub named : HeldAreNamed config (entries_of turns)
-  named = all_named config (entries_of turns) law
+  named = all_named config (entries_of turns) (at_any_time law)
 
   -- what is asked is applied whole, at most once, once where success is reported, and never where Failed is
 
@@ -80,6 +82,10 @@ module _ (k : Clocks) (config : Config) (events : List Event) (turns : List Turn
 
   pub failed : NeverFailed config (entries_of turns)
   failed = never_failed config (entries_of turns) legal.range.client_szx law
+      (λ x h. in_range_of config.addresses x turns run.made (ranges_by config.addresses k turns legal.events) h)
+
+  pub refused : EachFailed config (entries_of turns)
+  refused = each_failed config (entries_of turns) (at_any_time law)
       (λ x h. in_range_of config.addresses x turns run.made (ranges_by config.addresses k turns legal.events) h)
 
   pub holds : HoldsChanges config (entries_of turns)
@@ -103,6 +109,7 @@ module _ (k : Clocks) (config : Config) (events : List Event) (turns : List Turn
         at_most_once = at_most_once;
         once_done = done;
         never_failed = failed;
+        each_failed = refused;
         holds_changes = holds;
         changes_owned = owned;
         local_right = local_right config (entries_of turns) run.server.rows;
@@ -111,8 +118,8 @@ module _ (k : Clocks) (config : Config) (events : List Event) (turns : List Turn
         attended = server_facts.attended config.limits config.server_szx config.server_setup s run.server;
         ready_served = server_facts.ready config.limits config.server_szx config.server_setup s run.server;
         first_answered = server_facts.answered config.limits config.server_szx config.server_setup s run.server;
-        answered = all_answered config (entries_of turns) law;
-        noticed = all_noticed config (entries_of turns) law;
+        answered = all_answered config (entries_of turns) (at_any_time law);
+        noticed = all_noticed config (entries_of turns) (at_any_time law);
         calls_taken = all_taken config.addresses.server config.client_sizes config.client_setup c run.client;
         in_order = client_facts.order config.addresses.server config.client_sizes config.client_setup c run.client;
         codes_reported = reports_codes config.addresses.server config.client_sizes config.client_setup c run.client;
@@ -125,7 +132,8 @@ module _ (k : Clocks) (config : Config) (events : List Event) (turns : List Turn
       }
 
   pub exchanges_bounded_by : AreBounded config (entries_of turns)
-  exchanges_bounded_by = bounded config legal.range.server_szx legal.range.client_limit.0 (entries_of turns) law
+  exchanges_bounded_by = bounded config legal.range.server_szx legal.range.client_limit.0 (entries_of turns)
+      (at_any_time law)
       (formats_in_of config.addresses turns run.made (ranges_by config.addresses k turns legal.events))
 
 -- by one clock

@@ -12,7 +12,7 @@ use Rattle.coap_world.specs.Events.{Config}
 use Rattle.coap_world.specs.Record.{Entry, OfClient, OfServer, client_of}
 use Rattle.coap_world.specs.Words.{ReportsAt, last_at}
 use Rattle.coap_world.proofs.Reports.Answered.{all_answered}
-use Rattle.coap_world.proofs.Requests.OfACall.{Lawful, lawful_back}
+use Rattle.coap_world.proofs.Any.Requests.OfACall.{Lawful, lawful_back}
 use Rattle.coap_world.specs.Held.{ValidSince, EachValid}
 use Rattle.coap_world.proofs.Reports.HeldThere.{Within, within_back, within_self, of_call, one_of_call, each_within}
 use Rattle.coap_world.proofs.Reports.TagsOwn.{own_tag}

@@ -34,7 +34,7 @@ use Rattle.coap_world.specs.Answers.{IsResponse, IsAnswer, replies, continues, r
 use Rattle.coap_world.specs.Events.{Config}
 use Rattle.coap_world.specs.Record.{Entry, OfClient, OfServer, client_of, server_trace}
 use Rattle.coap_world.specs.Words.{last_at}
-use Rattle.coap_world.proofs.Requests.OfACall.{Lawful, lawful_back}
+use Rattle.coap_world.proofs.Any.Requests.OfACall.{Lawful, lawful_back}
 use Rattle.coap_world.proofs.Requests.ServedLeaves.{leaves}
 use Rattle.coap_world.proofs.Reports.AskedBy.{asked_by}
 use Rattle.coap_world.proofs.Reports.ContentRead.{valid_read}

@@ -21,7 +21,7 @@ use Rattle.coap_server.proofs.Facts.Laws as server_facts
 use Rattle.coap_world.specs.Events.{Config}
 use Rattle.coap_world.specs.Record.{Entry, OfClient, OfServer, client_of, server_trace}
 use Rattle.coap_world.specs.Words.{ReportsAt, last_at}
-use Rattle.coap_world.proofs.Requests.OfACall.{Lawful, lawful_back}
+use Rattle.coap_world.proofs.Any.Requests.OfACall.{Lawful, lawful_back}
 use Rattle.coap_world.specs.Held.{ValueSince, EachValue}
 use Rattle.coap_world.proofs.Reports.BodiesHeld.{heard_shown, PartHeld, part_later}
 use Rattle.coap_world.proofs.Reports.ContentRead.{IsShown}
@@ -177,7 +177,7 @@ module _ (config : Config) (small : config.server_szx ≤ 6) where
     pub value_at : AtEach
     value_at = elim f.comes [ inl a ↦ at_one a | inr b ↦ at_more b ]
 
-    last_shown : Sometime (ShownAt config f.last) past
+    pub last_shown : Sometime (ShownAt config f.last) past
     last_shown = elim f.comes [
       | inl a ↦ subst (λ m. Sometime (ShownAt config m) past) (sym a.is)
           (taken_shown config small number f.first past c law formats a.now

@@ -15,7 +15,7 @@ use Rattle.coap_client.specs.Trace as C
 use Rattle.coap_client.proofs.Facts.EachCall.{are_taken}
 use Rattle.coap_world.specs.Events.{Config}
 use Rattle.coap_world.specs.Record.{Entry, OfClient, OfServer, client_of}
-use Rattle.coap_world.proofs.Requests.OfACall.{Lawful, lawful_back}
+use Rattle.coap_world.proofs.Any.Requests.OfACall.{Lawful, lawful_back}
 use Rattle.coap_world.proofs.Reports.BodiesHeld.{heard_shown}
 use Rattle.coap_world.proofs.Reports.FormatsSet.{FormatsIn}
 use Rattle.coap_world.proofs.Reports.Noticed.{noticed}

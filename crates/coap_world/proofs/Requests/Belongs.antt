@@ -24,7 +24,7 @@ use Rattle.coap_world.specs.Events.{Config}
 use Rattle.coap_world.specs.Record.{Entry, OfClient, OfServer, client_of, server_trace}
 use Rattle.coap_world.specs.Words.{ServesAt, SentFor}
 use Rattle.coap_world.proofs.Requests.LastRequests.{method_is}
-use Rattle.coap_world.proofs.Requests.OfACall.{method_asked, Lawful, lawful_back}
+use Rattle.coap_world.proofs.Any.Requests.OfACall.{method_asked, Lawful, lawful_back}
 use Rattle.coap_world.proofs.Requests.Traced.{Traced, traced, brought_in}
 
 -- what is sent for no call is a GET

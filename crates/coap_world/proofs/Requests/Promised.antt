@@ -15,6 +15,7 @@ use Rattle.coap_world.proofs.Requests.CameFrom.{came_from, comes_in}
 use Rattle.coap_world.specs.Serves.{AllServed}
 use Rattle.coap_world.proofs.Requests.OfACall.{Lawful}
 use Rattle.coap_world.proofs.Requests.ServedRight.{served_right}
+use Rattle.coap_world.proofs.Requests.AtAnyTime.{at_any_time}
 
 module _ (c : Clocks) (config : Config) (events : List Event) (turns : List Turn) (run : RecordOf config events turns)
     (legal : Legal c config turns) where
@@ -39,10 +40,10 @@ module _ (c : Clocks) (config : Config) (events : List Event) (turns : List Turn
       (λ x h. in_range_of config.addresses x turns run.made (ranges_by config.addresses c turns legal.events) h)
 
   pub belongs_by : EachBelongs config (entries_of turns)
-  belongs_by = each_belongs config (entries_of turns) lawful_by
+  belongs_by = each_belongs config (entries_of turns) (at_any_time lawful_by)
 
   pub served_by : AllServed config (entries_of turns)
-  served_by = served_right config (entries_of turns) lawful_by
+  served_by = served_right config (entries_of turns) (at_any_time lawful_by)
 
 -- by one clock
 module _ (config : Config) (events : List Event) (turns : List Turn) (run : RecordOf config events turns)

@@ -9,7 +9,7 @@ use Rattle.coap_server.proofs.Facts.EachCall.{served_now}
 use Rattle.coap_world.specs.Events.{Config}
 use Rattle.coap_world.specs.Record.{Entry, OfClient, OfServer, server_trace}
 use Rattle.coap_world.specs.Serves.{ServesRight, AllServed}
-use Rattle.coap_world.proofs.Requests.OfACall.{Lawful, lawful_back}
+use Rattle.coap_world.proofs.Any.Requests.OfACall.{Lawful, lawful_back}
 use Rattle.coap_world.proofs.Requests.ServedLeaves.{leaves}
 use Rattle.coap_world.proofs.Requests.Traced.{brought_in}
 

@@ -19,6 +19,7 @@ use Rattle.coap_world.proofs.Reports.Answered.{came_answered}
 use Rattle.coap_world.proofs.Reports.AskedBy.{asked_by, registered_by}
 use Rattle.coap_world.proofs.Requests.OfACall.{Lawful, lawful_back}
 use Rattle.coap_world.proofs.Requests.Traced.{sent_later}
+use Rattle.coap_world.proofs.Requests.AtAnyTime.{at_any_time}
 
 module _ (config : Config) where
   -- a request with the token of the response
@@ -45,7 +46,7 @@ module _ (config : Config) where
   answer : (m : Message) (past : List Entry) (c : S.Call) → Lawful config (OfServer c ∷ past)
       → IsAnswer config m (server_trace config past) c → AskedIn m past
   answer m past c law (replies x here is) =
-      let k = asked_by config past c law x here is.to_client in
+      let k = asked_by config past c (at_any_time law) x here is.to_client in
       record { sending = k.sending; sent = k.sent; token = k.token ∙ is.token_is }
   answer m past c law (continues x size takes more asks is) =
       let b = (server_facts.blocks config.limits config.server_szx config.server_setup (c ∷ server_trace config past)
@@ -54,7 +55,7 @@ module _ (config : Config) where
   answer m past c law (refuses a v code comes hands unserved refuses_it is) =
       came m past c law a v comes is.to_client is.token_is
   answer m past c law (notifies o reply here made shows is) =
-      let k = registered_by config o past (lawful_back config past (OfServer c) law) is.to_client made in
+      let k = registered_by config o past (at_any_time (lawful_back config past (OfServer c) law)) is.to_client made in
       record { sending = k.sending; sent = k.sent; token = k.token ∙ is.token_is }
 
   answered : (m : Message) (es : List Entry) → Lawful config es → Sometime (AnswersAt config m) es → AskedIn m es
@@ -66,4 +67,4 @@ module _ (config : Config) where
   pub asked_before : (past : List Entry) (c : C.Call) → Lawful config (OfClient c ∷ past) → (m : Message)
       → Ever (Hears config.addresses.server m) (client_adds config (client_of past) c) → AskedIn m past
   asked_before past c law m h =
-      answered m past (lawful_back config past (OfClient c) law) (came_answered config past c law m h)
+      answered m past (lawful_back config past (OfClient c) law) (came_answered config past c (at_any_time law) m h)

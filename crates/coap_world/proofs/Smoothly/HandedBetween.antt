@@ -43,6 +43,7 @@ use Rattle.coap_world.proofs.Requests.Traced.{brought_in}
 use Rattle.coap_world.proofs.Smoothly.ExchangeOpen.{OpenOf, open_of, last_of, runs_of}
 use Rattle.coap_world.proofs.Smoothly.WhereItArrives.{at_server}
 use Rattle.coap_world.proofs.Reports.BegunWith.{none_made}
+use Rattle.coap_world.proofs.Requests.AtAnyTime.{at_any_time}
 
 -- when an answer is heard, and when the server's layer hands something up
 
@@ -222,7 +223,7 @@ module _ (config : Config) where
         (not_cancelling h.runs.operation o.0 calls (subst (IsSentFor h.runs.operation) last h.runs.sent_for)) past
         (own_tokens (client_of past) before.client) o.1
         (subst (λ t. Sometime (HandsSent t) past) token
-        (answered_sent m past before ((all_answered config (OfClient c ∷ past) law).0 m is)))
+        (answered_sent m past before ((all_answered config (OfClient c ∷ past) (at_any_time law)).0 m is)))
 
     pub handed_between : (es : List Entry) → Lawful config es → NoneIsTaken (client_of es) → AreBetween es
     handed_between [] law none = tt

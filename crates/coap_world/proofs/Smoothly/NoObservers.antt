@@ -33,6 +33,7 @@ use Rattle.coap_world.proofs.Requests.OfACall.{Lawful, lawful_back}
 use Rattle.coap_world.proofs.Smoothly.ConsCarry.{IsMessage, was_message}
 use Rattle.coap_world.proofs.Smoothly.PlainRequests.{of_none}
 use Rattle.coap_world.proofs.Reports.BegunWith.{none_made as none_begun}
+use Rattle.coap_world.proofs.Requests.AtAnyTime.{at_any_time}
 
 abbrev IsOther : CoapOption → Type 0
 IsOther o = (o.number == observe) ≡ false
@@ -134,7 +135,7 @@ module _ (config : Config) where
   none_made o (OfServer c ∷ past) law observed none to (inr h) =
       none_made o past (lawful_back config past (OfServer c) law) observed none to h
   none_made o (OfServer c ∷ past) law observed none to (inl h) =
-      let k = asked_by config past c law h.made.request h.made.here (h.made.from ∙ to) in
+      let k = asked_by config past c (at_any_time law) h.made.request h.made.here (h.made.from ∙ to) in
       let x : Sending = k.sending in
       let m : IsMessage x = was_message config.client_sizes x (client_of past) k.sent in
       let other : AreOther x.request.options =

@@ -27,6 +27,7 @@ use Rattle.coap_world.proofs.Smoothly.AnswerMade.{made_for, served_origin}
 use Rattle.coap_world.proofs.Smoothly.ExchangeOpen.{OpenOf, last_of}
 use Rattle.coap_world.proofs.Smoothly.HeardOrOpen.{IsOpenOf, heard_or_open}
 use Rattle.coap_world.proofs.Smoothly.OneAnswer.{Origin, Answered, same_origin, answered_once}
+use Rattle.coap_world.proofs.Requests.AtAnyTime.{at_any_time}
 
 module _ (config : Config) where
   origin_later : (a : Asked) (e : Entry) (es : List Entry) → Origin config a es → Origin config a (e ∷ es)
@@ -87,7 +88,7 @@ module _ (config : Config) where
       answered_later token (OfServer c) es
       (heard_for token es (lawful_back config es (OfServer c) law) observed none h)
   heard_for token (OfClient c ∷ es) law observed none (inl h) =
-      let there = (all_answered config (OfClient c ∷ es) law).0 h.0 h.1 in
+      let there = (all_answered config (OfClient c ∷ es) (at_any_time law)).0 h.0 h.1 in
       answered_later token (OfClient c) es
       (subst (λ k. AnsweredFor k es) h.2
       (answered_for h.0 es (lawful_back config es (OfClient c) law) observed.1 none.1 there))

@@ -34,6 +34,7 @@ use Rattle.coap_world.proofs.Requests.OfACall.{Lawful}
 use Rattle.coap_world.proofs.Requests.Traced.{brought_in}
 use Rattle.coap_world.proofs.Uploads.Parts.{Begun, Sent, Carries, Part, part_back, one_con}
 use Rattle.coap_observe.specs.Observers.{Observer}
+use Rattle.coap_world.proofs.Requests.AtAnyTime.{at_any_time}
 
 off_near : (P : T.Entry → Type 0) (adds : List T.Entry) (hs : List Hop) → Ever (OnFar P) (map Near adds ++ hs)
     → Ever (OnFar P) hs
@@ -147,7 +148,7 @@ module _ (config : Config) (clocks : Clocks) (all : List Entry) (small : config.
         (heard_up w (part_back config clocks all small whole in_range w (OfClient c) p) h)
     heard_up (OfClient c ∷ w) p (inl h) =
         later_up w (OfClient c) (answers_up h.0 w (part_back config clocks all small whole in_range w (OfClient c) p)
-        ((all_answered config (OfClient c ∷ w) p.law).0 h.0 h.1) h.2)
+        ((all_answered config (OfClient c ∷ w) (at_any_time p.law)).0 h.0 h.1) h.2)
 
     -- .. and taken
     pub heard_taken : (past : List Entry) (c : C.Call) → PartOf (OfClient c ∷ past) → Begun config old past

@@ -37,6 +37,7 @@ use Rattle.coap_world.proofs.Uploads.NoneContinue.{refusal_not, notice_not}
 use Rattle.coap_world.proofs.Uploads.Orders.{of_carried}
 use Rattle.coap_world.proofs.Uploads.Parts.{Sent, Part as PartOf_, part_back, one_sending, OfUpload, of_upload}
 use Rattle.coap_world.proofs.Uploads.Pieces.{whole_is, sent_piece, one_request}
+use Rattle.coap_world.proofs.Requests.AtAnyTime.{at_any_time}
 
 same_or : (a b : ℕ) → (a ≡ b) ⊎ (a ≢ b)
 same_or a b = go (a == b) refl
@@ -272,7 +273,7 @@ module _ (config : Config) (clocks : Clocks) (all : List Entry) (small : config.
           (zero_heard past (part_back config clocks all small whole in_range past (OfClient c) p) h)
       zero_heard (OfClient c ∷ past) p (inl h) = inr
           (zeros h.0 h.2 h.3 past (part_back config clocks all small whole in_range past (OfClient c) p)
-          ((all_answered config (OfClient c ∷ past) p.law).0 h.0 h.1))
+          ((all_answered config (OfClient c ∷ past) (at_any_time p.law)).0 h.0 h.1))
 
     -- so before a further block is sent, block 0 was taken
     zero_before : (y : Sending) (b : Carried) → carried y.operation ≡ Some b → b.number ≡ n → 0 < (b.upload).num

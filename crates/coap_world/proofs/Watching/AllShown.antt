@@ -42,6 +42,7 @@ use Rattle.coap_world.specs.ShowsHeld.{ShowsAllHeld, AllShown}
 use Rattle.coap_world.proofs.Watching.HeldVersions.{last_of}
 use Rattle.coap_world.proofs.Watching.ShownWhole.{shown_whole}
 use Rattle.coap_world.proofs.Watching.TellingHeld.{held_then}
+use Rattle.coap_world.proofs.Requests.AtAnyTime.{at_any_time}
 
 same_value : (a b : ℕ) (t u : Option (List ℕ)) (f g : Option ℕ) (p q : List ℕ) → a ≡ b → t ≡ u → f ≡ g → p ≡ q
     → Value a t f p ≡ Value b u g q
@@ -143,7 +144,7 @@ module _ (config : Config) (small : config.server_szx ≤ 6) (x : Observed)
   shows_here past c s n is of =
       let m : Message = n.message in
       let before = stands_back (OfClient c) past s in
-      let first = taken_shown config small x.number n past c s.law before.formats is of in
+      let first = taken_shown config small x.number n past c (at_any_time s.law) before.formats is of in
       let taken = taken_here config small past c s.law before.formats n is in
       let k = told_there config m past before.law
       (server_entries config (Tells config m) (not_first config m) past

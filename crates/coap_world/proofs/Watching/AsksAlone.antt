@@ -29,6 +29,7 @@ use Rattle.coap_world.proofs.Reports.OfObservations.{of_observation, one_of_obse
 use Rattle.coap_world.proofs.Requests.OfACall.{Lawful}
 use Rattle.coap_world.proofs.Smoothly.ConsCarry.{was_message}
 use Rattle.coap_world.proofs.Watching.Alone.{one_observed}
+use Rattle.coap_world.proofs.Requests.AtAnyTime.{at_any_time}
 
 -- options of other numbers
 
@@ -90,9 +91,9 @@ module _ (config : Config) (all : List Entry) (law : Lawful config all) (x : Obs
 
   pub asks_alone : (y : Sending) → WasSent config.client_sizes y (client_of all) → y.token ≡ token → AsksAlone y
   asks_alone y sent same =
-      let mine = one_of_observation config all law y registered.sending x.number sent registered.sent
+      let mine = one_of_observation config all (at_any_time law) y registered.sending x.number sent registered.sent
       (ap observation_for registered.registers) (same ∙ sym registered.token_is) in
-      let k = of_observation config x.number y all law sent mine in
+      let k = of_observation config x.number y all (at_any_time law) sent mine in
       let one = one_observed x (record { number = x.number; path = k.path }) (client_of all) alone k.observed in
       let m = was_message config.client_sizes y (client_of all) sent in
       record {

@@ -39,6 +39,7 @@ use Rattle.coap_world.specs.NoticesCome.{IsOfIt, NoticesAreOfIt}
 use Rattle.coap_world.specs.NoticesTaken.{IsForIt, IsRequestOfIt, RequestsAreOfIt}
 use Rattle.coap_world.proofs.Watching.Runs.{lawful_before, registered_before}
 use Rattle.coap_world.proofs.Watching.Alone.{one_observed, sent_for_it}
+use Rattle.coap_world.proofs.Requests.AtAnyTime.{at_any_time}
 
 -- a fetch has no Observe
 
@@ -81,11 +82,12 @@ module _ (config : Config) (x : Observed) where
       → IsRequestOfIt config x past s
   request_of_it past c law alone s here from =
       let old = lawful_back config past (OfServer c) law in
-      let k = asked_by config past c law s here from in
+      let k = asked_by config past c (at_any_time law) s here from in
       let f = sent_for_it config.addresses.server config.client_sizes config.client_setup x (client_of past) old.client
       alone k.sending
       k.sent in
-      let o = of_observation config x.number k.sending past old k.sent (number_of k.sending.operation f.for_it) in
+      let o = of_observation config x.number k.sending past (at_any_time old) k.sent
+      (number_of k.sending.operation f.for_it) in
       let same = one_observed x (record { number = x.number; path = o.path }) (client_of past) alone o.observed in
       record {
         sending = k.sending;
@@ -110,7 +112,7 @@ module _ (config : Config) (x : Observed) where
   made_of_it : (o : Observer) (w : List Entry) → Lawful config w → Alone x (client_of w) → o.to
       ≡ config.addresses.client
       → WasMade config.limits config.server_szx (server_trace config w) o → IsMadeOfIt o w
-  made_of_it o [] law alone to h = absurd (registered_by config o [] law to h).sent
+  made_of_it o [] law alone to h = absurd (registered_by config o [] (at_any_time law) to h).sent
   made_of_it o (OfClient c ∷ past) law alone to h =
       made_later o (OfClient c) past (made_of_it o past (lawful_back config past (OfClient c) law) alone.1 to h)
   made_of_it o (OfServer c ∷ past) law alone to (inr h) =

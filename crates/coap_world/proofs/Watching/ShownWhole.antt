@@ -52,6 +52,7 @@ use Rattle.coap_world.proofs.Requests.OfACall.{Lawful, lawful_back}
 use Rattle.coap_world.proofs.Requests.ServedLeaves.{leaves}
 use Rattle.coap_world.proofs.Watching.AsksAlone.{asks_alone}
 use Rattle.coap_world.proofs.Watching.HeldVersions.{last_of}
+use Rattle.coap_world.proofs.Requests.AtAnyTime.{at_any_time}
 
 -- a body that fits the block needs no Block2
 one_block : (szx len : ℕ) → len ≤ size_of szx → block2_of false 0 szx len ≡ None
@@ -89,7 +90,7 @@ module _ (config : Config) (small : config.server_szx ≤ 6) (all : List Entry) 
       ≡ m.token
       → IsServed w y
   served w c in_all law y here from under =
-      let k = asked_by config w c law y here from in
+      let k = asked_by config w c (at_any_time law) y here from in
       let before = within_back config all w (OfServer c) in_all in
       let a = asks_alone config all whole x alone m.token registered k.sending (before.sent k.sending k.sent)
       (k.token ∙ under) in

@@ -85,7 +85,7 @@ Ranges TickServer Rest = Rest
 Ranges (Deliver number) Rest = Rest
 Ranges what Rest = InRange what × Rest
 
-ranges : (what : What) (Rest : Type 0) → Ranges what Rest → InRange what × Rest
+pub ranges : (what : What) (Rest : Type 0) → Ranges what Rest → InRange what × Rest
 ranges TickClient Rest h = (tt, h)
 ranges TickServer Rest h = (tt, h)
 ranges (Deliver number) Rest h = (tt, h)

@@ -15,7 +15,7 @@ use Rattle.coap_world.specs.Events.{Config}
 use Rattle.coap_world.specs.Legal.{IsRequest}
 use Rattle.coap_world.specs.Record.{Entry, OfClient, OfServer, client_of, server_trace}
 use Rattle.coap_world.specs.Words.{ReportsAt}
-use Rattle.coap_world.proofs.Any.Reports.Answered.{all_answered}
+use Rattle.coap_world.proofs.Reports.Answered.{all_answered}
 use Rattle.coap_world.proofs.Requests.LastRequests.{of_call_at}
 use Rattle.coap_world.proofs.Any.Requests.OfACall.{Lawful, lawful_back, later_back, one_sending}
 use Rattle.coap_client.proofs.Facts.EachCall.{reports_codes}

@@ -55,6 +55,7 @@ use Rattle.coap_world.proofs.Watching.StillThere.OpenYoung.{AtMoment, all_moment
 use Rattle.coap_world.proofs.Watching.StillThere.Stays.{Stays, WasEnded, found_path, stays}
 use Rattle.coap_world.proofs.Watching.Newest.{newest_registered}
 use Rattle.coap_world.proofs.Watching.Runs.{lawful_before, registered_before}
+use Rattle.coap_world.proofs.Requests.AtAnyTime.{at_any_time}
 
 -- what the laws beneath say
 pub record ThereLaws : Type 0 where
@@ -123,7 +124,7 @@ module _ (laws : ThereLaws) (config : Config) (range : IsConfig config) (x : Obs
     taken = taken_told config range.server_szx all o.law o.formats n
         (Sometime_map (TakesAt config range.server_szx x.number n)
         (AtClient config (λ p b. notifies (clients.own_of config.client_sizes p) b ≡ Some n)) as_taken all
-        (newest_shown config range.server_szx x.number n all o.law o.formats newest_is))
+        (newest_shown config range.server_szx x.number n all (at_any_time o.law) o.formats newest_is))
       where
         as_taken : (p : List Entry) (e : Entry) → TakesAt config range.server_szx x.number n p e
             → AtClient config (λ q b. notifies (clients.own_of config.client_sizes q) b ≡ Some n) p e

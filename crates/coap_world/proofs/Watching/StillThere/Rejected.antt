@@ -41,6 +41,7 @@ use Rattle.coap_world.proofs.Watching.StillThere.Registered.{answered_registered
 use Rattle.coap_world.proofs.Watching.StillThere.RepliesFed.{RepliedAt}
 use Rattle.coap_world.proofs.Watching.Runs.{lawful_before}
 use Rattle.coap_world.specs.declared.addresses.Addresses.{Addresses}
+use Rattle.coap_world.proofs.Requests.AtAnyTime.{at_any_time}
 
 -- a response that is handed up is handed up as a response
 module _ (setup : Setup) (past : List L.Entry) (e : L.Entry) (from : Endpoint) (bytes : List ℕ) (m : Message)
@@ -170,7 +171,7 @@ module _ (acked : AllAcked) (config : Config) (x : Observed) (all : List Entry) 
       there = subst (λ t. WasRegistered config.client_sizes x.number t past) (sym of.same)
           (answered_registered config x all law served of_it token registered ((later ++ k.newer) ++ OfClient d ∷ []) k.older
           (split ∙ sym (append_assoc (later ++ k.newer) (OfClient d ∷ []) k.older)) m of.same
-          (came_answered config k.older d law_here m heard))
+          (came_answered config k.older d (at_any_time law_here) m heard))
 
       done : (m.kind ≡ Con) × (bytes ≡ ack_bytes m.id)
       done = (acked config.addresses.server config.client_sizes config.client_setup (d ∷ past) law_here.client).0 m

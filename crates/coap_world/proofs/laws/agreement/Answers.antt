@@ -1,5 +1,6 @@
 use Rattle.coap_world.proofs.Age.Promised.{fresh_in_pace}
 use Rattle.coap_world.proofs.Progress.EachPosition.{never_faults}
+use Rattle.coap_world.proofs.Reported.EightCalls.{eight_reported}
 use Rattle.coap_world.proofs.Reports.Promised.{agrees_by, exchanges_bounded_by}
 use Rattle.coap_world.specs.Record.{entries_of}
 use Rattle.coap_world.specs.SmoothAnswers.{AllAnswer, EndByAnswers}
@@ -36,6 +37,11 @@ returns-clause-smooth c config events turns run legal smooth told none =
       gets = c.answered_law.ensures.gets config events turns run legal all;
       changes = c.answered_law.ensures.changes config events turns run legal all;
     }
+
+pub returns-clause-eight : goal.returns-clause-eight
+returns-clause-eight c config events turns run legal none smooth told unobserved =
+    eight_reported config none turns
+    (returns-clause-smooth c config events turns run legal smooth told unobserved).reported
 
 pub returns-clause-current : goal.returns-clause-current
 returns-clause-current c = c.watch_law.ensures.current

@@ -4,14 +4,15 @@ use Rattle.coap_world.proofs.Reports.Answered.{all_answered}
 use Rattle.coap_world.proofs.Reports.Noticed.{all_noticed}
 use Rattle.coap_world.proofs.Requests.Promised.{lawful}
 use Rattle.coap_world.proofs.laws.answers_law.Goals as goal
+use Rattle.coap_world.proofs.Requests.AtAnyTime.{at_any_time}
 
 pub returns-clause-answered : goal.returns-clause-answered
 returns-clause-answered c config events turns run legal =
-    all_answered config (entries_of turns) (lawful config events turns run legal)
+    all_answered config (entries_of turns) (at_any_time (lawful config events turns run legal))
 
 pub returns-clause-given : goal.returns-clause-given
 returns-clause-given c config events turns run legal = all_given config turns run.made run.client.rows
 
 pub returns-clause-noticed : goal.returns-clause-noticed
 returns-clause-noticed c config events turns run legal =
-    all_noticed config (entries_of turns) (lawful config events turns run legal)
+    all_noticed config (entries_of turns) (at_any_time (lawful config events turns run legal))

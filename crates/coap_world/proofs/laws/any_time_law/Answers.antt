@@ -4,18 +4,19 @@ use Rattle.coap_world.specs.AtAnyTime.{IsLegal, Legal}
 use Rattle.coap_world.specs.Clocks.{Clocks}
 use Rattle.coap_world.specs.Events.{Config, Event}
 use Rattle.coap_world.specs.Record.{Turn, RecordOf, entries_of}
-use Rattle.coap_world.proofs.Any.Age.Behind.{are_behind}
-use Rattle.coap_world.proofs.Any.Observations.HeldAreNamed.{all_named}
-use Rattle.coap_world.proofs.Any.Reports.Answered.{all_answered}
-use Rattle.coap_world.proofs.Any.Reports.BodiesHeld.{each_held}
-use Rattle.coap_world.proofs.Any.Reports.NoneBeyond as beyond
-use Rattle.coap_world.proofs.Any.Reports.Noticed.{all_noticed}
+use Rattle.coap_world.proofs.Age.Behind.{are_behind}
+use Rattle.coap_world.proofs.Observations.HeldAreNamed.{all_named}
+use Rattle.coap_world.proofs.Reports.Answered.{all_answered}
+use Rattle.coap_world.proofs.Reports.BodiesHeld.{each_held}
+use Rattle.coap_world.proofs.Reports.EachFailed.{each_failed}
+use Rattle.coap_world.proofs.Reports.NoneBeyond as beyond
+use Rattle.coap_world.proofs.Reports.Noticed.{all_noticed}
 use Rattle.coap_world.proofs.Any.Reports.OnceDone.{once_done}
-use Rattle.coap_world.proofs.Any.Reports.ValidHeld.{each_valid}
-use Rattle.coap_world.proofs.Any.Reports.ValuesHeld.{each_value}
-use Rattle.coap_world.proofs.Any.Requests.Belongs.{each_belongs}
+use Rattle.coap_world.proofs.Reports.ValidHeld.{each_valid}
+use Rattle.coap_world.proofs.Reports.ValuesHeld.{each_value}
+use Rattle.coap_world.proofs.Requests.Belongs.{each_belongs}
 use Rattle.coap_world.proofs.Any.Requests.OfACall.{Lawful}
-use Rattle.coap_world.proofs.Any.Requests.ServedRight.{served_right}
+use Rattle.coap_world.proofs.Requests.ServedRight.{served_right}
 use Rattle.coap_world.proofs.Paced.AtAnyTime.{fair}
 use Rattle.coap_world.proofs.Paced.CameAtAnyTime.{came_at_any_time}
 use Rattle.coap_world.proofs.Reports.FormatsSet.{FormatsIn, formats_in_of}
@@ -75,6 +76,11 @@ returns-clause-served c k config events turns run legal =
 pub returns-clause-done : goal.returns-clause-done
 returns-clause-done c k config events turns run legal =
     once_done config (entries_of turns) legal.range.client_szx (lawful k config events turns run legal)
+    (λ x h. in_range_of config.addresses x turns run.made (ranges config.addresses k turns legal.events) h)
+
+pub returns-clause-refused : goal.returns-clause-refused
+returns-clause-refused c k config events turns run legal =
+    each_failed config (entries_of turns) (lawful k config events turns run legal)
     (λ x h. in_range_of config.addresses x turns run.made (ranges config.addresses k turns legal.events) h)
 
 pub returns-clause-answered : goal.returns-clause-answered

@@ -8,6 +8,7 @@ returns c = record {
   once = promised.at_most_once;
   done = promised.done;
   failed = promised.failed;
+  refused = promised.refused;
   holds = promised.holds;
   owned = promised.owned;
 }

@@ -4,6 +4,7 @@ use Rattle.coap_world.proofs.Observations.HeldAreNamed.{all_named}
 use Rattle.coap_world.proofs.Observations.Rising.{all_rise}
 use Rattle.coap_world.proofs.Reports.FormatsSet.{formats_in}
 use Rattle.coap_world.proofs.laws.observations_law.Goals as goal
+use Rattle.coap_world.proofs.Requests.AtAnyTime.{at_any_time}
 
 pub returns-clause-rising : goal.returns-clause-rising
 returns-clause-rising c config events turns run legal =
@@ -12,4 +13,4 @@ returns-clause-rising c config events turns run legal =
 
 pub returns-clause-named : goal.returns-clause-named
 returns-clause-named c config events turns run legal =
-    all_named config (entries_of turns) (lawful config events turns run legal)
+    all_named config (entries_of turns) (at_any_time (lawful config events turns run legal))

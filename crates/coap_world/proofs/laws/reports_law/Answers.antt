@@ -8,19 +8,20 @@ use Rattle.coap_world.proofs.Reports.OnceDone.{once_done}
 use Rattle.coap_world.proofs.Reports.NeverFailed.{never_failed}
 use Rattle.coap_world.proofs.Requests.CallsInRange.{in_range}
 use Rattle.coap_world.proofs.laws.reports_law.Goals as goal
+use Rattle.coap_world.proofs.Requests.AtAnyTime.{at_any_time}
 
 pub returns-clause-held : goal.returns-clause-held
 returns-clause-held c config events turns run legal =
-    each_held config legal.range.server_szx (entries_of turns) (lawful config events turns run legal)
+    each_held config legal.range.server_szx (entries_of turns) (at_any_time (lawful config events turns run legal))
     (formats_in config.addresses turns run.made legal.events)
 
 pub returns-clause-valid : goal.returns-clause-valid
 returns-clause-valid c config events turns run legal =
-    each_valid config (entries_of turns) (lawful config events turns run legal)
+    each_valid config (entries_of turns) (at_any_time (lawful config events turns run legal))
 
 pub returns-clause-value : goal.returns-clause-value
 returns-clause-value c config events turns run legal =
-    each_value config legal.range.server_szx (entries_of turns) (lawful config events turns run legal)
+    each_value config legal.range.server_szx (entries_of turns) (at_any_time (lawful config events turns run legal))
     (formats_in config.addresses turns run.made legal.events)
 
 pub returns-clause-done : goal.returns-clause-done

@@ -1,8 +1,10 @@
 use Rattle.coap_world.proofs.Delivery.SmoothGaps.{times_out_roughly}
 use Rattle.coap_world.proofs.Witness.DefersLate.{deferred_late}
 use Rattle.coap_world.proofs.Witness.DefersLongest.{deferred_longest}
+use Rattle.coap_world.proofs.Witness.PutsInBlocks.{put_in_blocks}
 use Rattle.coap_world.proofs.Witness.PutsLate.{put_late}
 use Rattle.coap_world.proofs.Witness.ShowsLate.{shows_late}
+use Rattle.coap_world.proofs.Witness.ShowsPlain.{shown_plain}
 use Rattle.coap_world.proofs.Witness.StaysOld.{stays_old}
 use Rattle.coap_world.proofs.Witness.TimesOut.{unanswered}
 use Rattle.coap_world.proofs.smooth.smooth_witness.Goals as goal
@@ -15,5 +17,7 @@ returns c = record {
   rough = times_out_roughly;
   unanswered = unanswered;
   shown = shows_late;
+  plain = shown_plain;
+  blocks = put_in_blocks;
   old = stays_old;
 }

@@ -1,2 +1,0 @@
--- At any time.
-pub mod Behind
