@@ -15,6 +15,7 @@ pub mod HandedUpAsOften
 pub mod Holds
 pub mod Latest
 pub mod Leaves
+pub mod MadeHere
 pub mod Marks
 pub mod Observes
 pub mod Outs

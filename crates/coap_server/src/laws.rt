@@ -6,6 +6,7 @@ ghost use Rattle.coap_server.specs.Follows.Delayed.{DelaysStay};
 ghost use Rattle.coap_server.specs.Follows.GoesOut.{AllGoOut};
 ghost use Rattle.coap_server.specs.Follows.Latest.{AreLatest};
 ghost use Rattle.coap_server.specs.Follows.Leaves.{AllLeave};
+ghost use Rattle.coap_server.specs.Follows.MadeHere.{AllMadeHere};
 ghost use Rattle.coap_server.specs.Follows.Marks.{AllMark, StayDue};
 ghost use Rattle.coap_server.specs.Follows.Registered.{AllRegister};
 ghost use Rattle.coap_server.specs.Follows.Recognised.{AllRecognised, BodiesShort};
@@ -129,6 +130,9 @@ pub fn server_law()
     // sections 4.2 and 5.2; RFC 7641, section 3.2).
     ensures gives { (limits : Limits) (szx : ℕ) (setup : Setup) (t : List Call) → ServerLaw limits szx setup t
         → SendsResponses limits szx setup t }
+    // .. which is made in the very call of the server in which its message layer is given it.
+    ensures made { (limits : Limits) (szx : ℕ) (setup : Setup) (t : List Call) → ServerLaw limits szx setup t
+        → AllMadeHere limits szx setup t }
     // .. in the order of sending.
     ensures in_order { (limits : Limits) (szx : ℕ) (setup : Setup) (t : List Call) → ServerLaw limits szx setup t
         → GivesInOrder limits szx setup t }

@@ -17,12 +17,14 @@ use Rattle.coap_server.specs.Trace.{Call}
 use Rattle.coap_server.specs.Asks.{lower}
 use Rattle.coap_server.specs.Law.{ServerLaw, own_of, lower_of, layer_of}
 use Rattle.coap_server.specs.Follows.Adds.{call_adds, call_asks}
-use Rattle.coap_server.specs.Follows.Gives.{IsEmpty, CarriesResponse}
+pub use Rattle.coap_server.specs.Follows.MadeHere.{Made}
+use Rattle.coap_server.specs.Follows.MadeHere.{AllMadeHere, MakesWhatItGives}
 use Rattle.coap_server.specs.Follows.Sources.{Source}
 use Rattle.coap_server.proofs.Facts.Laws as facts
 use Rattle.coap_server.proofs.Replying.LayerSendsResponses.{called, made_in}
 use Rattle.coap_server.proofs.Replying.ResponsesHaveRequests.{here}
 use Rattle.coap_server.proofs.Replying.Sourced.{begun_source}
+use Rattle.coap_server.proofs.Serving.Brought.{server_back}
 use Rattle.coap_server.proofs.Telling.LayerCalls.{layer_next, steps_here}
 
 -- at entries in front of others
@@ -41,24 +43,20 @@ module _ (limits : Limits) (szx : ℕ) (setup : Setup) (to : Endpoint) (m : Mess
     pub spells : Spells packet.bytes m
     pub source : Source packet e.call
 
-  -- the message is Empty, or carries a response that the call made, to there
-  pub record Made (t : List Call) (c : Call) : Type 0 where
-    pub packet : L.Packet
-    pub there : packet.to ≡ to
-    pub spells : Spells packet.bytes m
-    pub made : IsEmpty packet ⊎ CarriesResponse limits szx setup packet t c
-
   one_packet : (xs : List L.Entry) → Ever Brings xs
       → (p : L.Packet) × (p.to ≡ to) × Spells p.bytes m × Ever (λ (e : L.Entry). Source p e.call) xs
   one_packet [] h = absurd h
   one_packet (e ∷ xs) (inl h) = (h.packet, h.there, h.spells, inl h.source)
   one_packet (e ∷ xs) (inr h) = let k = one_packet xs h in (k.0, k.1, k.2, inr k.3)
 
+  abbrev made_by : List Call → Call → Type 0
+  made_by t c = Made limits szx setup to m t c
+
   module _ (t : List Call) (c : Call) (law : ServerLaw limits szx setup (c ∷ t)) where
     abbrev adds : List L.Entry
     adds = call_adds limits szx setup t c
 
-    made_here : Ever Brings adds → Made t c
+    made_here : Ever Brings adds → made_by t c
     made_here h =
         let k = one_packet adds h in
         let s = steps_here limits szx setup t c law in
@@ -78,7 +76,7 @@ module _ (limits : Limits) (szx : ℕ) (setup : Setup) (to : Endpoint) (m : Mess
     in_law = subst (LayerLaw setup) (layer_next limits szx setup t c) (facts.layer limits szx setup (c ∷ t) law)
 
     -- a CON that begins
-    pub con_made : (con : Open) → Ever (λ b. begun b ≡ Some con) adds → con.to ≡ to → Spells con.bytes m → Made t c
+    pub con_made : (con : Open) → Ever (λ b. begun b ≡ Some con) adds → con.to ≡ to → Spells con.bytes m → made_by t c
     con_made con h place spells = made_here
         (front setup (λ b. begun b ≡ Some con) Brings (λ past e l k. record {
           packet = record { to = con.to; bytes = con.bytes };
@@ -111,14 +109,14 @@ module _ (limits : Limits) (szx : ℕ) (setup : Setup) (to : Endpoint) (m : Mess
         }
 
     pub plain_made : (bytes : List ℕ) → Ever (λ b. PlainOut b (record { to = to; bytes = bytes })) adds → Spells bytes m
-        → Made t c
+        → made_by t c
     plain_made bytes h spells = made_here
         (front setup (λ b. PlainOut b (record { to = to; bytes = bytes })) Brings (plain_brings bytes spells) adds
         (layer_of limits szx setup t) in_law h)
 
     -- a reply
     pub reply_made : (bytes : List ℕ) → Ever (λ (b : L.Entry). b.call ≡ L.Reply to m.id bytes) adds → Spells bytes m
-        → Made t c
+        → made_by t c
     reply_made bytes h spells = made_here
         (front setup (λ (b : L.Entry). b.call ≡ L.Reply to m.id bytes) Brings (λ past e l k. record {
           packet = record { to = to; bytes = bytes };
@@ -126,3 +124,20 @@ module _ (limits : Limits) (szx : ℕ) (setup : Setup) (to : Endpoint) (m : Mess
           spells = spells;
           source = inl (record { id = m.id; call_is = k; small = (let low = spells.id in omega (arith, low)) });
         }) adds (layer_of limits szx setup t) in_law h)
+
+-- all of it
+pub makes_what_it_gives : (limits : Limits) (szx : ℕ) (setup : Setup) (t : List Call) (c : Call)
+    → ServerLaw limits szx setup (c ∷ t) → MakesWhatItGives limits szx setup t c
+makes_what_it_gives limits szx setup t c law = record {
+  cons = λ to m. con_made limits szx setup to m t c law;
+  nons = λ to m. plain_made limits szx setup to m t c law;
+  replies = λ to m. reply_made limits szx setup to m t c law;
+}
+
+pub all_made_here : (limits : Limits) (szx : ℕ) (setup : Setup) (t : List Call) → ServerLaw limits szx setup t
+    → AllMadeHere limits szx setup t
+all_made_here limits szx setup [] law = tt
+all_made_here limits szx setup (c ∷ t) law = (
+  makes_what_it_gives limits szx setup t c law,
+  all_made_here limits szx setup t (server_back limits szx setup c t law),
+)

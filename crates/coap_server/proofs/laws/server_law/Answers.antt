@@ -33,6 +33,7 @@ use Rattle.coap_server.proofs.Replying.GivenInOrder.{gives_in_order}
 use Rattle.coap_server.proofs.Holding.Shown.{shows_held, notices_show}
 use Rattle.coap_server.proofs.Progress.TokensShort.{short_tokens}
 use Rattle.coap_server.proofs.Serving.MethodsServed.{all_methods, all_uploads, verdicts_ask}
+use Rattle.coap_server.proofs.Telling.MadeInCall.{all_made_here}
 use Rattle.coap_server.proofs.Telling.Told.{all_tell_sent, acks_arrive}
 use Rattle.coap_server.proofs.Telling.UnderRegistrations.{all_serve_pairs, are_under}
 
@@ -63,6 +64,9 @@ returns-clause-served c limits szx setup t law =
 
 pub returns-clause-gives : goal.returns-clause-gives
 returns-clause-gives c limits szx setup t law = sends_responses limits szx setup t law
+
+pub returns-clause-made : goal.returns-clause-made
+returns-clause-made c limits szx setup t law = all_made_here limits szx setup t law
 
 pub returns-clause-continues : goal.returns-clause-continues
 returns-clause-continues c limits szx setup t law = none_continues limits szx setup t law
