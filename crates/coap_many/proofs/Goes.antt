@@ -91,7 +91,8 @@ module _ (config : Config) (range : IsConfig config) (me : Endpoint) (mine : IsO
   swap g (inr h) = inl h
 
   of_number : (number : ℕ) (g : W.Given) → IsNumber config number g past
-      → (g.packet.to ≡ config.server) ⊎ (g.packet.to ≡ me) → (b : Bool) → is_of config me g ≡ b → Expects (Deliver number)
+      → (g.packet.to ≡ config.server) ⊎ (g.packet.to ≡ me) → (b : Bool) → is_of config me g ≡ b
+      → Expects (Deliver number)
   of_number number g is to true e =
       let f : Found config me number g (all_of (given_in config) past) =
       found config me number g (all_of (given_in config) past) is in
@@ -175,11 +176,13 @@ others_still me other apart (W.OfServer c ∷ es) t = others_still me other apar
 
 client_front : (me : Endpoint) (s t : List Entry) → client_of me (s ++ t) ≡ client_of me s ++ client_of me t
 client_front me [] t = refl
-client_front me (OfClient who c ∷ s) t = ap (λ l. (if same_endpoint who me then c ∷ [] else []) ++ l) (client_front me s t)
+client_front me (OfClient who c ∷ s) t = ap (λ l. (if same_endpoint who me then c ∷ [] else []) ++ l)
+    (client_front me s t)
     ∙ sym (append_assoc (if same_endpoint who me then c ∷ [] else []) (client_of me s) (client_of me t))
 client_front me (OfServer c ∷ s) t = client_front me s t
 
-server_front : (config : Config) (s t : List Entry) → server_trace config (s ++ t) ≡ server_of s ++ server_trace config t
+server_front : (config : Config) (s t : List Entry) → server_trace config (s ++ t) ≡ server_of s
+    ++ server_trace config t
 server_front config [] t = refl
 server_front config (OfClient who c ∷ s) t = server_front config s t
 server_front config (OfServer c ∷ s) t = ap (λ l. c ∷ l) (server_front config s t)
@@ -297,7 +300,8 @@ run_back config (t ∷ later) past run = run_back config later past (record {
       (run.clients k client));
   server = server_facts.back config.limits config.szx config.setup (server_of t.entries)
       (server_trace config (entries_of (later ++ past)))
-      (subst (ServerLaw config.limits config.szx config.setup) (server_front config t.entries (entries_of (later ++ past)))
+      (subst (ServerLaw config.limits config.szx config.setup)
+      (server_front config t.entries (entries_of (later ++ past)))
       run.server);
 })
 

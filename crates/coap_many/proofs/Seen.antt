@@ -1,5 +1,6 @@
 -- A turn of many, as one client and the server see it: a turn of theirs, or nothing.
-use Rattle.std.proofs.Common.{◌≡◌, ◌⊎◌, ◌≤◌, ◌+◌, inl, inr, ℕ, Bool, true, false, Some, None, List, [], ◌∷◌, ◌++◌, map, refl}
+use Rattle.std.proofs.Common.{◌≡◌, ◌⊎◌, ◌≤◌, ◌+◌, inl, inr, ℕ, Bool, true, false, Some, None, List, [], ◌∷◌, ◌++◌, map}
+use Rattle.std.proofs.Common.{refl}
 use Rattle.std.proofs.Common.{sym, ap, subst, ◌∙◌, ◌||◌, if◌then◌else◌, length}
 use Rattle.std.specs.Prelude.{filter}
 use Rattle.coap_types.specs.Past.{Ever, all_of}
@@ -24,7 +25,8 @@ use Rattle.coap_many.specs.Events.{act_of}
 use Rattle.coap_many.specs.Legal.{IsConfig, MayCome, InRange}
 use Rattle.coap_many.specs.View.{view, view_what, view_entries}
 use Rattle.coap_many.specs.Comings.{is_of, number_of}
-use Rattle.coap_many.proofs.Entries.{AreApart, the_two, own_view, others_view, servers_view, clients_apart, servers_apart}
+use Rattle.coap_many.proofs.Entries.{AreApart, the_two, own_view, others_view, servers_view, clients_apart}
+use Rattle.coap_many.proofs.Entries.{servers_apart}
 use Rattle.coap_many.proofs.Numbers.{IsAt, Found, unique, found}
 
 pub not_same : (a b : Endpoint) → (a ≡ b → ⊥) → same_endpoint a b ≡ false
@@ -60,14 +62,16 @@ apart_of config range who h =
 
 -- whose turn it is
 
-on_client : (calls : List C.Call) (es : List W.Entry) → W.OnClient calls es → (cs : List C.Call) × (es ≡ map W.OfClient cs)
+on_client : (calls : List C.Call) (es : List W.Entry) → W.OnClient calls es → (cs : List C.Call)
+    × (es ≡ map W.OfClient cs)
 on_client calls es on = (
   C.NextReport None ∷ (map (λ r. C.NextReport (Some r)) on.reports
       ++ C.NextOut None ∷ (map (λ p. C.NextOut (Some p)) on.outs ++ calls)),
   on.is,
 )
 
-pub on_server : (calls : List S.Call) (es : List W.Entry) → W.OnServer calls es → (cs : List S.Call) × (es ≡ map W.OfServer cs)
+pub on_server : (calls : List S.Call) (es : List W.Entry) → W.OnServer calls es → (cs : List S.Call)
+    × (es ≡ map W.OfServer cs)
 on_server calls es on = (S.NextOut None ∷ (map (λ p. S.NextOut (Some p)) on.outs ++ calls), on.is)
 
 client_turn : (A : _) (at word : ℕ) (refused : Bool) (es : List W.Entry) (act : Act)
@@ -159,7 +163,8 @@ module _ (config : Config) (range : IsConfig config) (me : Endpoint) (mine : IsO
         inr (record {
           shown = kind;
           is = is;
-          makes = subst (λ e. W.Makes (the_two config me at) (view config me past) at word kind refused e) (sym there_is) makes;
+          makes = subst (λ e. W.Makes (the_two config me at) (view config me past) at word kind refused e)
+              (sym there_is) makes;
           comes = comes;
           small = small;
         }),
@@ -179,7 +184,8 @@ module _ (config : Config) (range : IsConfig config) (me : Endpoint) (mine : IsO
         inr (record {
           shown = kind;
           is = is;
-          makes = subst (λ e. W.Makes (the_two config me at) (view config me past) at word kind refused e) (sym there_is) makes;
+          makes = subst (λ e. W.Makes (the_two config me at) (view config me past) at word kind refused e)
+              (sym there_is) makes;
           comes = comes;
           small = small;
         }),
@@ -209,7 +215,8 @@ module _ (config : Config) (range : IsConfig config) (me : Endpoint) (mine : IsO
       by : (b : Bool) → same_endpoint who me ≡ b → Seen (Acts who act)
       by true e = own_turn (Acts who act) (act_of act) who m.0 cs.0 e of
           (ap (λ b. if b then Some (act_of act) else None) e) m.2 cs.1
-          (any_past (record { client = who; server = config.server }) (the_two config me at) [] (view config me past) at word
+          (any_past (record { client = who; server = config.server }) (the_two config me at) [] (view config me past) at
+          word
           refused m.0 act m.1)
           (λ c v f h. act_comes (the_two config me at) v (view config me past) at act
           (f.client ∙ ap (λ w. c.clients w (length past)) (sym (same_endpoint_is who me e)) ∙ h.1)) (λ s. s)
@@ -222,7 +229,8 @@ module _ (config : Config) (range : IsConfig config) (me : Endpoint) (mine : IsO
   stranger_turn who from bytes of m = by (same_endpoint who me) refl
     where
       by : (b : Bool) → same_endpoint who me ≡ b → Seen (StrangerToClient who from bytes)
-      by true e = own_turn (StrangerToClient who from bytes) (E.StrangerToClient from bytes) who m.0 (on_client m.1.0 m.0 m.1.2).0 e of
+      by true e = own_turn (StrangerToClient who from bytes) (E.StrangerToClient from bytes) who m.0
+          (on_client m.1.0 m.0 m.1.2).0 e of
           (ap (λ b. if b then Some (E.StrangerToClient from bytes) else None) e) m.2 (on_client m.1.0 m.0 m.1.2).1 m.1
           (λ c v f h. (
             (no_end from h.1).0,
@@ -304,7 +312,8 @@ module _ (config : Config) (range : IsConfig config) (me : Endpoint) (mine : IsO
         by false e = of_server (Deliver number) (E.StrangerToServer g.from g.packet.bytes) config.server m.0
             (on_server m.1.0 m.0 m.1.2).0
             (comes false e) m.2 (on_server m.1.0 m.0 m.1.2).1 m.1
-            (λ c v w may. ((foreign g e).0, (foreign g e).1, server_shows c v w g.packet.to at to (arrives c may))) (λ s. tt)
+            (λ c v w may. ((foreign g e).0, (foreign g e).1, server_shows c v w g.packet.to at to (arrives c may)))
+            (λ s. tt)
 
     to_client : (who : Endpoint) → g.packet.to ≡ who → IsOfClient config who
         → MakesAt config who at word (E.StrangerToClient g.from g.packet.bytes) refused entries
@@ -332,11 +341,13 @@ module _ (config : Config) (range : IsConfig config) (me : Endpoint) (mine : IsO
             else E.StrangerToClient g.from g.packet.bytes) else None) h
 
         own : same_endpoint g.packet.to me ≡ true → (c : Bool) → is_of config me g ≡ c → Seen (Deliver number)
-        own e true h = own_turn (Deliver number) (E.Deliver (number_of config me f.before)) who m.0 (on_client m.1.0 m.0 m.1.2).0
+        own e true h = own_turn (Deliver number) (E.Deliver (number_of config me f.before)) who m.0
+            (on_client m.1.0 m.0 m.1.2).0
             (ap (λ w. same_endpoint w me) (sym to) ∙ e) of (second true e true h) m.2 (on_client m.1.0 m.0 m.1.2).1
             (g, numbered h, inr (same_endpoint_is g.packet.to me e, m.1.0, m.1.1, m.1.2))
             (delivers h (inl (same_endpoint_is g.packet.to me e))) (λ s. tt)
-        own e false h = own_turn (Deliver number) (E.StrangerToClient g.from g.packet.bytes) who m.0 (on_client m.1.0 m.0 m.1.2).0
+        own e false h = own_turn (Deliver number) (E.StrangerToClient g.from g.packet.bytes) who m.0
+            (on_client m.1.0 m.0 m.1.2).0
             (ap (λ w. same_endpoint w me) (sym to) ∙ e) of (second true e false h) m.2 (on_client m.1.0 m.0 m.1.2).1 m.1
             (λ c v w may. (
               (foreign g h).0,
@@ -346,7 +357,8 @@ module _ (config : Config) (range : IsConfig config) (me : Endpoint) (mine : IsO
 
         by : (b : Bool) → same_endpoint g.packet.to me ≡ b → Seen (Deliver number)
         by true e = own e (is_of config me g) refl
-        by false e = others_turn (Deliver number) who m.0 (on_client m.1.0 m.0 m.1.2).0 (ap (λ w. same_endpoint w me) (sym to) ∙ e) of
+        by false e = others_turn (Deliver number) who m.0 (on_client m.1.0 m.0 m.1.2).0
+            (ap (λ w. same_endpoint w me) (sym to) ∙ e) of
             (second false e (is_of config me g) refl) m.2 (on_client m.1.0 m.0 m.1.2).1
 
   delivered : (number : ℕ) (g : W.Given) → IsNumber config number g past

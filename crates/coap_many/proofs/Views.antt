@@ -53,7 +53,8 @@ module _ (config : Config) (range : IsConfig config) (me : Endpoint) (mine : IsO
           given = ap (all_of (W.given_in the_two)) same
               ∙ sym (given_so ∙ ap (λ es. all_of (W.given_by the_two t.event.at) es ++ all_of (W.given_in the_two)
               (view config me past)) d.none);
-          made = subst (Always (λ past t. W.Makes the_two past t.event.at t.event.word t.event.what t.refused t.entries))
+          made = subst (Always (λ past t. W.Makes the_two past t.event.at t.event.word t.event.what t.refused
+              t.entries))
               (sym same) old.made;
         }
 
@@ -71,7 +72,8 @@ module _ (config : Config) (range : IsConfig config) (me : Endpoint) (mine : IsO
           entries = ap W.entries_of same ∙ ap (λ l. view_entries me t.entries ++ l) old.entries
               ∙ sym (all_of_append (view_entry me) t.entries (entries_of past));
           given = ap (all_of (W.given_in the_two)) same ∙ sym given_so;
-          made = subst (Always (λ past t. W.Makes the_two past t.event.at t.event.word t.event.what t.refused t.entries))
+          made = subst (Always (λ past t. W.Makes the_two past t.event.at t.event.word t.event.what t.refused
+              t.entries))
               (sym same) (k.makes, old.made);
         }
 

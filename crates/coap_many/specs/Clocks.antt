@@ -18,8 +18,8 @@ of_two c me = record { client = c.clients me; server = c.server }
 abbrev pub seen_at : Clocks → Endpoint → (ℕ → ℕ) → W.Clocks
 seen_at c me places = record { client = λ n. c.clients me (places n); server = λ n. c.server (places n) }
 
--- No clock falls. Each client's and the server's keep pace: neither gains more than 5 s on the other in 247 s. Of the clocks
--- of two clients nothing is said, nor of what any clock shows at first.
+-- No clock falls. Each client's and the server's keep pace: neither gains more than 5 s on the other in 247 s. Of the
+-- clocks of two clients nothing is said, nor of what any clock shows at first.
 abbrev pub AreClocks : Config → Clocks → Type 0
 AreClocks config c = (k : Client) → IsClient config k → W.AreClocks (of_two c k.at)
 

@@ -1,5 +1,5 @@
--- No event makes an end of a run of many fault: whatever can come has a turn, however late it is and whatever the clocks
--- show.
+-- No event makes an end of a run of many fault: whatever can come has a turn, however late it is and whatever the
+-- clocks show.
 use Rattle.std.specs.Prelude.{◌≡◌, ℕ, false, List, [], ◌∷◌, ◌++◌, map}
 use Rattle.coap_types.specs.Past.{Always}
 use Rattle.coap_world.specs.Record as W
@@ -9,7 +9,8 @@ use Rattle.coap_many.specs.Events.{Event, What, Acts, Deliver, StrangerToClient}
 use Rattle.coap_many.specs.Legal.{IsConfig}
 use Rattle.coap_many.specs.Record.{RecordOf}
 
--- Whatever event, at whatever moment. A client is one of the run's; a datagram that comes was given out before, to an end.
+-- Whatever event, at whatever moment. A client is one of the run's; a datagram that comes was given out before, to an
+-- end.
 abbrev pub CanCome : Config → List Turn → What → Type 0
 CanCome config past (Acts who act) = IsOfClient config who
 CanCome config past (Deliver number) = (g : W.Given) × IsNumber config number g past × IsEnd config g.packet.to

@@ -13,8 +13,8 @@ use Rattle.coap_many.specs.Entries.{Turn, IsNumber}
 use Rattle.coap_many.specs.Events.{act_of}
 
 -- The end that an event is for is handed what its clock shows. A client is one of the run's. A datagram that comes was
--- given out before, to an end, by an end whose clock shows at most 100,000 ms more than it showed then; a stranger has no
--- end's address.
+-- given out before, to an end, by an end whose clock shows at most 100,000 ms more than it showed then; a stranger has
+-- no end's address.
 abbrev pub MayCome : Config → Clocks → List Turn → ℕ → What → Type 0
 MayCome config c past at (Acts who act) = IsOfClient config who × (c.clients who (length past) ≡ at)
 MayCome config c past at (Deliver number) =

@@ -10,7 +10,8 @@ use Rattle.coap_many.specs.Legal.{Legal}
 -- it holds of each legal run of many, whatever the ends' clocks are, and of its entries
 
 abbrev pub OfLegalRuns : (Config → List Turn → Type 0) → Type 0
-OfLegalRuns Holds = (c : Clocks) (config : Config) (events : List Event) (turns : List Turn) → RecordOf config events turns
+OfLegalRuns Holds = (c : Clocks) (config : Config) (events : List Event) (turns : List Turn)
+    → RecordOf config events turns
     → Legal c config turns → Holds config turns
 
 abbrev pub InLegalRuns : (Config → List Entry → Type 0) → Type 0

@@ -1,21 +1,18 @@
 use Rattle.std.proofs.Common.{subst}
 use Rattle.coap_world.specs.Agrees.{Agrees}
 use Rattle.coap_world.specs.Bounds.{AreBounded}
-use Rattle.coap_many.specs.Clients.{Client, IsClient, world_of}
-use Rattle.coap_many.specs.View.{view_entries}
-use Rattle.coap_many.specs.Entries.{entries_of}
 use Rattle.coap_many.proofs.Pointed.{has_point, at_most_one}
 use Rattle.coap_many.proofs.FailedAnswers.{failed, never}
 use Rattle.coap_many.proofs.Goes.{goes_on}
-use Rattle.coap_many.proofs.NeverBack.{never_back, again_rises}
-use Rattle.coap_many.proofs.OneMaker.{one_maker}
-use Rattle.coap_many.proofs.OneWinner.{one_winner}
-use Rattle.coap_many.proofs.Owned.{all_owned, one}
-use Rattle.coap_server.proofs.Facts.Laws.{stamped}
-use Rattle.coap_many.specs.Entries.{server_trace}
-use Rattle.coap_many.proofs.RealTime.{in_real_time}
-use Rattle.coap_many.specs.Entries.{client_of}
-use Rattle.coap_many.proofs.Clocked.{views_are_runs}
+use Rattle.coap_many.specs.Clients.{world_of}
+use Rattle.coap_many.specs.Entries.{client_of, entries_of}
+use Rattle.coap_many.specs.Place.{place}
+use Rattle.coap_many.proofs.Fresh.{are_fresh}
+use Rattle.coap_many.proofs.Lost.{refused_are_lost}
+use Rattle.coap_many.proofs.OneClock.{by_one_clock}
+use Rattle.coap_many.proofs.Owned.{all_owned}
+use Rattle.coap_many.proofs.Seen.{is_member}
+use Rattle.coap_many.proofs.Clocked.{all_can_come, views_are_runs}
 use Rattle.coap_many.proofs.Views.{views_are_records}
 use Rattle.coap_many.proofs.laws.agreement_of_many.Goals as goal
 
@@ -52,50 +49,6 @@ returns-clause-owned c = λ clocks config events turns run legal.
     (subst (Agrees (world_of config k)) v.seen.entries
     (c.agreement.ensures.agrees _ (world_of config k) _ _ v.seen.made v.legal)).each_belongs)
 
-pub returns-clause-in_real_time : goal.returns-clause-in_real_time
-returns-clause-in_real_time c = λ clocks config events turns run legal.
-    in_real_time config (entries_of turns)
-    (λ k client. let v = views_are_runs clocks config events turns run legal k client in
-    subst (Agrees (world_of config k)) v.seen.entries
-    (c.agreement.ensures.agrees _ (world_of config k) _ _ v.seen.made v.legal))
-
-pub returns-clause-one_winner : goal.returns-clause-one_winner
-returns-clause-one_winner c = λ clocks config events turns run legal.
-    let agrees : (k : Client) → IsClient config k → Agrees (world_of config k) (view_entries k.at (entries_of turns)) =
-    λ k client. (let v = views_are_runs clocks config events turns run legal k client in
-    subst (Agrees (world_of config k)) v.seen.entries
-    (c.agreement.ensures.agrees _ (world_of config k) _ _ v.seen.made v.legal)) in
-    one_winner config (entries_of turns) run.server.rows
-    (stamped config.limits config.szx config.setup (server_trace config (entries_of turns)) run.server) agrees
-    (λ k l m n x a b. one config legal.range (entries_of turns)
-    (λ k client. c.client_follows_law.ensures.tokens config.server k.sizes k.setup (client_of k.at (entries_of turns))
-    (run.clients k client)) (λ k client. (agrees k client).each_belongs) x k l m n a b)
-
-pub returns-clause-one_maker : goal.returns-clause-one_maker
-returns-clause-one_maker c = λ clocks config events turns run legal.
-    one_maker config (entries_of turns)
-    (λ k client. let v = views_are_runs clocks config events turns run legal k client in
-    subst (Agrees (world_of config k)) v.seen.entries
-    (c.agreement.ensures.agrees _ (world_of config k) _ _ v.seen.made v.legal))
-
-pub returns-clause-never_back : goal.returns-clause-never_back
-returns-clause-never_back c = λ clocks config events turns run legal.
-    never_back config (entries_of turns)
-    (λ k client. let v = views_are_runs clocks config events turns run legal k client in
-    subst (Agrees (world_of config k)) v.seen.entries
-    (c.agreement.ensures.agrees _ (world_of config k) _ _ v.seen.made v.legal))
-    run.server.rows
-    (stamped config.limits config.szx config.setup (server_trace config (entries_of turns)) run.server)
-
-pub returns-clause-again_rises : goal.returns-clause-again_rises
-returns-clause-again_rises c = λ clocks config events turns run legal.
-    again_rises config (entries_of turns)
-    (λ k client. let v = views_are_runs clocks config events turns run legal k client in
-    subst (Agrees (world_of config k)) v.seen.entries
-    (c.agreement.ensures.agrees _ (world_of config k) _ _ v.seen.made v.legal))
-    run.server.rows
-    (stamped config.limits config.szx config.setup (server_trace config (entries_of turns)) run.server)
-
 pub returns-clause-no_fault : goal.returns-clause-no_fault
 returns-clause-no_fault c = λ config events turns run range can.
     goes_on config events turns run range can (λ past before could k client.
@@ -113,3 +66,20 @@ returns-clause-never_failed c = λ clocks config events turns run legal k client
     let v = views_are_runs clocks config events turns run legal k client in
     never config k (entries_of turns) (subst (Agrees (world_of config k)) v.seen.entries
     (c.agreement.ensures.agrees _ (world_of config k) _ _ v.seen.made v.legal)) number code
+
+pub returns-clause-fresh : goal.returns-clause-fresh
+returns-clause-fresh c = λ clocks config events turns run legal k client.
+    let v = views_are_runs clocks config events turns run legal k client in
+    are_fresh clocks config legal.range k client turns run.made (all_can_come config clocks turns legal.events)
+    (c.agreement.ensures.fresh _ (world_of config k) _ _ v.seen.made v.legal)
+
+pub returns-clause-lost : goal.returns-clause-lost
+returns-clause-lost c = refused_are_lost
+
+pub returns-clause-smooth : goal.returns-clause-smooth
+returns-clause-smooth c = λ clocks config events turns run legal one k client goes.
+    let v = views_are_runs clocks config events turns run legal k client in
+    c.agreement.ensures.smooth (world_of config k) _ _ v.seen.made
+    (by_one_clock (world_of config k) _ _ v.legal
+    (λ n. one k.at (is_member k config.clients client) (place config k.at turns n))) goes.smooth goes.few_told
+    goes.none_observed

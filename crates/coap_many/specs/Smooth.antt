@@ -1,0 +1,25 @@
+-- What each client of a smooth run of many is promised (RFC 7252, sections 4.2, 5.2 and 5.8).
+use Rattle.std.specs.Prelude.{◌≡◌, ℕ, List}
+use Rattle.coap_types.specs.declared.endpoint.Endpoint.{Endpoint}
+use Rattle.coap_world.specs.Smooth as W
+use Rattle.coap_world.specs.SmoothAnswers.{AnsweredSmoothly}
+use Rattle.coap_many.specs.Clients.{Client, Config, IsClient, IsOfClient, world_of}
+use Rattle.coap_many.specs.Clocks.{Clocks}
+use Rattle.coap_many.specs.Entries.{Turn}
+use Rattle.coap_many.specs.View.{view}
+
+-- each client's clock shows what the server's shows
+abbrev pub AreOneClock : Config → Clocks → Type 0
+AreOneClock config c = (who : Endpoint) → IsOfClient config who → (n : ℕ) → c.clients who n ≡ c.server n
+
+-- What this client and the server see goes smoothly, and the client observes nothing. To them the other clients are
+-- strangers, so the server sends few notifications in all (`FewTold`).
+pub record GoesSmoothly (config : Config) (k : Client) (turns : List Turn) : Type 0 where
+  pub smooth : W.Smooth (world_of config k) (view config k.at turns)
+  pub few_told : W.FewTold (world_of config k) (view config k.at turns)
+  pub none_observed : W.NoneObserved (view config k.at turns)
+
+-- Then its calls are answered smoothly, whatever the other clients meet.
+abbrev pub EachIsAnswered : Config → List Turn → Type 0
+EachIsAnswered config turns = (k : Client) → IsClient config k → GoesSmoothly config k turns
+    → AnsweredSmoothly (world_of config k) (view config k.at turns)
