@@ -2,27 +2,30 @@
 //! thing that happens, in the order of the run.
 //!
 //! A datagram has a row where it is given out, and one where it arrives; they go together by its number. What goes to an
-//! end from elsewhere, or from one to elsewhere, crosses the end's line.
+//! end from elsewhere, or from one to elsewhere, crosses the end's line. Behind what is reported stands its age.
+mod age;
 mod happening;
 mod sheet;
 mod traffic;
 mod traffic_words;
 
+use crate::chart::age::Turns;
 use crate::chart::happening::Happening;
 use crate::chart::sheet::{Form, Sheet};
-use crate::chart::traffic::{Arrival, Traffic, side_at};
+use crate::chart::traffic::{Arrival, Traffic};
 use crate::chart::traffic_words::{ArrivedWords, SentWords, StrangerWords};
 use crate::run_lines::is_begin;
 use coap_types::{Endpoint, Moment};
-use coap_world::{Event, Given, Kind, Line, Record, Side, What};
+use coap_world::{Addresses, Event, Given, Kind, Line, Record, Side, What};
 use std::alloc::Allocator;
 use std::io;
 use std::io::Write;
 
-/// Draws what came of a run: what is called, set and removed, which requests are applied, what is refused and reported,
-/// and each datagram, where it is given out and where it arrives.
+/// Draws what came of a run between ends at these addresses: what is called, set and removed, which requests are applied,
+/// what is refused and reported, and each datagram, where it is given out and where it arrives.
 pub fn draw_run<A: Allocator + Copy, W: Write>(
     alloc: A,
+    addresses: Addresses,
     events: &[Event<A>],
     record: &Record<A>,
     out: &mut W,
@@ -30,6 +33,7 @@ pub fn draw_run<A: Allocator + Copy, W: Write>(
     let sheet = Sheet::new(alloc, last_moment(events))?;
     out.write_all(sheet.head()?.as_bytes())?;
     let traffic = Traffic {
+        addresses,
         events,
         given: record.given(),
     };
@@ -38,8 +42,13 @@ pub fn draw_run<A: Allocator + Copy, W: Write>(
     let turns = record.lines().split(|line| is_begin(line));
     for (event, lines) in events.iter().zip(turns.skip(1)) {
         draw_input(&sheet, &traffic, past, event, out)?;
-        number = draw_outcome(&sheet, &traffic, event, lines, number, out)?;
         past = past.saturating_add(1);
+        let turns = Turns {
+            made: past,
+            events,
+            lines: record.lines(),
+        };
+        number = draw_outcome(&sheet, &traffic, &turns, event, lines, number, out)?;
     }
     Ok(())
 }
@@ -82,7 +91,7 @@ fn draw_arrival<A: Allocator + Copy, W: Write>(
     given: &Given<A>,
     out: &mut W,
 ) -> io::Result<()> {
-    let Some(side) = side_at(given.to()) else {
+    let Some(side) = traffic.side_at(given.to()) else {
         return Ok(());
     };
     let words = ArrivedWords {
@@ -112,6 +121,7 @@ fn draw_stranger<A: Allocator + Copy, W: Write>(
 fn draw_outcome<A: Allocator + Copy, W: Write>(
     sheet: &Sheet<A>,
     traffic: &Traffic<'_, A>,
+    turns: &Turns<'_, A>,
     event: &Event<A>,
     lines: &[Line<A>],
     first: usize,
@@ -124,7 +134,7 @@ fn draw_outcome<A: Allocator + Copy, W: Write>(
                 draw_sent(sheet, traffic, event.at, number, out)?;
                 number = number.saturating_add(1);
             }
-            kind => draw_happening(sheet, traffic, event, kind, out)?,
+            kind => draw_happening(sheet, traffic, turns, event, kind, out)?,
         }
     }
     Ok(number)
@@ -141,10 +151,10 @@ fn draw_sent<A: Allocator + Copy, W: Write>(
     let Some(given) = traffic.given.get(number) else {
         return Ok(());
     };
-    let Some(side) = side_at(given.from()) else {
+    let Some(side) = traffic.side_at(given.from()) else {
         return Ok(());
     };
-    let elsewhere = side_at(given.to()).is_none();
+    let elsewhere = traffic.side_at(given.to()).is_none();
     let form = if elsewhere {
         Form::ToElsewhere
     } else if traffic.is_lost(number) {
@@ -166,6 +176,7 @@ fn draw_sent<A: Allocator + Copy, W: Write>(
 fn draw_happening<A: Allocator + Copy, W: Write>(
     sheet: &Sheet<A>,
     traffic: &Traffic<'_, A>,
+    turns: &Turns<'_, A>,
     event: &Event<A>,
     kind: &Kind<A>,
     out: &mut W,
@@ -176,7 +187,11 @@ fn draw_happening<A: Allocator + Copy, W: Write>(
         Kind::Refused => traffic.side_of(&event.what),
         Kind::Begins(_) | Kind::Changes(_) | Kind::Out => return Ok(()),
     };
-    let what = &event.what;
-    let row = sheet.row(event.at, side, Form::Note, &Happening { what, kind })?;
+    let happening = Happening {
+        what: &event.what,
+        kind,
+        age: turns.age(kind, event.at),
+    };
+    let row = sheet.row(event.at, side, Form::Note, &happening)?;
     out.write_all(row.as_bytes())
 }

@@ -1,15 +1,16 @@
 //! What came of a run, a line each.
 use crate::values::{hex_or_dash, report_text};
 use coap_types::Moment;
-use coap_world::{CLIENT_END, Event, Given, Kind, Line, Record};
+use coap_world::{Addresses, Event, Given, Kind, Line, Record};
 use std::alloc::Allocator;
 use std::io;
 use std::io::Write;
 
-/// Prints what came of each event of a run: the datagrams that were given out, the requests that were
-/// applied, the reports, a refusal, and want of memory.
+/// Prints what came of each event of a run between ends at these addresses: the datagrams that were given out, the
+/// requests that were applied, the reports, a refusal, and want of memory.
 pub fn tell_run<A: Allocator + Copy, W: Write>(
     alloc: A,
+    addresses: Addresses,
     events: &[Event<A>],
     record: &Record<A>,
     out: &mut W,
@@ -17,7 +18,7 @@ pub fn tell_run<A: Allocator + Copy, W: Write>(
     let mut number = 0;
     let turns = record.lines().split(|line| is_begin(line));
     for (event, lines) in events.iter().zip(turns.skip(1)) {
-        number = tell_outs(alloc, event.at, lines, record, number, out)?;
+        number = tell_outs(alloc, addresses, event.at, lines, record, number, out)?;
         tell_applied(event.at, lines, out)?;
         tell_reports(alloc, event.at, lines, out)?;
         tell_refusals(event.at, lines, out)?;
@@ -33,6 +34,7 @@ pub(crate) fn is_begin<A: Allocator + Copy>(line: &Line<A>) -> bool {
 // The datagrams that were given out, of which the first has this number; the number of the next one.
 fn tell_outs<A: Allocator + Copy, W: Write>(
     alloc: A,
+    addresses: Addresses,
     at: Moment,
     lines: &[Line<A>],
     record: &Record<A>,
@@ -43,7 +45,7 @@ fn tell_outs<A: Allocator + Copy, W: Write>(
     for line in lines {
         if let Kind::Out = &line.kind {
             if let Some(given) = record.get(number) {
-                tell_out(alloc, at, number, given, out)?;
+                tell_out(alloc, addresses, at, number, given, out)?;
             }
             number = number.saturating_add(1);
         }
@@ -54,13 +56,14 @@ fn tell_outs<A: Allocator + Copy, W: Write>(
 // A datagram that was given out.
 fn tell_out<A: Allocator + Copy, W: Write>(
     alloc: A,
+    addresses: Addresses,
     at: Moment,
     number: usize,
     given: &Given<A>,
     out: &mut W,
 ) -> io::Result<()> {
     let at = at.0;
-    let end = if given.from() == CLIENT_END {
+    let end = if given.from() == addresses.client {
         "client"
     } else {
         "server"

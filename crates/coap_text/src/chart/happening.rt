@@ -1,4 +1,5 @@
 //! What happens at an end, in words.
+use crate::chart::age::Age;
 use crate::message_words::code_name;
 use crate::place_words::{EndpointWords, PathWords};
 use crate::report_words::ReportWords;
@@ -9,11 +10,12 @@ use coap_world::{AppliedRequest, Kind, What};
 use std::alloc::Allocator;
 use std::fmt;
 
-/// What a line of a record tells, of an event that asked for this.
+/// What a line of a record tells, of an event that asked for this; and how old is what it reports.
 #[derive(Clone, Copy)]
 pub(super) struct Happening<'a, A: Allocator + Copy> {
     pub(super) what: &'a What<A>,
     pub(super) kind: &'a Kind<A>,
+    pub(super) age: Option<Age>,
 }
 
 impl<'a, A: Allocator + Copy> fmt::Display for Happening<'a, A> {
@@ -28,11 +30,20 @@ impl<'a, A: Allocator + Copy> fmt::Display for Happening<'a, A> {
             Kind::Reports(id, report) => {
                 let number = id.0;
                 let words = ReportWords(report);
-                write!(f, "report {number}: {words}")
+                write!(f, "report {number}: {words}")?;
+                write_age(f, self.age)
             }
             Kind::Refused => f.write_str("no memory: this counts as lost"),
             Kind::Begins(_) | Kind::Changes(_) | Kind::Out => Ok(()),
         }
+    }
+}
+
+// How old what is reported is, where it shows what the server held.
+fn write_age<W: fmt::Write>(f: &mut fmt::Formatter<W>, age: Option<Age>) -> fmt::Result {
+    match age {
+        Some(age) => write!(f, ", {age}"),
+        None => Ok(()),
     }
 }
 

@@ -1,6 +1,6 @@
 //! What becomes of the datagrams of a run.
 use coap_types::Endpoint;
-use coap_world::{CLIENT_END, Event, Given, SERVER_END, Side, What};
+use coap_world::{Addresses, Event, Given, Side, What};
 use std::alloc::Allocator;
 
 /// How a datagram arrives.
@@ -14,9 +14,10 @@ pub(super) enum Arrival {
     Again,
 }
 
-/// The events of a run, and the datagrams that were given out in it.
+/// Where the ends of a run stand, its events, and the datagrams that were given out in it.
 #[derive(Clone, Copy)]
 pub(super) struct Traffic<'a, A: Allocator + Copy> {
+    pub(super) addresses: Addresses,
     pub(super) events: &'a [Event<A>],
     pub(super) given: &'a [Given<A>],
 }
@@ -64,6 +65,17 @@ impl<'a, A: Allocator + Copy> Traffic<'a, A> {
         }
     }
 
+    /// The end that has this address.
+    pub(super) fn side_at(&self, endpoint: Endpoint) -> Option<Side> {
+        if endpoint == self.addresses.client {
+            Some(Side::Client)
+        } else if endpoint == self.addresses.server {
+            Some(Side::Server)
+        } else {
+            None
+        }
+    }
+
     /// The end at which an event happens.
     pub(super) fn side_of(&self, what: &What<A>) -> Side {
         match what {
@@ -73,7 +85,7 @@ impl<'a, A: Allocator + Copy> Traffic<'a, A> {
             What::Deliver(number) => self
                 .given
                 .get(*number)
-                .and_then(|given| side_at(given.to()))
+                .and_then(|given| self.side_at(given.to()))
                 .unwrap_or(Side::Server),
         }
     }
@@ -90,15 +102,4 @@ fn delivers<A: Allocator + Copy>(event: &Event<A>, number: usize) -> bool {
 // Whether two datagrams have the same bytes, and go between the same endpoints.
 fn is_alike<A: Allocator + Copy>(one: &Given<A>, other: &Given<A>) -> bool {
     one.from() == other.from() && one.to() == other.to() && one.bytes() == other.bytes()
-}
-
-/// The end that has this address.
-pub(super) fn side_at(endpoint: Endpoint) -> Option<Side> {
-    if endpoint == CLIENT_END {
-        Some(Side::Client)
-    } else if endpoint == SERVER_END {
-        Some(Side::Server)
-    } else {
-        None
-    }
 }
