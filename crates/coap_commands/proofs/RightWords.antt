@@ -9,11 +9,11 @@ use Rattle.coap_words.specs.Asking.{HasContent, HasNoContent, HasNoTags, HasOpti
 use Rattle.coap_words.specs.Asking.{IsTagText, IsWhat, SendsBody, tags_argument_of}
 use Rattle.coap_words.specs.Numbers.{SaysNumber, argument_of, least_of, most_of}
 use Rattle.coap_words.specs.Plains.{HasPlains}
-use Rattle.coap_words.specs.Serving.{HasNoSetting, HasServeOptions, IsDelay, IsHold}
+use Rattle.coap_words.specs.Serving.{HasNoSetting, HasServeOptions, IsDelay, IsHold, serving_word}
 use Rattle.coap_words.specs.Sizes.{HasNoSize, HasSize, sizes}
 use Rattle.coap_words.specs.Taking.{TakesNumber, TakesPath, TakesPlains}
 use Rattle.coap_words.specs.Texts.{AreTexts, SomeSaysNone, texts_of}
-use Rattle.coap_words.specs.Values.{HasBytes, HasLimit, HasRemembered, HasNoNumber, HasNoStore}
+use Rattle.coap_words.specs.Values.{HasBytes, HasCount, HasLimit, HasRemembered, HasNoNumber, HasNoStore}
 use Rattle.coap_words.specs.Values.{HasNoWord, HasNumber, HasPath, HasStore, HasWord, IsChoice, store_name}
 use Rattle.coap_words.specs.Words.{AsksFor, AsksForIn, EntersWrong, IsPathFine, IsWrongIn}
 use Rattle.coap_words.proofs.Facts.NamedPaths.{each_is_one, not_too_many}
@@ -112,6 +112,10 @@ not_path order why name v asks (inr wrong) =
 abbrev pub MayHave : NumberRefusal → List Row → Type 0
 MayHave why v = (first_of (argument_of why) v ≡ None) ⊎ ((n : ℕ) × HasNumber why v n)
 
+pub of_count : (v : List Row) (n : ℕ) → HasCount v n → MayHave Count v
+of_count v n (inl none) = inl none.0
+of_count v n (inr has) = inr (n, has)
+
 pub of_limit : (v : List Row) (n : ℕ) → HasLimit v n → MayHave Limit v
 of_limit v n (inl none) = inl none.0
 of_limit v n (inr has) = inr (n, has)
@@ -147,7 +151,7 @@ has_number name v (Pair path body word limit remembered) Seconds e h =
     absurd (differ (codes "pair") (codes "observe") name refl h.0 e)
 has_number name v (Pair path body word limit remembered) GiveUp e h = absurd (asks_none (codes "pair") name pair_asks_none h.0 e)
 has_number name v (Serve port count options) Port takes h = inr (port, h.1)
-has_number name v (Serve port count options) Count takes h = inr (count, h.2)
+has_number name v (Serve port count options) Count takes h = of_count v count h.2
 has_number name v (Serve port count options) Limit takes h = of_limit v options.limit h.3.limit
 has_number name v (Serve port count options) Remember takes h = of_remembered v options.remembered h.3.remembered
 has_number name v (Serve port count options) Format takes h =
@@ -301,25 +305,25 @@ not_tags (Ask port path what options) IfMatch name v h (takes, none) =
 not_tags (Sim file store plains remembered chart) why name v h (takes, none) =
     absurd (tags_none (codes "sim") name why sim_asks_none h.0 takes)
 
-pub setting_or_not : (v : List Row) (why : SettingRefusal) (options : ServeOptions) → HasServeOptions v options
-    → HasNoSetting why v → ⊥
-setting_or_not v setting.Hold options has none =
+pub setting_or_not : (usual : WordChoice) (v : List Row) (why : SettingRefusal) (options : ServeOptions)
+    → HasServeOptions usual v options → HasNoSetting why v → ⊥
+setting_or_not usual v setting.Hold options has none =
     all_say IsHold (texts_of (codes "hold") v) options.holds.items has.holds none
-setting_or_not v setting.Delay options has (inl more) =
+setting_or_not usual v setting.Delay options has (inl more) =
     let same = same_length IsDelay (texts_of (codes "delay") v) options.delays.items has.delays.0 in
     absurd (omega (arith, same, more, has.delays.1))
-setting_or_not v setting.Delay options has (inr none) =
+setting_or_not usual v setting.Delay options has (inr none) =
     all_say IsDelay (texts_of (codes "delay") v) options.delays.items has.delays.0 none
 
 pub has_settings : (name : Text) (v : List Row) (order : Order) → name ≡ codes "serve" → AsksForIn name v order
-    → (options : ServeOptions) × HasServeOptions v options
+    → (usual : WordChoice) × (options : ServeOptions) × HasServeOptions usual v options
 has_settings name v (Show datagram) serves h = absurd (differ (codes "show") (codes "serve") name refl h.0 serves)
 has_settings name v Dump serves h = absurd (differ (codes "dump") (codes "serve") name refl h serves)
 has_settings name v (Answer path body datagram) serves h =
     absurd (differ (codes "answer") (codes "serve") name refl h.0 serves)
 has_settings name v (Pair path body word limit remembered) serves h =
     absurd (differ (codes "pair") (codes "serve") name refl h.0 serves)
-has_settings name v (Serve port count options) serves h = (options, h.3)
+has_settings name v (Serve port count options) serves h = (serving_word count, options, h.3)
 has_settings name v (Ask port path what options) serves h =
     absurd (asks_none (codes "serve") name serve_asks_none serves (what_asks name v what h.0))
 has_settings name v (Sim file store plains remembered chart) serves h = absurd (differ (codes "sim") (codes "serve") name refl h.0 serves)
@@ -328,7 +332,7 @@ pub not_setting : (order : Order) (why : SettingRefusal) (name : Text) (v : List
     → IsWrongIn name v (Setting why) → ⊥
 not_setting order why name v asks (serves, none) =
     let s = has_settings name v order serves asks in
-    setting_or_not v why s.0 s.1 none
+    setting_or_not s.0 v why s.1 s.2 none
 
 pub content_or_not : (v : List Row) (content : Content) → HasContent v content → HasNoContent v → ⊥
 content_or_not v (contents.Text text) has (inl none) = absurd (cc (sym none.0 ∙ has.0))

@@ -85,7 +85,7 @@ most_same : (a b : ℕ) (old new : State) → b ≡ a → FedFrom 0 old new → 
 most_same a b old new is h = (0, omega (arith, is), h)
 
 module _ {L : Type 0} (waiting : State → List layer.Packet) (gives : State → layer.Packet → State → Type 0)
-    (sends : L → Endpoint → List ℕ → L → Type 0) (receives : L → Option Packet → L → Type 0)
+    (sends : L → Endpoint → List ℕ → L → Type 0) (receives : L → Option Packet → L → Type 0) (faults : L → ℕ)
     (quiet_feed : State → ℕ → Endpoint → List ℕ → Type 0)
     (feeds : State → ℕ → Endpoint → List ℕ → ℕ → State → Type 0)
     (quiet_tick : State → ℕ → Type 0) (ticks : State → ℕ → ℕ → Bool → State → Type 0)
@@ -132,7 +132,7 @@ module _ {L : Type 0} (waiting : State → List layer.Packet) (gives : State →
 
     -- a turn
     turn_fed : (e : State) (l : L) (now : ℕ) (t : Tally) (f : State) (m : L) (u : Tally)
-        → Turns waiting gives sends receives quiet_feed feeds quiet_tick ticks e l now t f m u → FedMost t.fed u.fed e f
+        → Turns waiting gives sends receives faults quiet_feed feeds quiet_tick ticks e l now t f m u → FedMost t.fed u.fed e f
     unfolding Turns
     turn_fed e l now t f m u h =
         let g = h.0 in
@@ -147,7 +147,7 @@ module _ {L : Type 0} (waiting : State → List layer.Packet) (gives : State →
 
     -- turn after turn
     turning_fed : (count : ℕ) (e : State) (l : L) (t : Tally) {f : State} {m : L} {u : Tally}
-        → Turning (Turns waiting gives sends receives quiet_feed feeds quiet_tick ticks) count e l t f m u
+        → Turning (Turns waiting gives sends receives faults quiet_feed feeds quiet_tick ticks) count e l t f m u
         → FedMost t.fed u.fed e f
     turning_fed count e l t no_turn = most_same t.fed t.fed e e refl (fed_here e e refl)
     turning_fed count e l t (more g k v now f m u turns few turn) =
@@ -155,7 +155,7 @@ module _ {L : Type 0} (waiting : State → List layer.Packet) (gives : State →
 
     -- .. until so many were fed, and then what is out is sent
     pub serves_fed : (count word : ℕ) (e : State) (l : L) (f : State) (m : L)
-        → Serves (Turns waiting gives sends receives quiet_feed feeds quiet_tick ticks)
+        → Serves (Turns waiting gives sends receives faults quiet_feed feeds quiet_tick ticks)
         (λ g k f m. SendsAll gives sends g k (waiting g) f m) count word e l f m → FedFrom count e f
     serves_fed count word e l f m h =
         let g : State = h.0 in
@@ -182,14 +182,14 @@ server_ticks s now word did n =
     × Step s (Ticks now word below room due passed h id did) n
 
 module _ {L : Type 0} (waiting : State → List layer.Packet) (sends : L → Endpoint → List ℕ → L → Type 0)
-    (receives : L → Option Packet → L → Type 0) (quiet_feed : State → ℕ → Endpoint → List ℕ → Type 0)
+    (receives : L → Option Packet → L → Type 0) (faults : L → ℕ) (quiet_feed : State → ℕ → Endpoint → List ℕ → Type 0)
     (quiet_tick : State → ℕ → Type 0)
   where
     server_fed : (count word : ℕ) (e : State) (l : L) (f : State) (m : L)
-        → Serves (Turns waiting server_gives sends receives quiet_feed server_feeds quiet_tick server_ticks)
+        → Serves (Turns waiting server_gives sends receives faults quiet_feed server_feeds quiet_tick server_ticks)
         (λ g k f m. SendsAll server_gives sends g k (waiting g) f m) count word e l f m → FedFrom count e f
     server_fed count word e l f m h =
-        serves_fed waiting server_gives sends receives quiet_feed server_feeds quiet_tick server_ticks
+        serves_fed waiting server_gives sends receives faults quiet_feed server_feeds quiet_tick server_ticks
         (λ old p new k. fed_call 0 old new (NextOut (Some p)) tt (omega arith) k)
         (λ old now from bytes word new k. fed_call 1 old new (FedIn now from bytes word k.0 k.1 k.2 k.3) tt (omega arith) k.4)
         (λ old now word did new k. fed_call 0 old new (Ticks now word k.0 k.1 k.2 k.3 k.4 k.5 did) tt (omega arith) k.6)
@@ -198,7 +198,7 @@ module _ {L : Type 0} (waiting : State → List layer.Packet) (sends : L → End
     -- .. from where it was
     pub served_from : (count word : ℕ) (own first last : State) (l m : L) (ended : Result Status Stop) → first ≡ own
         → IfOk ended (λ s. (s ≡ status.Done)
-        × Serves (Turns waiting server_gives sends receives quiet_feed server_feeds quiet_tick server_ticks)
+        × Serves (Turns waiting server_gives sends receives faults quiet_feed server_feeds quiet_tick server_ticks)
         (λ g k f m. SendsAll server_gives sends g k (waiting g) f m) count word first l last m)
         → IfOk ended (λ s. (s ≡ status.Done) × (end : State) × FedFrom count own end)
     served_from count word own first last l m (Ok s) is h =

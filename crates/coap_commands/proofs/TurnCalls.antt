@@ -39,7 +39,7 @@ pub turned_by : (like : Call → Type 0) (old new : State) (c : Call) → like c
 turned_by like old new c is step = (c ∷ [], (is, tt), (old, refl, step))
 
 module _ {L : Type 0} (like : Call → Type 0) (waiting : State → List layer.Packet) (gives : State → layer.Packet → State → Type 0)
-    (sends : L → Endpoint → List ℕ → L → Type 0) (receives : L → Option Packet → L → Type 0)
+    (sends : L → Endpoint → List ℕ → L → Type 0) (receives : L → Option Packet → L → Type 0) (faults : L → ℕ)
     (quiet_feed : State → ℕ → Endpoint → List ℕ → Type 0)
     (feeds : State → ℕ → Endpoint → List ℕ → ℕ → State → Type 0)
     (quiet_tick : State → ℕ → Type 0) (ticks : State → ℕ → ℕ → Bool → State → Type 0)
@@ -74,7 +74,7 @@ module _ {L : Type 0} (like : Call → Type 0) (waiting : State → List layer.P
 
     -- a whole turn
     pub turn_turned : (e : State) (l : L) (now : ℕ) (t : Tally) (f : State) (m : L) (u : Tally)
-        → Turns waiting gives sends receives quiet_feed feeds quiet_tick ticks e l now t f m u → Turned like e f
+        → Turns waiting gives sends receives faults quiet_feed feeds quiet_tick ticks e l now t f m u → Turned like e f
     unfolding Turns
     turn_turned e l now t f m u h =
         let g = h.0 in
@@ -103,12 +103,12 @@ client_ticks s now word did n =
 
 pub client_turned : {L : Type 0} (like : Call → Type 0) (nothing : (c : Call) → AsksNothing c → like c)
     (waiting : State → List layer.Packet) (sends : L → Endpoint → List ℕ → L → Type 0)
-    (receives : L → Option Packet → L → Type 0) (quiet_feed : State → ℕ → Endpoint → List ℕ → Type 0)
+    (receives : L → Option Packet → L → Type 0) (faults : L → ℕ) (quiet_feed : State → ℕ → Endpoint → List ℕ → Type 0)
     (quiet_tick : State → ℕ → Type 0) (e : State) (l : L) (now : ℕ) (t : Tally) (f : State) (m : L) (u : Tally)
-    → Turns waiting client_gives sends receives quiet_feed client_feeds quiet_tick client_ticks e l now t f m u
+    → Turns waiting client_gives sends receives faults quiet_feed client_feeds quiet_tick client_ticks e l now t f m u
     → Turned like e f
-client_turned like nothing waiting sends receives quiet_feed quiet_tick e l now t f m u h =
-    turn_turned like waiting client_gives sends receives quiet_feed client_feeds quiet_tick client_ticks
+client_turned like nothing waiting sends receives faults quiet_feed quiet_tick e l now t f m u h =
+    turn_turned like waiting client_gives sends receives faults quiet_feed client_feeds quiet_tick client_ticks
     (λ old p new k. turned_by like old new (NextOut (Some p)) (nothing (NextOut (Some p)) tt) k)
     (λ old at from bytes word new k. turned_by like old new (Feeds at from bytes word k.0 k.1 k.2 k.3 k.4 k.5)
     (nothing (Feeds at from bytes word k.0 k.1 k.2 k.3 k.4 k.5) tt) k.6)

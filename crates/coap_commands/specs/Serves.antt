@@ -11,7 +11,7 @@ pub data Turning {E L : Type 0} (turn : E → L → ℕ → Tally → E → L �
 
 -- before the first turn, with this word
 abbrev pub nothing_fed : ℕ → Tally
-nothing_fed word = record { word = word; fed = 0; refused = 0 }
+nothing_fed word = record { word = word; fed = 0; refused = 0; failed = 0 }
 
 -- such turns lead to where so many were fed
 abbrev pub Feeds : {E L : Type 0} → (E → L → ℕ → Tally → E → L → Tally → Type 0) → (count word : ℕ) → E → L → E → L → Type 0

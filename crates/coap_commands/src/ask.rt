@@ -13,7 +13,7 @@ ghost use Rattle.coap_commands.specs.Asks.{got_status, status_after};
 ghost use Rattle.coap_commands.specs.Ends.{client_sizes};
 ghost use Rattle.coap_commands.specs.Statuses.{IsCarriedOut};
 
-use crate::bearing::bear;
+use crate::bearing::bear_in_all;
 use crate::calling::{Outcome, call, outcome_text};
 use crate::ends::fresh_client;
 use crate::observe::observe;
@@ -80,7 +80,7 @@ fn awaited<H: BuildHasher, L: Link, T: Timekeeper>(
         if let Some(seconds) = passed(give_up, begin, now) {
             return Ok(Outcome::GaveUp(seconds));
         }
-        bear(link, &tally)?;
+        bear_in_all(link, &tally)?;
     }
     Err(Stop::Failed)
 }

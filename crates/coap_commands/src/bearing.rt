@@ -1,24 +1,51 @@
 //! How much a program of turns bears, before it gives up.
 ghost use Rattle.std.specs.Prelude.{◌≡◌};
-ghost use Rattle.coap_commands.specs.Bearing.{borne};
+ghost use Rattle.coap_commands.specs.Bearing.{borne, borne_in_a_row, borne_in_all, borne_serving};
 
 use crate::status::Stop;
 use coap_links::{Link, Tally};
+use coap_words::FOREVER;
 
 /// The failed call of a link, and the input that was refused memory, that end the program.
 pub const MAX_FAILURES: u64 = 100;
 
 const _: () = prove!(MAX_FAILURES == 100);
 
-/// Whether the turns of an end over a link go on.
-pub fn bear<L: Link>(link: &L, tally: &Tally) -> Result<(), Stop>
-    ensures { result ≡ borne (L.fault_count link.now) tally.now }
+// Whether the turns go on after so many failed calls of the link.
+fn bear_failures(failures: u64, tally: &Tally) -> Result<(), Stop>
+    ensures { result ≡ borne failures tally.now }
 {
     if tally.refused >= MAX_FAILURES {
         return Err(Stop::Memory);
     }
-    if link.faults() >= MAX_FAILURES {
+    if failures >= MAX_FAILURES {
         return Err(Stop::Failed);
     }
     Ok(())
+}
+
+/// Whether the turns of an end over a link go on, in a program that ends by itself: all failed calls count.
+pub fn bear_in_all<L: Link>(link: &L, tally: &Tally) -> Result<(), Stop>
+    ensures { result ≡ borne_in_all (L.fault_count link.now) tally.now }
+{
+    bear_failures(link.faults(), tally)
+}
+
+/// Whether the turns go on in a program that is run for ever: only failed calls in a row count, since some fail in time
+/// where the network is away for a while.
+pub fn bear_in_a_row(tally: &Tally) -> Result<(), Stop>
+    ensures { result ≡ borne_in_a_row tally.now }
+{
+    bear_failures(tally.failed, tally)
+}
+
+/// Whether the turns of a server of so many datagrams go on.
+pub fn bear_serving<L: Link>(link: &L, tally: &Tally, count: u64) -> Result<(), Stop>
+    ensures { result ≡ borne_serving count (L.fault_count link.now) tally.now }
+{
+    if count == FOREVER {
+        bear_in_a_row(tally)
+    } else {
+        bear_in_all(link, tally)
+    }
 }

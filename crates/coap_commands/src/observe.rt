@@ -16,7 +16,7 @@ ghost use Rattle.coap_commands.specs.Observes.{Observes};
 ghost use Rattle.coap_commands.specs.Observes.{observed_status};
 
 use crate::ask::next_report_of;
-use crate::bearing::bear;
+use crate::bearing::bear_in_a_row;
 use crate::calling::{Outcome, outcome_text};
 use crate::ends::fresh_client;
 use crate::patience::{Patience, PatientLink, patience_on};
@@ -201,7 +201,7 @@ fn awaited<H: BuildHasher, L: Link, T: Timekeeper, W: Write>(
             return Ok(Outcome::GaveUp(seconds));
         }
         cancel_at_end(client, id, options, begin, values, now);
-        bear(link, &tally)?;
+        bear_in_a_row(&tally)?;
     }
     Err(Stop::Failed)
 }

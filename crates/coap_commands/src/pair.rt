@@ -14,7 +14,7 @@ ghost use Rattle.coap_commands.specs.Statuses.{IsCarriedOut};
 ghost use Rattle.coap_commands.specs.declared.status.Status.TheVariants as status;
 
 use crate::ask::next_report_of;
-use crate::bearing::bear;
+use crate::bearing::bear_in_all;
 use crate::calling::{Outcome, call, get_request, outcome_text, put_request};
 use crate::ends::{fresh_client, fresh_server, largest_szx};
 use crate::put_away::put_away;
@@ -62,7 +62,7 @@ fn reported<H: BuildHasher, C: Link, E: End<Global>, S: Link, T: Timekeeper>(
     // More turns than a program lives.
     for _turn in 0..u64::MAX {
         turn_client(client, link, time.now()?, tally);
-        bear(link, tally)?;
+        bear_in_all(link, tally)?;
         if let Some(report) = next_report_of(client, id) {
             return Ok(report);
         }

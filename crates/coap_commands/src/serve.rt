@@ -8,7 +8,7 @@ ghost use Rattle.coap_commands.specs.Serves.{Feeds, Serves};
 ghost use Rattle.coap_commands.specs.Served.{FedFrom, IsServed};
 ghost use Rattle.coap_commands.specs.declared.status.Status.TheVariants.{Done};
 
-use crate::bearing::bear;
+use crate::bearing::bear_serving;
 use crate::changes::{ChangeTeller, TellingEnd, changes_on};
 use crate::ends::tell_refusal;
 use crate::put_away::put_away;
@@ -39,7 +39,7 @@ fn serve_until<A: Allocator + Copy, E: End<A>, L: Link, T: Timekeeper>(
     word: u64,
 ) -> Result<(), Stop>
     ensures { IfOk result (λ _. Feeds
-        (Turns E.waiting E.gives L.sends L.receives E.quiet_feed E.feeds E.quiet_tick E.ticks) count word
+        (Turns E.waiting E.gives L.sends L.receives L.fault_count E.quiet_feed E.feeds E.quiet_tick E.ticks) count word
         (E.state server.old) link.old (E.state server.new) link.new) }
 {
     let mut tally = fresh_tally(word);
@@ -49,7 +49,7 @@ fn serve_until<A: Allocator + Copy, E: End<A>, L: Link, T: Timekeeper>(
             return Ok(());
         }
         serve_turn(server, link, time.now()?, &mut tally);
-        bear(link, &tally)?;
+        bear_serving(link, &tally, count)?;
     }
     Err(Stop::Failed)
 }
@@ -67,7 +67,7 @@ pub fn serve_over<A: Allocator + Copy, E: End<A>, L: Link, T: Timekeeper, W: Wri
     // A `serve` over any link ends with status 0, or stops: it ends after turns alone, once so many datagrams were fed and no later, and
     // has sent what was out then.
     ensures { IfOk result (λ status. (status ≡ Done) × Serves
-        (Turns E.waiting E.gives L.sends L.receives E.quiet_feed E.feeds E.quiet_tick E.ticks)
+        (Turns E.waiting E.gives L.sends L.receives L.fault_count E.quiet_feed E.feeds E.quiet_tick E.ticks)
         (λ g k f m. SendsAll E.gives L.sends g k (E.waiting g) f m) count word
         (E.state server.old) link.old (E.state server.new) link.new) }
 {

@@ -1,6 +1,6 @@
 //! An end over a link.
 
-use crate::bearing::bear;
+use crate::bearing::bear_in_all;
 use crate::status::Stop;
 use coap_ends::End;
 use coap_links::{Link, Tally, fresh_tally, send_all, turn};
@@ -29,6 +29,6 @@ impl<'a, E: End<Global>, L: Link> Side<'a, E, L> {
     pub fn turn(&mut self, now: Moment) -> Result<(), Stop> {
         turn(self.end, self.link, now, &mut self.tally);
         send_all(self.end, self.link);
-        bear(self.link, &self.tally)
+        bear_in_all(self.link, &self.tally)
     }
 }

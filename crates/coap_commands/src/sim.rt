@@ -14,7 +14,9 @@ use coap_resource::{ListStore, MAX_CHANGES_PER_WINDOW, MapStore};
 use coap_text::{draw_run, tell_run};
 use coap_types::{Path, Remembered};
 use coap_words::StoreKind;
-use coap_world::{Event, Record, RunRefusal, WorldConfig, run_with};
+use coap_world::{
+    Addresses, CLIENT_END, Event, Record, RunRefusal, SERVER_END, WorldConfig, run_with,
+};
 use std::alloc::Allocator;
 use std::fs;
 use std::io::{Read, Write};
@@ -24,6 +26,12 @@ use std::rt::Files;
 const WORD: u64 = 0;
 
 const _: () = prove!(WORD == 0);
+
+// Where the two ends stand.
+const ENDS: Addresses = Addresses {
+    client: CLIENT_END,
+    server: SERVER_END,
+};
 
 // What the words take is what the server takes.
 const _: () = prove!(coap_words::MAX_PLAINS == MAX_PLAINS);
@@ -139,9 +147,9 @@ fn print_run<A: Allocator + Copy, W: Write>(
     out: &mut W,
 ) -> Result<(), Stop> {
     let printed = if chart {
-        draw_run(alloc, events, record, out)
+        draw_run(alloc, ENDS, events, record, out)
     } else {
-        tell_run(alloc, events, record, out)
+        tell_run(alloc, ENDS, events, record, out)
     };
     printed.map_err(|error| stop_of(&error))
 }

@@ -1,4 +1,4 @@
-use crate::pair::Clock;
+use crate::clock::Clock;
 use crate::rows::{check_row, repeated, words_of};
 use coap_commands::{ask_over, body_of, close, request_of};
 use coap_layer::Setup;
@@ -197,10 +197,20 @@ fn word_in(alloc: Global, words: &[&str]) -> Result<Option<WordChoice>, AllocErr
 
 #[test]
 fn words_where_none_is_given(rt: HostRuntime) -> Result<(), Fail> {
-    let rows: [(&[&str], WordChoice); 9] = [
-        (&["get", "5683", "t"], WordChoice::Given(1)),
+    let rows: [(&[&str], WordChoice); 14] = [
         (&["pair", "t", "hi"], WordChoice::Given(1)),
         (&["serve", "5683", "1"], WordChoice::Given(1)),
+        (
+            &["serve", "5683", "18446744073709551614"],
+            WordChoice::Given(1),
+        ),
+        (&["serve", "5683", "forever"], WordChoice::Random),
+        (&["serve", "5683"], WordChoice::Random),
+        (
+            &["serve", "5683", "forever", "--word", "7"],
+            WordChoice::Given(7),
+        ),
+        (&["get", "5683", "t"], WordChoice::Random),
         (&["put", "5683", "t", "hi"], WordChoice::Random),
         (&["post", "5683", "t", "hi"], WordChoice::Random),
         (&["delete", "5683", "t"], WordChoice::Random),
@@ -209,6 +219,7 @@ fn words_where_none_is_given(rt: HostRuntime) -> Result<(), Fail> {
             &["put", "5683", "t", "hi", "--word", "7"],
             WordChoice::Given(7),
         ),
+        (&["get", "5683", "t", "--word", "1"], WordChoice::Given(1)),
         (
             &["get", "5683", "t", "--word", "random"],
             WordChoice::Random,

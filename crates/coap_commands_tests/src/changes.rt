@@ -1,4 +1,4 @@
-use crate::pair::Clock;
+use crate::clock::Clock;
 use crate::rows::{Broken, words_of};
 use coap_commands::{
     ChangeWords, SharedWriter, TellingEnd, changes_on, close, serve_over, server_by,

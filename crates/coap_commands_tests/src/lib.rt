@@ -1,4 +1,5 @@
-//! Tests of what the program does, by the public calls of `coap_commands`.
+//! Tests of what the program does, by the public calls of `coap_commands`: its words, and one end over a link in memory. Those of
+//! both ends, and of what is shown while one waits, stand in `coap_runs_tests`.
 #![tactic(auto)]
 
 #[cfg(test)]
@@ -12,7 +13,13 @@ mod buffers;
 #[cfg(test)]
 mod changes;
 #[cfg(test)]
+mod clock;
+#[cfg(test)]
 mod dumps;
+#[cfg(test)]
+mod failures;
+#[cfg(test)]
+mod faulty_link;
 #[cfg(test)]
 mod flags;
 #[cfg(test)]
@@ -26,17 +33,9 @@ mod helps;
 #[cfg(test)]
 mod hosts;
 #[cfg(test)]
-mod joined_link;
-#[cfg(test)]
-mod long_waits;
-#[cfg(test)]
 mod observing;
 #[cfg(test)]
-mod pair;
-#[cfg(test)]
 mod programs;
-#[cfg(test)]
-mod progress;
 #[cfg(test)]
 mod refusing_end;
 #[cfg(test)]
@@ -45,8 +44,6 @@ mod remembering;
 mod rows;
 #[cfg(test)]
 mod serving;
-#[cfg(test)]
-mod sim;
 #[cfg(test)]
 mod sizes;
 #[cfg(test)]

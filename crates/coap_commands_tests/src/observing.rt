@@ -1,5 +1,5 @@
 use crate::asking::check_said;
-use crate::pair::Clock;
+use crate::clock::Clock;
 use crate::rows::words_of;
 use coap_commands::{close, observe_over};
 use coap_links::MemoryLink;

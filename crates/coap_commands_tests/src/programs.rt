@@ -1,4 +1,4 @@
-use crate::pair::Clock;
+use crate::clock::Clock;
 use crate::refusing_end::RefusingEnd;
 use crate::rows::{Row, check_row, repeated, words_of};
 use coap_commands::{

@@ -1,10 +1,10 @@
 use crate::asking::check_said;
-use crate::pair::Clock;
+use crate::clock::Clock;
 use crate::rows::{check_row, repeated, words_of};
 use coap_commands::{close, serve_over, server_by};
 use coap_links::MemoryLink;
 use coap_types::Endpoint;
-use coap_words::{Order, order};
+use coap_words::{FOREVER, Order, order};
 use std::alloc::{AllocError, Global};
 use std::hash::{BuildHasherDefault, FoldHasher};
 use std::test::Fail;
@@ -32,7 +32,9 @@ const TOO_LONG: &str = "1/2/3/4/5/6/7/8/9/10/11/12/13/14/15/16/17";
 
 #[test]
 fn words_of_a_server(rt: HostRuntime) -> Result<(), Fail> {
-    let rows: [(&[&str], &str); 26] = [
+    let rows: [(&[&str], &str); 28] = [
+        (&["serve", "5683"], "fine"),
+        (&["serve", "5683", "--hold", "lamp=off"], "fine"),
         (&["serve", "5683", "forever"], "fine"),
         (&["serve", "5683", "18446744073709551615"], "fine"),
         (&["serve", "5683", "Forever"], NO_COUNT),
@@ -92,6 +94,32 @@ fn words_of_a_server(rt: HostRuntime) -> Result<(), Fail> {
         ),
     ];
     check_said(&rt, &rows)?;
+    Ok(())
+}
+
+// How many datagrams the words say.
+fn count_in(alloc: Global, words: &[&str]) -> Result<Option<u64>, AllocError> {
+    let list = words_of(alloc, words)?;
+    let Ok(order) = order(alloc, list.as_slice()) else {
+        return Ok(None);
+    };
+    match &order {
+        Order::Serve { count, .. } => Ok(Some(*count)),
+        _ => Ok(None),
+    }
+}
+
+#[test]
+fn counts_of_datagrams(rt: HostRuntime) -> Result<(), Fail> {
+    let rows: [(&[&str], u64); 4] = [
+        (&["serve", "5683"], FOREVER),
+        (&["serve", "5683", "forever"], FOREVER),
+        (&["serve", "5683", "0"], 0),
+        (&["serve", "5683", "7"], 7),
+    ];
+    for (words, count) in rows {
+        assert_eq!(rt; count_in(rt.alloc(), words)?, Some(count), "at {words:?}");
+    }
     Ok(())
 }
 

@@ -1,4 +1,4 @@
-use crate::pair::Clock;
+use crate::clock::Clock;
 use crate::rows::Broken;
 use coap_commands::{SharedWriter, ask_over, close, get_request, largest_szx, teller_on};
 use coap_layer::Setup;

@@ -1,6 +1,6 @@
 -- A turn of an end over a link: it is pumped once, and then ticked until nothing is due.
-use Rattle.std.specs.Prelude.{ℕ, Bool, true, false, List, ◌≡◌, ◌⊎◌, ◌+◌, ◌%◌, ◌^◌, if◌then◌else◌, Option, Result}
-use Rattle.std.specs.Prelude.{Ok, Err}
+use Rattle.std.specs.Prelude.{ℕ, Bool, true, false, List, ◌≡◌, ◌⊎◌, ◌||◌, ◌+◌, ◌-◌, ◌%◌, ◌^◌, if◌then◌else◌, Option, Result}
+use Rattle.std.specs.Prelude.{Ok, Err, min, nat_lt}
 use Rattle.std.specs.declared.alloc.AllocError.{AllocError}
 use Rattle.coap_types.specs.declared.endpoint.Endpoint.{Endpoint}
 use Rattle.coap_layer.specs.Trace as layer
@@ -26,9 +26,21 @@ refused t = record (worded t) { refused = raised t.refused }
 abbrev pub fed : Tally → Tally
 fed t = record (worded t) { fed = raised t.fed }
 
+-- a turn is a good one where a datagram was fed, or fewer sends failed than were tried
+abbrev pub is_good : Pumped → Bool
+is_good p = p.fed || nat_lt p.unsent p.sent
+
+-- the calls of the link that failed in a row: a good turn begins the count anew
+abbrev pub failed_in : Pumped → Tally → Tally
+failed_in p t = record t { failed = if is_good p then 0 else min (t.failed + p.lost) (2 ^ 64 - 1) }
+
 -- a pump hands a word to its feed, where there was one
+abbrev pub counted : Pumped → Tally → Tally
+counted p t = failed_in p (if p.fed then fed t else t)
+
+-- .. and one that is refused memory leaves the count of failures
 abbrev pub pumped : {X : Type 0} → Result Pumped X → Tally → Tally
-pumped (Ok p) t = if p.fed then fed t else t
+pumped (Ok p) t = counted p t
 pumped (Err x) t = refused t
 
 -- so many ticks, each of which did something
@@ -49,13 +61,14 @@ abbrev pub TicksOut : {E : Type 0} → (E → ℕ → Type 0) → (E → ℕ →
     → Type 0
 TicksOut quiet ticks e now t f u = (g : _) × (v : Tally) × Steps ticks e now t g v × Rests quiet ticks g now v f u
 
--- the turn (`quiet_feed` and `quiet_tick` are that a feed and a tick take no memory)
+-- the turn (`quiet_feed` and `quiet_tick` are that a feed and a tick take no memory, `faults` is how many calls of the link
+-- failed)
 unfoldable pub Turns : {E L : Type 0} → (E → List layer.Packet) → (E → layer.Packet → E → Type 0)
-    → (L → Endpoint → List ℕ → L → Type 0) → (L → Option Packet → L → Type 0)
+    → (L → Endpoint → List ℕ → L → Type 0) → (L → Option Packet → L → Type 0) → (L → ℕ)
     → (E → ℕ → Endpoint → List ℕ → Type 0) → (E → ℕ → Endpoint → List ℕ → ℕ → E → Type 0)
     → (E → ℕ → Type 0) → (E → ℕ → ℕ → Bool → E → Type 0)
     → E → L → ℕ → Tally → E → L → Tally → Type 0
-Turns waiting gives sends receives quiet_feed feeds quiet_tick ticks e l now t f m u =
+Turns waiting gives sends receives faults quiet_feed feeds quiet_tick ticks e l now t f m u =
     (g : _) × (result : Result Pumped AllocError)
-    × Pumps waiting gives sends receives quiet_feed feeds e l now (next_word t) result g m
+    × Pumps waiting gives sends receives faults quiet_feed feeds e l now (next_word t) result g m
     × TicksOut quiet_tick ticks g now (pumped result t) f u

@@ -13,6 +13,8 @@ use std::alloc::{AllocError, Allocator};
 pub struct Pumped {
     /// How many datagrams were handed to the link.
     pub sent: u64,
+    /// How many of these the link failed to send.
+    pub unsent: u64,
     /// How many calls of the link failed.
     pub lost: u64,
     /// Whether a datagram was fed.
@@ -45,8 +47,9 @@ pub fn pump<A: Allocator + Copy, E: End<A>, L: Link>(
     now: Moment,
     word: u64,
 ) -> Result<Pumped, AllocError>
-    // All that was out is sent, at most one datagram is received, and just that is fed, or lost for want of memory.
-    ensures chain { Pumps E.waiting E.gives L.sends L.receives E.quiet_feed E.feeds
+    // All that was out is sent, at most one datagram is received, and just that is fed, or lost for want of memory; and the numbers
+    // are those of what was out, of its sends that failed, and of the calls that failed.
+    ensures chain { Pumps E.waiting E.gives L.sends L.receives L.fault_count E.quiet_feed E.feeds
         (E.state end.old) link.old now.0 word result (E.state end.new) link.new }
     // The number of what was sent is that of the datagrams that were out.
     ensures sent { IfOk result (λ pumped. pumped.sent ≡ length (E.waiting (E.state end.old))) }
@@ -55,6 +58,7 @@ pub fn pump<A: Allocator + Copy, E: End<A>, L: Link>(
 {
     let faults_before = link.faults();
     let sent = send_all(end, link);
+    let unsent = link.faults().saturating_sub(faults_before);
     let mut buf = [0; MAX_DATAGRAM_LEN];
     let fed = match link.receive(&mut buf) {
         Some((from, len)) => {
@@ -64,5 +68,10 @@ pub fn pump<A: Allocator + Copy, E: End<A>, L: Link>(
         None => false,
     };
     let lost = link.faults().saturating_sub(faults_before);
-    Ok(Pumped { sent, lost, fed })
+    Ok(Pumped {
+        sent,
+        unsent,
+        lost,
+        fed,
+    })
 }

@@ -1,8 +1,9 @@
 use crate::link::{Link, MAX_DATAGRAM_LEN};
 use crate::memory_link::MemoryLink;
-use crate::udp_link::{ANY_PORT, EACH_ADDRESS, LOOPBACK, UdpLink};
+use crate::udp_link::{ANY_PORT, EACH_ADDRESS, LOOPBACK, UdpLink, arrived, endpoint_of};
 use coap_types::Endpoint;
 use std::alloc::{AllocError, Global};
+use std::net::{Ipv4Addr, Ipv6Addr, SocketAddr, SocketAddrV4, SocketAddrV6};
 use std::test::Fail;
 
 pub(super) const NEAR: Endpoint = Endpoint {
@@ -238,6 +239,36 @@ fn a_port_where_nobody_listens_is_no_fault(rt: HostRuntime) -> Result<(), Fail> 
         assert_eq!(rt; received_len(&mut link, closed), None);
     }
     assert_eq!(rt; faults(&link), 0);
+    Ok(())
+}
+
+// The address of a sender at this port of 192.0.2.1, one of those for documents (RFC 5737).
+fn sender(port: u16) -> SocketAddr {
+    SocketAddr::V4(SocketAddrV4::new(Ipv4Addr::new(192, 0, 2, 1), port))
+}
+
+// What comes of five bytes from there.
+fn arrived_from(from: SocketAddr) -> Option<(Endpoint, usize)> {
+    let mut buf = [0; MAX_DATAGRAM_LEN];
+    arrived(5, from, b"abcde", &mut buf)
+}
+
+#[test]
+fn datagrams_from_port_0_are_dropped(rt: HostRuntime) -> Result<(), Fail> {
+    for _ in 0..300 {
+        assert_eq!(rt; endpoint_of(sender(0)), None);
+        assert_eq!(rt; arrived_from(sender(0)), None);
+    }
+    for port in [1, 5_683, u16::MAX] {
+        let ip = [192, 0, 2, 1];
+        assert_eq!(rt; endpoint_of(sender(port)), Some(Endpoint { ip, port }));
+        assert_eq!(rt;
+            arrived_from(sender(port)),
+            Some((Endpoint { ip, port }, 5))
+        );
+    }
+    let of_ipv6 = SocketAddrV6::new(Ipv6Addr::LOCALHOST, 5_683, 0, 0);
+    assert_eq!(rt; endpoint_of(SocketAddr::V6(of_ipv6)), None);
     Ok(())
 }
 

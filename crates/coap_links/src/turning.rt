@@ -4,7 +4,7 @@ ghost use Rattle.coap_links.specs.Turning.{Rests, TicksOut, Turns, next_word, wo
 
 use crate::driver::pump;
 use crate::link::Link;
-use crate::tally::{Tally, count_fed, count_refused, count_word, next_word};
+use crate::tally::{Tally, count_pumped, count_refused, count_word, next_word};
 use coap_ends::End;
 use coap_types::Moment;
 use std::alloc::Allocator;
@@ -45,15 +45,11 @@ pub fn turn<A: Allocator + Copy, E: End<A>, L: Link>(
     tally: &mut Tally,
 )
     // An end is pumped once and then ticked until nothing is due, or a tick is refused memory.
-    ensures { Turns E.waiting E.gives L.sends L.receives E.quiet_feed E.feeds E.quiet_tick E.ticks
+    ensures { Turns E.waiting E.gives L.sends L.receives L.fault_count E.quiet_feed E.feeds E.quiet_tick E.ticks
         (E.state end.old) link.old now.0 tally.old (E.state end.new) link.new tally.new }
 {
     match pump(end, link, now, next_word(tally)) {
-        Ok(pumped) => {
-            if pumped.fed {
-                count_fed(tally);
-            }
-        }
+        Ok(pumped) => count_pumped(tally, pumped),
         Err(_) => count_refused(tally),
     }
     tick_out(end, now, tally);
@@ -67,7 +63,7 @@ pub fn get_turn<A: Allocator + Copy, E: End<A>, L: Link>(
     tally: &mut Tally,
 )
     // The client of `get` has a turn as any end.
-    ensures { Turns E.waiting E.gives L.sends L.receives E.quiet_feed E.feeds E.quiet_tick E.ticks
+    ensures { Turns E.waiting E.gives L.sends L.receives L.fault_count E.quiet_feed E.feeds E.quiet_tick E.ticks
         (E.state client.old) link.old now.0 tally.old (E.state client.new) link.new tally.new }
 {
     turn(client, link, now, tally);
@@ -81,7 +77,7 @@ pub fn serve_turn<A: Allocator + Copy, E: End<A>, L: Link>(
     tally: &mut Tally,
 )
     // The server of `serve` has a turn as any end.
-    ensures { Turns E.waiting E.gives L.sends L.receives E.quiet_feed E.feeds E.quiet_tick E.ticks
+    ensures { Turns E.waiting E.gives L.sends L.receives L.fault_count E.quiet_feed E.feeds E.quiet_tick E.ticks
         (E.state server.old) link.old now.0 tally.old (E.state server.new) link.new tally.new }
 {
     turn(server, link, now, tally);

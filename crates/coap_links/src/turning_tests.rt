@@ -1,4 +1,5 @@
 use crate::driver::pump;
+use crate::link::Link;
 use crate::link_tests::{FAR, NEAR, give, tell_handed};
 use crate::memory_link::MemoryLink;
 use crate::tally::{Tally, fresh_tally};
@@ -130,9 +131,14 @@ fn fed_at(now: u64, word: u64) -> Option<Fed> {
     Some(Fed { now, word, first })
 }
 
-// Of these words, and so many feeds and refusals.
+// Of these words, and so many feeds and refusals, where no call of the link failed.
 fn counted(word: u64, fed: u64, refused: u64) -> Tally {
-    Tally { word, fed, refused }
+    Tally {
+        word,
+        fed,
+        refused,
+        failed: 0,
+    }
 }
 
 #[test]
@@ -147,5 +153,88 @@ fn words_count_feeds_and_ticks(rt: HostRuntime) -> Result<(), Fail> {
     let second = (fed_at(8, 4), counted(5, 2, 0));
     let third = (fed_at(8, 4), counted(8, 2, 1));
     assert_eq!(rt; told?, [first, second, third]);
+    Ok(())
+}
+
+// What happens at a turn: how many datagrams are out, which send and which receive of the link fails, from 1, and
+// whether a datagram is to come.
+type Happens = (usize, u64, u64, bool);
+
+// How many calls of the link have failed in a row after one more turn.
+fn failed_after(
+    end: &mut TestEnd,
+    link: &mut MemoryLink,
+    (out, failing_send, failing_receive, comes): Happens,
+    tally: &mut Tally,
+) -> Result<u64, AllocError> {
+    for _ in 0..out {
+        end.put_out(FAR, b'1')?;
+    }
+    if comes {
+        give(link, b"x")?;
+    }
+    link.fail_send(failing_send);
+    link.fail_receive(failing_receive);
+    turn(end, link, Moment(7), tally);
+    Ok(tally.failed)
+}
+
+#[test]
+fn a_good_turn_begins_the_count_of_failures_anew(rt: HostRuntime) -> Result<(), Fail> {
+    let mut end = TestEnd::new(rt.alloc());
+    let mut link = MemoryLink::new(rt.alloc(), NEAR);
+    let mut tally = fresh_tally(0);
+    let turns: [(Happens, u64); 11] = [
+        // A send that fails, alone.
+        ((1, 1, 0, false), 1),
+        ((1, 1, 0, false), 2),
+        // Nothing is tried.
+        ((0, 0, 0, false), 2),
+        // A receive that fails; both.
+        ((0, 0, 1, false), 3),
+        ((1, 1, 1, false), 5),
+        // One of two goes out.
+        ((2, 1, 0, false), 0),
+        ((1, 1, 0, false), 1),
+        // One goes out, though the receive fails.
+        ((1, 0, 1, false), 0),
+        ((1, 1, 0, false), 1),
+        // One comes in, though the send fails.
+        ((1, 1, 0, true), 0),
+        ((0, 0, 1, true), 1),
+    ];
+    for (happens, failed) in turns {
+        let counted = failed_after(&mut end, &mut link, happens, &mut tally);
+        assert_eq!(rt; counted?, failed);
+    }
+    drop(end);
+    drop(link);
+    Ok(())
+}
+
+// How many calls have failed in a row at most over 300 turns that send a datagram each, where each n-th send fails; and
+// how many in all.
+fn most_in_a_row(alloc: Global, n: u64) -> Result<(u64, u64), AllocError> {
+    let mut end = TestEnd::new(alloc);
+    let mut link = MemoryLink::new(alloc, NEAR);
+    let mut tally = fresh_tally(0);
+    let mut most = 0;
+    for number in 1..=300 {
+        let failing = if number % n == 0 { 1 } else { 0 };
+        let happens = (1, failing, 0, false);
+        most = failed_after(&mut end, &mut link, happens, &mut tally)?.max(most);
+    }
+    let faults = link.faults();
+    drop(end);
+    drop(link);
+    Ok((most, faults))
+}
+
+#[test]
+fn failures_in_a_row_and_in_all(rt: HostRuntime) -> Result<(), Fail> {
+    for (n, in_a_row, in_all) in [(1, 300, 300), (2, 1, 150), (3, 1, 100), (301, 0, 0)] {
+        let counted = most_in_a_row(rt.alloc(), n);
+        assert_eq!(rt; counted?, (in_a_row, in_all), "at {n}");
+    }
     Ok(())
 }

@@ -1,7 +1,9 @@
 //! A link over a socket of UDP.
-ghost use Rattle.std.specs.Prelude.{ℕ, List, Option, ◌≡◌, ◌≤◌, IfOk, IfSome, length, true};
+ghost use Rattle.std.specs.Prelude.{ℕ, List, Option, Some, None, ◌≡◌, ◌<◌, ◌≤◌, ◌⊎◌, ◌↔◌, IfOk, IfSome, IfNone, length, take, true};
+ghost use Rattle.std.specs.Net.Addr.{ipv4_octets};
 ghost use Rattle.coap_links.specs.Bound.{IsBoundAt, client_ip};
 ghost use Rattle.coap_links.specs.Faults.{MayRaise, raised};
+ghost use Rattle.coap_links.specs.Sockets.{endpoint_in};
 
 use crate::link::{Link, MAX_DATAGRAM_LEN, raise};
 use coap_types::Endpoint;
@@ -20,6 +22,11 @@ pub const ANY_PORT: u16 = 0;
 
 const _: () = prove!(ANY_PORT == 0);
 
+// The port of a sender that takes no reply (RFC 768).
+const NO_PORT: u16 = 0;
+
+const _: () = prove!(NO_PORT == 0);
+
 /// The address by which a machine reaches itself, whatever else it is joined to (RFC 1122, section
 /// 3.2.1.3).
 pub const LOOPBACK: [u8; 4] = [127, 0, 0, 1];
@@ -35,15 +42,27 @@ pub struct UdpLink {
     faults: u64,
 }
 
-// The endpoint of a socket address of IPv4.
-fn endpoint_of(address: SocketAddr) -> Option<Endpoint> {
+/// The endpoint of a socket address of IPv4, to which an answer can be sent.
+pub(crate) fn endpoint_of(address: SocketAddr) -> Option<Endpoint>
+    ensures exact { result ≡ endpoint_in address }
+    ensures port { IfSome result (λ endpoint. NO_PORT < endpoint.port) }
+{
     match address {
-        SocketAddr::V4(address) => Some(Endpoint {
+        SocketAddr::V4(address) if address.port() != NO_PORT => Some(Endpoint {
             ip: address.ip().octets(),
             port: address.port(),
         }),
-        SocketAddr::V6(_) => None,
+        SocketAddr::V4(_) | SocketAddr::V6(_) => None,
     }
+}
+
+// The socket address of an endpoint.
+fn socket_address(to: Endpoint) -> (Ipv4Addr, u16)
+    ensures ip { ipv4_octets result.0 ≡ to.ip }
+    ensures port { result.1 ≡ to.port }
+{
+    let [a, b, c, d] = to.ip;
+    (Ipv4Addr::new(a, b, c, d), to.port)
 }
 
 // Whether a socket is where it was asked to be; at `ANY_PORT`, at whichever port.
@@ -78,8 +97,7 @@ impl UdpLink {
         // A link that is bound has the address that was asked for, and the port, but where any would do.
         ensures bound { IfOk result (λ link. IsBoundAt address link.address) }
     {
-        let [a, b, c, d] = address.ip;
-        let socket = UdpSocket::bind(net, (Ipv4Addr::new(a, b, c, d), address.port))?;
+        let socket = UdpSocket::bind(net, socket_address(address))?;
         socket.set_read_timeout(Some(Duration::from_millis(RECEIVE_WAIT_MS)))?;
         match endpoint_of(socket.local_addr()?) {
             Some(bound) if is_bound_at(address, bound) => Ok(UdpLink {
@@ -109,8 +127,33 @@ impl UdpLink {
 }
 
 // Whether a receive that ended so only found no datagram.
-fn is_quiet(kind: ErrorKind) -> bool {
+fn is_quiet(kind: ErrorKind) -> bool
+    ensures { (result ≡ true) ↔ ((kind ≡ ErrorKind.WouldBlock) ⊎ (kind ≡ ErrorKind.TimedOut)) }
+{
     kind == ErrorKind::WouldBlock || kind == ErrorKind::TimedOut
+}
+
+/// Copies what came to the front of a buffer, and answers from where and how long it is; None where it is too long, or
+/// came from where no answer can go.
+pub(crate) fn arrived(
+    len: usize,
+    from: SocketAddr,
+    bytes: &[u8],
+    buf: &mut [u8],
+) -> Option<(Endpoint, usize)>
+    requires held { len ≤ length bytes.now }
+    requires room { MAX_DATAGRAM_LEN ≤ length buf.old }
+    ensures some { IfSome result (λ came. (endpoint_in from ≡ Some came.0) × (came.1 ≡ len) × (len ≤ MAX_DATAGRAM_LEN)
+        × (take len buf.new ≡ take len bytes.now)) }
+    ensures none { IfNone result ((endpoint_in from ≡ None) ⊎ (MAX_DATAGRAM_LEN < len)) }
+    ensures room { length buf.new ≡ length buf.old }
+{
+    if len > MAX_DATAGRAM_LEN {
+        return None;
+    }
+    let from = endpoint_of(from)?;
+    buf[..len].copy_from_slice(&bytes[..len]);
+    Some((from, len))
 }
 
 impl Link for UdpLink {
@@ -123,9 +166,7 @@ impl Link for UdpLink {
     ghost own_address = { λ link. link.address };
 
     fn send(&mut self, to: Endpoint, bytes: &[u8]) {
-        let [a, b, c, d] = to.ip;
-        let address = (Ipv4Addr::new(a, b, c, d), to.port);
-        match self.socket.send_to(bytes, address) {
+        match self.socket.send_to(bytes, socket_address(to)) {
             Ok(count) if count == bytes.len() => {}
             _ => self.faults = raise(self.faults),
         }
@@ -135,12 +176,7 @@ impl Link for UdpLink {
         // One byte more than the longest, so that a longer one is told from it.
         let mut bytes = [0; MAX_DATAGRAM_LEN + 1];
         match self.socket.recv_from(&mut bytes) {
-            Ok((len, from)) if len <= MAX_DATAGRAM_LEN => {
-                let from = endpoint_of(from)?;
-                buf[..len].copy_from_slice(&bytes[..len]);
-                Some((from, len))
-            }
-            Ok(_) => None,
+            Ok((len, from)) => arrived(len, from, bytes.as_slice(), buf),
             Err(error) => {
                 if !is_quiet(error.kind()) {
                     self.faults = raise(self.faults);

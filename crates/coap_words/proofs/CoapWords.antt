@@ -170,11 +170,6 @@ pub serve_port : (words : List Text) (rows : List Row) → Enters words (codes "
 unfolding clap_on_literals
 serve_port words rows e = required_word coap_app words (codes "serve") (codes "PORT") rows refl e.taken e.entered
 
-pub serve_count : (words : List Text) (rows : List Row) → Enters words (codes "serve") rows
-    → IsGiven (codes "COUNT") rows
-unfolding clap_on_literals
-serve_count words rows e = required_word coap_app words (codes "serve") (codes "COUNT") rows refl e.taken e.entered
-
 -- the subcommands that ask something of a server require this argument
 abbrev AskRequires : Text → Type 0
 AskRequires id = (name : Text) → IsAsk name → list_all (asks name id) (built coap_app).subs ≡ true

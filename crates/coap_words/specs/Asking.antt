@@ -19,9 +19,7 @@ use Rattle.coap_words.specs.declared.refusals.TagsRefusal.{TagsRefusal}
 use Rattle.coap_words.specs.declared.refusals.TagsRefusal.TheVariants.{Etag, IfMatch}
 use Rattle.coap_words.specs.declared.orders.What.{What}
 use Rattle.coap_words.specs.declared.orders.What.TheVariants.{Get, Put, Post, Delete, Observe}
-use Rattle.coap_words.specs.declared.orders.WordChoice.{WordChoice}
-use Rattle.coap_words.specs.declared.orders.WordChoice.TheVariants.{Given, Random}
-use Rattle.coap_words.specs.declared.orders.TheConstants.{DEFAULT_WORD as default_word}
+use Rattle.coap_words.specs.declared.orders.WordChoice.TheVariants.{Random}
 
 -- ---- which subcommand asks for what
 
@@ -89,15 +87,8 @@ HasOptionalNumber argument values (Some n) = HasNumber argument values n
 abbrev pub HasFlag : Text → List Row → Bool → Type 0
 HasFlag name values set = IsTrue set ↔ IsValue name values (codes "true")
 
--- the word where none is given: what may change something, and an observation, begin with a random one
-abbrev pub usual_word : What → WordChoice
-usual_word Get = Given default_word
-usual_word (Put content) = Random
-usual_word (Post content) = Random
-usual_word Delete = Random
-usual_word Observe = Random
-
-pub record HasOptions (usual : WordChoice) (values : List Row) (options : AskOptions) : Type 0 where
+-- the word where none is given is a random one
+pub record HasOptions (values : List Row) (options : AskOptions) : Type 0 where
   pub host : HasAddress Host values options.host
   pub size : HasSize values options.size
   pub trace : HasFlag (codes "trace") values options.trace
@@ -110,6 +101,6 @@ pub record HasOptions (usual : WordChoice) (values : List Row) (options : AskOpt
   pub seconds : HasOptionalNumber Seconds values options.seconds
   pub hex : HasFlag (codes "hex") values options.hex
   pub give_up : HasOptionalNumber GiveUp values options.give_up
-  pub word : HasWord usual values options.word
+  pub word : HasWord Random values options.word
   pub limit : HasLimit values options.limit
   pub remembered : HasRemembered values options.remembered

@@ -70,8 +70,9 @@ answer_app = leaf (codes "answer")
 abbrev pub pair_app : App
 pair_app = leaf (codes "pair") (required_word (codes "PATH") ∷ required_word (codes "BODY") ∷ of_an_end)
 
+-- `coap serve PORT COUNT`, of which COUNT may be left out, and the options by which a server is set up
 abbrev pub serve_app : App
-serve_app = leaf (codes "serve") (required_word (codes "PORT") ∷ required_word (codes "COUNT") ∷ setting_up of_an_end)
+serve_app = leaf (codes "serve") (required_word (codes "PORT") ∷ optional_word (codes "COUNT") ∷ setting_up of_an_end)
 
 -- `coap get PORT PATH --accept N --etag HEX`, the latter again and again, and the options of a client
 abbrev pub get_app : App

@@ -6,6 +6,7 @@ use Rattle.clap.specs.Words.{Text}
 use Rattle.coap_types.specs.declared.body_limit.TheConstants.{MAX_BODY_LIMIT as max_body_limit}
 use Rattle.coap_types.specs.declared.remembered.TheConstants.{MAX_REMEMBERED as max_remembered}
 use Rattle.coap_words.specs.Formats.{IsFormatName}
+use Rattle.coap_words.specs.declared.orders.TheConstants.{FOREVER as forever}
 use Rattle.coap_words.specs.declared.refusals.NumberRefusal.{NumberRefusal}
 use Rattle.coap_words.specs.declared.refusals.NumberRefusal.TheVariants.{Port, Count, Limit, Remember, Format, Accept, Times, Seconds, GiveUp}
 
@@ -16,7 +17,7 @@ IsNumber text n = IsNumeral 10 (without_leading_plus text) × (digits_value 10 (
 -- the text is no number, and stands for this one of the argument: COUNT may be `forever`, which is the most, and a format
 -- may be said by its name
 abbrev pub IsWordFor : NumberRefusal → Text → ℕ → Type 0
-IsWordFor Count text n = (text ≡ codes "forever") × (n ≡ 2 ^ 64 - 1)
+IsWordFor Count text n = (text ≡ codes "forever") × (n ≡ forever)
 IsWordFor Port text n = ⊥
 IsWordFor Limit text n = ⊥
 IsWordFor Remember text n = ⊥

@@ -1,6 +1,6 @@
 -- How a server is set up: `--address A.B.C.D`, and `--hold PATH=BODY`, `--delay PATH=MS` and `--plain PATH`, each again and
 -- again.
-use Rattle.std.specs.Prelude.{ℕ, Bool, List, ◌≡◌, ◌<◌, ◌≤◌, ◌^◌, ◌==◌, ◌⊎◌, codes, length}
+use Rattle.std.specs.Prelude.{ℕ, Bool, List, ◌≡◌, ◌<◌, ◌≤◌, ◌^◌, ◌==◌, ◌⊎◌, codes, length, if◌then◌else◌}
 use Rattle.std.specs.List.{after_first, before_first, position_or_len}
 use Rattle.clap.specs.Words.{Row, Text}
 use Rattle.coap_types.specs.Path.{HoldsAtMost}
@@ -19,8 +19,9 @@ use Rattle.coap_words.specs.declared.orders.Hold.{Hold}
 use Rattle.coap_words.specs.declared.orders.ServeOptions.{ServeOptions}
 use Rattle.coap_words.specs.declared.refusals.SettingRefusal.{SettingRefusal}
 use Rattle.coap_words.specs.declared.refusals.SettingRefusal.TheVariants as setting
-use Rattle.coap_words.specs.declared.orders.TheConstants.{DEFAULT_WORD as default_word, MAX_DELAYS as max_delays}
-use Rattle.coap_words.specs.declared.orders.WordChoice.TheVariants.{Given}
+use Rattle.coap_words.specs.declared.orders.TheConstants.{DEFAULT_WORD as default_word, FOREVER as forever, MAX_DELAYS as max_delays}
+use Rattle.coap_words.specs.declared.orders.WordChoice.{WordChoice}
+use Rattle.coap_words.specs.declared.orders.WordChoice.TheVariants.{Given, Random}
 
 -- the argument that is refused so, by its name in clap
 abbrev pub setting_argument_of : SettingRefusal → Text
@@ -60,13 +61,17 @@ HasNoSetting setting.Hold values = SomeSaysNone IsHold (texts_of (codes "hold") 
 HasNoSetting setting.Delay values = (max_delays < length (texts_of (codes "delay") values))
     ⊎ SomeSaysNone IsDelay (texts_of (codes "delay") values)
 
-pub record HasServeOptions (values : List Row) (options : ServeOptions) : Type 0 where
+-- the word where none is given: a server that serves for ever begins with a random one
+abbrev pub serving_word : ℕ → WordChoice
+serving_word count = if count == forever then Random else Given default_word
+
+pub record HasServeOptions (usual : WordChoice) (values : List Row) (options : ServeOptions) : Type 0 where
   pub address : HasAddress address.Address values options.address
   pub holds : HasHolds values options.holds.items
   pub delays : HasDelays values options.delays.items
   pub plains : HasPlains values options.plains.items
   pub trace : HasFlag (codes "trace") values options.trace
   pub changes : HasFlag (codes "changes") values options.changes
-  pub word : HasWord (Given default_word) values options.word
+  pub word : HasWord usual values options.word
   pub limit : HasLimit values options.limit
   pub remembered : HasRemembered values options.remembered

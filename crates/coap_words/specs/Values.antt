@@ -9,9 +9,10 @@ use Rattle.coap_words.specs.CommandLine.{coap_app}
 use Rattle.coap_words.specs.Numbers.{IsInRange, IsNumber, IsOutOfRange, argument_of}
 use Rattle.coap_words.specs.PathText.{IsNoPath, IsPathText, IsTrueOf}
 use Rattle.coap_words.specs.declared.refusals.NumberRefusal.{NumberRefusal}
-use Rattle.coap_words.specs.declared.refusals.NumberRefusal.TheVariants.{Limit, Remember}
+use Rattle.coap_words.specs.declared.refusals.NumberRefusal.TheVariants.{Count, Limit, Remember}
 use Rattle.coap_words.specs.declared.orders.StoreKind.{StoreKind}
 use Rattle.coap_words.specs.declared.orders.StoreKind.TheVariants as kind
+use Rattle.coap_words.specs.declared.orders.TheConstants.{FOREVER as forever}
 use Rattle.coap_words.specs.declared.orders.WordChoice.{WordChoice}
 use Rattle.coap_words.specs.declared.orders.WordChoice.TheVariants.{Given, Random}
 
@@ -51,6 +52,10 @@ HasNumber argument values n = (text : Text) × IsValue (argument_of argument) va
 -- the argument has a value that is no number in its range
 abbrev pub HasNoNumber : NumberRefusal → List Row → Type 0
 HasNoNumber argument values = (text : Text) × IsValue (argument_of argument) values text × IsOutOfRange argument text
+
+-- COUNT has this number, or is left out and stands for `forever`
+abbrev pub HasCount : List Row → ℕ → Type 0
+HasCount values n = ((first_of (codes "COUNT") values ≡ None) × (n ≡ forever)) ⊎ HasNumber Count values n
 
 -- `--limit` has this number, or is left out and stands for the default
 abbrev pub HasLimit : List Row → ℕ → Type 0

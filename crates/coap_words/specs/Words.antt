@@ -6,17 +6,17 @@ use Rattle.coap_types.specs.Path.{HoldsAtMost}
 use Rattle.coap_types.specs.declared.path.TheConstants.{MAX_SEGMENT_LEN as max_segment_len}
 use Rattle.coap_types.specs.declared.path.TheConstants.{MAX_SEGMENTS as max_segments}
 use Rattle.coap_words.specs.Addresses.{HasNoAddress}
-use Rattle.coap_words.specs.Asking.{HasFlag, HasNoContent, HasNoTags, HasOptions, IsAsk, IsWhat, SendsBody, usual_word}
+use Rattle.coap_words.specs.Asking.{HasFlag, HasNoContent, HasNoTags, HasOptions, IsAsk, IsWhat, SendsBody}
 use Rattle.coap_words.specs.CommandLine.{coap_app}
 use Rattle.coap_words.specs.Plains.{HasNoPlain, HasPlains, HasTooManyPlains}
-use Rattle.coap_words.specs.Serving.{HasNoSetting, HasServeOptions}
+use Rattle.coap_words.specs.Serving.{HasNoSetting, HasServeOptions, serving_word}
 use Rattle.coap_words.specs.Sizes.{HasNoSize}
 use Rattle.coap_words.specs.Taking.{MakesEnd, TakesAddress, TakesNumber, TakesPath, TakesPlains, TakesTags}
-use Rattle.coap_words.specs.Values.{Enters, HasBytes, HasLimit, HasNoBytes, HasNoNumber, HasNoPath, HasNoStore}
+use Rattle.coap_words.specs.Values.{Enters, HasBytes, HasCount, HasLimit, HasNoBytes, HasNoNumber, HasNoPath, HasNoStore}
 use Rattle.coap_words.specs.Values.{HasNoWord, HasNumber, HasPath, HasRemembered, HasStore, HasWord, IsValue}
 use Rattle.coap_words.specs.declared.orders.Order.{Order}
 use Rattle.coap_words.specs.declared.orders.Order.TheVariants.{Show, Dump, Answer, Pair, Serve, Ask, Sim}
-use Rattle.coap_words.specs.declared.refusals.NumberRefusal.TheVariants.{Port, Count}
+use Rattle.coap_words.specs.declared.refusals.NumberRefusal.TheVariants.{Port}
 use Rattle.coap_words.specs.declared.orders.TheConstants.{DEFAULT_WORD as default_word}
 use Rattle.coap_words.specs.declared.orders.WordChoice.TheVariants.{Given}
 use Rattle.coap_words.specs.declared.orders.Wrong.{Wrong}
@@ -35,11 +35,11 @@ AsksForIn subcommand values (Pair path body word limit remembered) =
     × IsValue (codes "BODY") values body.now × HasWord (Given default_word) values word × HasLimit values limit
     × HasRemembered values remembered
 AsksForIn subcommand values (Serve port count options) =
-    (subcommand ≡ codes "serve") × HasNumber Port values port × HasNumber Count values count
-    × HasServeOptions values options
+    (subcommand ≡ codes "serve") × HasNumber Port values port × HasCount values count
+    × HasServeOptions (serving_word count) values options
 AsksForIn subcommand values (Ask port path what options) =
     IsWhat subcommand values what × HasNumber Port values port × HasPath values path
-    × HoldsAtMost max_segments max_segment_len path × HasOptions (usual_word what) values options
+    × HoldsAtMost max_segments max_segment_len path × HasOptions values options
 AsksForIn subcommand values (Sim file store plains remembered chart) =
     (subcommand ≡ codes "sim") × IsValue (codes "FILE") values file.now × HasStore values store
     × HasPlains values plains.items × HasRemembered values remembered × HasFlag (codes "chart") values chart

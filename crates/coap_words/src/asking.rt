@@ -33,13 +33,11 @@ pub(crate) fn content_of<'a>(given: &ArgMatches<'a>) -> Option<Content<'a>>
     }
 }
 
-/// How it is asked for; with this word where none is given.
-pub(crate) fn options_of(
-    alloc: Global,
-    given: &ArgMatches<'_>,
-    usual: WordChoice,
-) -> Result<AskOptions, Wrong>
-    ensures { MatchResult result (HasOptions usual (rows_of (found_of given.now)))
+/// How it is asked for. Where no word is given, the client begins with a random one: with the same word two
+/// runs have the same Message IDs and tokens, and the second may be answered with what the server stored for the
+/// first (RFC 7252, sections 4.4, 4.5 and 5.3.1).
+pub(crate) fn options_of(alloc: Global, given: &ArgMatches<'_>) -> Result<AskOptions, Wrong>
+    ensures { MatchResult result (HasOptions (rows_of (found_of given.now)))
         (IsWrongOption (rows_of (found_of given.now))) }
 {
     let host = address_of(given, AddressRefusal::Host)?;
@@ -56,7 +54,7 @@ pub(crate) fn options_of(
     let seconds = number_of(given, NumberRefusal::Seconds)?;
     let hex = is_set(given, "hex");
     let give_up = number_of(given, NumberRefusal::GiveUp)?;
-    let Some(word) = word(given, usual) else {
+    let Some(word) = word(given, WordChoice::Random) else {
         return Err(Wrong::Word);
     };
     let Some(limit) = limit(given) else {

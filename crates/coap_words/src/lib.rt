@@ -18,8 +18,8 @@ mod words;
 
 pub use command_line::coap_command;
 pub use orders::{
-    AskOptions, Content, DEFAULT_WORD, Delay, Hold, MAX_DELAYS, MAX_PLAINS, Order, ServeOptions,
-    StoreKind, What, WordChoice, Wrong,
+    AskOptions, Content, DEFAULT_WORD, Delay, FOREVER, Hold, MAX_DELAYS, MAX_PLAINS, Order,
+    ServeOptions, StoreKind, What, WordChoice, Wrong,
 };
 pub use path_text::path_of_text;
 pub use refusals::{AddressRefusal, NumberRefusal, SettingRefusal, TagsRefusal};

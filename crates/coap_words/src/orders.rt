@@ -1,6 +1,5 @@
 //! What the words of the program can ask for, and what can be wrong with them.
 ghost use Rattle.std.specs.Prelude.{◌≡◌};
-ghost use Rattle.coap_words.specs.Asking.{usual_word};
 ghost use Rattle.coap_words.specs.Wrongs.{wrong_number};
 
 use crate::refusals::{AddressRefusal, NumberRefusal, SettingRefusal, TagsRefusal};
@@ -47,7 +46,7 @@ pub enum Order<'a> {
     Serve {
         /// The UDP port.
         port: u16,
-        /// How many datagrams; the most that there can be for `forever`.
+        /// How many datagrams; `FOREVER` for `forever`, and where COUNT is left out.
         count: u64,
         /// How it is served, and what.
         options: ServeOptions,
@@ -92,20 +91,6 @@ pub enum What<'a> {
     Delete,
     /// What it holds at the path, each time that this changes (RFC 7641).
     Observe,
-}
-
-impl<'a> What<'a> {
-    // The word that the client begins with where none is given. What may change something, and an
-    // observation, begin with a random one, since with the same word two runs have the same Message IDs
-    // and tokens (RFC 7252, sections 4.4 and 5.3.1).
-    pub(crate) fn usual_word(&self) -> WordChoice
-        ensures { result ≡ usual_word self.now }
-    {
-        match self {
-            What::Get => WordChoice::Given(DEFAULT_WORD),
-            What::Put(_) | What::Post(_) | What::Delete | What::Observe => WordChoice::Random,
-        }
-    }
 }
 
 /// Where a body is taken from.
@@ -213,10 +198,15 @@ pub enum StoreKind {
     Map,
 }
 
-/// The word that an end begins with where none is given.
+/// The word that each end of a pair, and a server of so many datagrams, begins with where none is given.
 pub const DEFAULT_WORD: u64 = 1;
 
 const _: () = prove!(DEFAULT_WORD == 1);
+
+/// The number of datagrams that stands for `forever`: the most that there can be.
+pub const FOREVER: u64 = u64::MAX;
+
+const _: () = prove!(FOREVER == 18_446_744_073_709_551_615);
 
 /// How many paths a server has at most whose observers are told in Non-confirmable messages.
 pub const MAX_PLAINS: usize = 16;

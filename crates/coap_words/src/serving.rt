@@ -6,13 +6,15 @@ ghost use Rattle.coap_types.specs.Path.{HoldsAtMost};
 ghost use Rattle.coap_types.specs.declared.path.TheConstants.{MAX_SEGMENT_LEN as max_segment_len};
 ghost use Rattle.coap_types.specs.declared.path.TheConstants.{MAX_SEGMENTS as max_segments};
 ghost use Rattle.coap_words.specs.PathText.{IsNoPath, IsPathText};
-ghost use Rattle.coap_words.specs.Serving.{HasDelays, HasHolds, HasServeOptions, IsDelay, IsHold, is_equals};
+ghost use Rattle.coap_words.specs.Serving.{HasDelays, HasHolds, HasServeOptions, IsDelay, IsHold, is_equals, serving_word};
 ghost use Rattle.coap_words.specs.Taking.{IsWrongOption, IsWrongServing};
 ghost use Rattle.coap_words.specs.declared.orders.Delay.{Delay as DelaySpec};
 ghost use Rattle.coap_words.specs.declared.orders.Hold.{Hold as HoldSpec};
 
 use crate::asking::{address_of, is_set};
-use crate::orders::{DEFAULT_WORD, Delay, Hold, MAX_DELAYS, ServeOptions, WordChoice, Wrong};
+use crate::orders::{
+    DEFAULT_WORD, Delay, FOREVER, Hold, MAX_DELAYS, ServeOptions, WordChoice, Wrong,
+};
 use crate::path_text::path_of_text;
 use crate::plains::plains_of;
 use crate::refusals::{AddressRefusal, NumberRefusal, SettingRefusal};
@@ -21,9 +23,24 @@ use clap::ArgMatches;
 use coap_types::{Path, PathRefusal};
 use std::alloc::{AllocError, Global};
 
-/// How something is served, and what.
-pub(crate) fn serve_options_of(alloc: Global, given: &ArgMatches<'_>) -> Result<ServeOptions, Wrong>
-    ensures { MatchResult result (HasServeOptions (rows_of (found_of given.now)))
+/// The word that a server of so many datagrams begins with where none is given. One that serves for ever is run again
+/// and again, and begins with a random one, so that no two runs have the same Message IDs (RFC 7252, section 4.4).
+pub(crate) fn serving_word(count: u64) -> WordChoice
+    ensures { result ≡ serving_word count }
+{
+    match count {
+        FOREVER => WordChoice::Random,
+        _ => WordChoice::Given(DEFAULT_WORD),
+    }
+}
+
+/// How something is served, and what; with this word where none is given.
+pub(crate) fn serve_options_of(
+    alloc: Global,
+    given: &ArgMatches<'_>,
+    usual: WordChoice,
+) -> Result<ServeOptions, Wrong>
+    ensures { MatchResult result (HasServeOptions usual (rows_of (found_of given.now)))
         (IsWrongServing (rows_of (found_of given.now))) }
 {
     let address = address_of(given, AddressRefusal::Address)?;
@@ -32,7 +49,7 @@ pub(crate) fn serve_options_of(alloc: Global, given: &ArgMatches<'_>) -> Result<
     let plains = plains_of(alloc, given)?;
     let trace = is_set(given, "trace");
     let changes = is_set(given, "changes");
-    let Some(word) = word(given, WordChoice::Given(DEFAULT_WORD)) else {
+    let Some(word) = word(given, usual) else {
         return Err(Wrong::Word);
     };
     let Some(limit) = limit(given) else {

@@ -49,9 +49,9 @@ const SERVER_PORT: Argument = Argument {
 };
 
 const COUNT: Argument = Argument {
-    form: Form::Required,
+    form: Form::Optional,
     name: "COUNT",
-    help: "how many datagrams, or forever",
+    help: "how many datagrams, or forever, which stands where it is left out",
 };
 
 const FILE: Argument = Argument {
@@ -194,13 +194,22 @@ const IN_HEX: Argument = Argument {
     help: "prints values in hex",
 };
 
-// --word, which is 1 where it is left out.
-const WORD: Argument = Argument {
+// --word of a pair, which is 1 where it is left out.
+const PAIR_WORD: Argument = Argument {
     form: Form::Single {
         value_name: "N|random",
     },
     name: "word",
-    help: "the word that an end begins with, 1 where it is left out",
+    help: "the word that each end begins with, 1 where it is left out",
+};
+
+// --word of a server, which is drawn where it is left out and the server serves for ever.
+const OWN_WORD: Argument = Argument {
+    form: Form::Single {
+        value_name: "N|random",
+    },
+    name: "word",
+    help: "the word that the server begins with; where it is left out, a random one if COUNT is forever, and else 1",
 };
 
 // --word, which is drawn where it is left out.
@@ -276,14 +285,14 @@ pub(crate) static OTHERS: [Subcommand; 6] = [
         name: "pair",
         about: "Puts BODY at PATH and gets it back, between a client and a server of this program over UDP",
         example: "Example: coap pair lamp on",
-        arguments: &[PATH, PAIR_BODY, WORD, LIMIT, REMEMBER],
+        arguments: &[PATH, PAIR_BODY, PAIR_WORD, LIMIT, REMEMBER],
     },
     Subcommand {
         name: "serve",
         about: "Serves the resource temperature, and what --hold names, until COUNT datagrams came",
         example: "Example: coap serve 5683 forever --hold lamp=off",
         arguments: &[
-            OWN_PORT, COUNT, ADDRESS, HOLD, DELAY, PLAIN, TRACE, CHANGES, WORD, LIMIT, REMEMBER,
+            OWN_PORT, COUNT, ADDRESS, HOLD, DELAY, PLAIN, TRACE, CHANGES, OWN_WORD, LIMIT, REMEMBER,
         ],
     },
     Subcommand {
@@ -309,7 +318,7 @@ pub(crate) static ASKING: [Subcommand; 5] = [
             SIZE,
             TRACE,
             GIVE_UP,
-            WORD,
+            DRAWN_WORD,
             LIMIT,
             REMEMBER,
         ],

@@ -5,7 +5,7 @@ ghost use Rattle.clap.specs.Words.{first_of, found_of, rows_of};
 ghost use Rattle.coap_words.specs.Asking.{IsAsk, IsWhat};
 ghost use Rattle.coap_words.specs.Numbers.{IsInRange, IsNumber, IsOutOfRange};
 ghost use Rattle.coap_words.specs.Taking.{TakesItsOwn};
-ghost use Rattle.coap_words.specs.Values.{HasLimit, HasNoNumber, HasNoStore, HasNoWord, HasNumber, HasRemembered};
+ghost use Rattle.coap_words.specs.Values.{HasCount, HasLimit, HasNoNumber, HasNoStore, HasNoWord, HasNumber, HasRemembered};
 ghost use Rattle.coap_words.specs.Values.{HasStore, HasWord, IsChoice, IsGiven, IsValue};
 ghost use Rattle.coap_words.specs.Words.{AsksFor, AsksForIn, IsWrong, IsWrongIn};
 ghost use Rattle.coap_words.specs.declared.refusals.NumberRefusal.TheVariants.{Count, Limit, Port, Remember};
@@ -13,11 +13,11 @@ ghost use Rattle.coap_words.specs.declared.orders.WordChoice.{WordChoice as Word
 
 use crate::asking::{content_of, is_set, options_of};
 use crate::command_line::coap_command;
-use crate::orders::{DEFAULT_WORD, Order, StoreKind, What, WordChoice, Wrong};
+use crate::orders::{DEFAULT_WORD, FOREVER, Order, StoreKind, What, WordChoice, Wrong};
 use crate::path_text::path_of_text;
 use crate::plains::plains_of;
 use crate::refusals::NumberRefusal;
-use crate::serving::serve_options_of;
+use crate::serving::{serve_options_of, serving_word};
 use clap::ArgMatches;
 use coap_types::{BodyLimit, Remembered};
 use std::alloc::Global;
@@ -113,11 +113,10 @@ fn pair_order<'a>(alloc: Global, given: &ArgMatches<'a>) -> Result<Order<'a>, Wr
     })
 }
 
-// `coap serve PORT COUNT`
+// `coap serve PORT COUNT`, of which COUNT may be left out
 #[tactic(auto, using(crate::proofs::CoapWords::serving_wrong))]
 fn serve_order<'a>(alloc: Global, given: &ArgMatches<'a>) -> Result<Order<'a>, Wrong>
     requires port { IsGiven (codes "PORT") (rows_of (found_of given.now)) }
-    requires count { IsGiven (codes "COUNT") (rows_of (found_of given.now)) }
     requires own { TakesItsOwn (codes "serve") (rows_of (found_of given.now)) }
     ensures { MatchResult result (AsksForIn (codes "serve") (rows_of (found_of given.now)))
         (IsWrongIn (codes "serve") (rows_of (found_of given.now))) }
@@ -128,7 +127,7 @@ fn serve_order<'a>(alloc: Global, given: &ArgMatches<'a>) -> Result<Order<'a>, W
     let Some(count) = count(given) else {
         return Err(Wrong::Number(NumberRefusal::Count));
     };
-    let options = serve_options_of(alloc, given)?;
+    let options = serve_options_of(alloc, given, serving_word(count))?;
     Ok(Order::Serve {
         port,
         count,
@@ -156,7 +155,7 @@ fn ask_order<'a>(
     let text = value(given, "PATH");
     let path = path_of_text(alloc, text)?;
     let what = what_of(subcommand, given)?;
-    let options = options_of(alloc, given, what.usual_word())?;
+    let options = options_of(alloc, given)?;
     Ok(Order::Ask {
         port,
         path,
@@ -227,13 +226,15 @@ fn port(given: &ArgMatches<'_>) -> Option<u16>
     small_number(value(given, "PORT"))
 }
 
-// COUNT, where it is in range.
+// COUNT, where it is in range; `forever` where it is left out.
 fn count(given: &ArgMatches<'_>) -> Option<u64>
-    requires { IsGiven (codes "COUNT") (rows_of (found_of given.now)) }
     ensures { MatchOption result (HasNoNumber Count (rows_of (found_of given.now)))
-        (HasNumber Count (rows_of (found_of given.now))) }
+        (HasCount (rows_of (found_of given.now))) }
 {
-    count_in(value(given, "COUNT"))
+    match optional(given, "COUNT") {
+        Some(text) => count_in(text),
+        None => Some(FOREVER),
+    }
 }
 
 // The number that a text says, or the most that there can be.
@@ -241,7 +242,7 @@ fn count_in(text: &str) -> Option<u64>
     ensures { MatchOption result (IsOutOfRange Count text.now) (IsInRange Count text.now) }
 {
     if text == "forever" {
-        return Some(u64::MAX);
+        return Some(FOREVER);
     }
     number(text)
 }

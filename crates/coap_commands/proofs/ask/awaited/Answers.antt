@@ -14,7 +14,7 @@ pub loop-turn-preserved : goal.loop-turn-preserved
 loop-turn-preserved g c =
     turned_on AsksNothing _ _ _
     (turned_on AsksNothing _ _ _ c.loop-turn.invariant
-    (client_turned AsksNothing (λ call is. is) _ _ _ _ _ _ _ _ _ _ _ _ c.get_turn.ensures))
+    (client_turned AsksNothing (λ call is. is) _ _ _ _ _ _ _ _ _ _ _ _ _ c.get_turn.ensures))
     (none_is _ _ c.next_report_of.ensures.none c.in_default.is)
 
 pub returns-in-Some : goal.returns-in-Some
@@ -22,6 +22,6 @@ returns-in-Some g c = (
   _,
   _,
   turned_on AsksNothing _ _ _ c.loop-turn.invariant
-      (client_turned AsksNothing (λ call is. is) _ _ _ _ _ _ _ _ _ _ _ _ c.get_turn.ensures),
+      (client_turned AsksNothing (λ call is. is) _ _ _ _ _ _ _ _ _ _ _ _ _ c.get_turn.ensures),
   c.in-Some.ensures.some,
 )

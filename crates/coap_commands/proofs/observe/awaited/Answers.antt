@@ -20,7 +20,7 @@ loop-turn-preserved g c =
     (none_is _ _
     (c.in_ok-report.ensures.more c.args.options.now c.args.begin.0 c.args.client.now
     (observed_on c.args.options.now c.args.begin.0 c.args.id.0 _ _ _ _ c.loop-turn.invariant
-    (client_turned AsksNothing (λ call is. is) _ _ _ _ _ _ _ _ _ _ _ _ c.get_turn.ensures)))
+    (client_turned AsksNothing (λ call is. is) _ _ _ _ _ _ _ _ _ _ _ _ _ c.get_turn.ensures)))
     c.in_default.is)
 
 pub returns-in-Some : goal.returns-in-Some
@@ -30,7 +30,7 @@ returns-in-Some g c =
       _,
       _,
       observed_on c.args.options.now c.args.begin.0 c.args.id.0 _ _ _ _ c.loop-turn.invariant
-          (client_turned AsksNothing (λ call is. is) _ _ _ _ _ _ _ _ _ _ _ _ c.get_turn.ensures),
+          (client_turned AsksNothing (λ call is. is) _ _ _ _ _ _ _ _ _ _ _ _ _ c.get_turn.ensures),
       last.0,
       last.1,
     )
@@ -43,6 +43,6 @@ returns-in-Some-given_up g c = (
   none_is _ _
       (c.in_ok-report.ensures.more c.args.options.now c.args.begin.0 c.args.client.now
       (observed_on c.args.options.now c.args.begin.0 c.args.id.0 _ _ _ _ c.loop-turn.invariant
-      (client_turned AsksNothing (λ call is. is) _ _ _ _ _ _ _ _ _ _ _ _ c.get_turn.ensures)))
+      (client_turned AsksNothing (λ call is. is) _ _ _ _ _ _ _ _ _ _ _ _ _ c.get_turn.ensures)))
       c.in_default.is,
 )

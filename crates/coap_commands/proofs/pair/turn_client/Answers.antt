@@ -4,5 +4,5 @@ use Rattle.coap_commands.proofs.pair.turn_client.Goals as goal
 
 pub returns : goal.returns
 returns g c =
-    turned_on AsksNothing _ _ _ (client_turned AsksNothing (λ call is. is) _ _ _ _ _ _ _ _ _ _ _ _ c.turn.ensures)
+    turned_on AsksNothing _ _ _ (client_turned AsksNothing (λ call is. is) _ _ _ _ _ _ _ _ _ _ _ _ _ c.turn.ensures)
     (client_sent AsksNothing (λ call is. is) _ _ _ _ _ _ c.send_all.ensures.chain)

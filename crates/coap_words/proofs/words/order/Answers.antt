@@ -1,6 +1,6 @@
 use Rattle.std.proofs.Common.{refl, inl, inr, ◌≡◌, ℕ, List, codes}
 use Rattle.coap_words.proofs.CoapWords.{enters_met, ours, said_by, wrong_by, show_hex, answer_hex, answer_path}
-use Rattle.coap_words.proofs.CoapWords.{answer_body, ask_path, ask_port, pair_body, pair_path, serve_count, serve_port}
+use Rattle.coap_words.proofs.CoapWords.{answer_body, ask_path, ask_port, pair_body, pair_path, serve_port}
 use Rattle.coap_words.proofs.CoapWords.{IsOurs, refused_by_clap, sim_file, takes_its_own}
 use Rattle.coap_words.specs.Asking.{IsAsk}
 use Rattle.coap_words.proofs.words.order.Goals as goal
@@ -60,7 +60,7 @@ pub serve_order-requires : goal.serve_order-requires
 serve_order-requires c =
     let enters = enters_met _ c.in_ok-coap_command.ensures _ _ c.in_ok-matches.ensures.matches
     c.in_ok-matches.ensures.kinds _ _ _ c.in-serve.is c.in-Some.ensures.name c.in-Some.ensures.rows in
-    record { port = serve_port _ _ enters; count = serve_count _ _ enters; own = takes_its_own _ _ _ enters }
+    record { port = serve_port _ _ enters; own = takes_its_own _ _ _ enters }
 
 pub returns-in-serve : goal.returns-in-serve
 returns-in-serve c =

@@ -1,8 +1,9 @@
+use crate::clock::Clock;
 use crate::joined_link::{Failing, JoinedLink, Road, Way};
 use crate::rows::repeated;
 use coap_commands::{
-    Stop, Timekeeper, call, close, fresh_client, fresh_server, get_request, hold, largest_szx,
-    pair_over, put_request,
+    Stop, call, close, fresh_client, fresh_server, get_request, hold, largest_szx, pair_over,
+    put_request,
 };
 use coap_ends::{Client, Report, Server};
 use coap_layer::Setup;
@@ -27,19 +28,6 @@ const SERVER: Endpoint = Endpoint {
     ip: [127, 0, 0, 1],
     port: 5_683,
 };
-
-/// A clock that goes 10 ms at each look.
-#[derive(Drop)]
-pub(super) struct Clock {
-    pub now: u64,
-}
-
-impl Timekeeper for Clock {
-    fn now(&mut self) -> io::Result<Moment> {
-        self.now = self.now.saturating_add(10);
-        Ok(Moment(self.now))
-    }
-}
 
 // What came of a pair.
 #[derive(Clone, Copy)]

@@ -1,4 +1,4 @@
-use crate::pair::Clock;
+use crate::clock::Clock;
 use crate::rows::words_of;
 use coap_commands::{
     PatientLink, SharedWriter, ask_over, body_of, close, observe_over, patience_on, request_of,

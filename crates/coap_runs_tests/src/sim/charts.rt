@@ -26,7 +26,7 @@ const SCRIPTS: &str = "
 >      5    |    <--- 1: ACK 2.05 0000 [0000000000000000] Content, ETag 0000000000000001, Co.. ---|
 9 deliver 1
 >      9    |<--- 1 after 4 ms ---                                                                |
->      9    | report 0: body, ETag 0000000000000001, Content-Format 0, 2 B                        |
+>      9    | report 0: body, ETag 0000000000000001, Content-Format 0, 2 B, age 0 s               |
 
 == a_post_that_comes_twice
 >     ms    client                                                                           server
@@ -83,7 +83,7 @@ const SCRIPTS: &str = "
 >      1    |    <--- 1: ACK 2.05 0000 [0000000000000000] Content, ETag 0000000000000001, Ob.. ---|
 2 deliver 1
 >      2    |<--- 1 after 1 ms ---                                                                |
->      2    | report 0: value 1, ETag 0000000000000001, Content-Format 0, 1 B                     |
+>      2    | report 0: value 1, ETag 0000000000000001, Content-Format 0, 1 B, age 0 s            |
 3 set t b
 >      3    |                                                               set t, 1 B: version 2 |
 3 tick server
@@ -93,7 +93,7 @@ const SCRIPTS: &str = "
 2004 deliver 3
 >   2004    |<--- 3 after 1 ms ---                                                                |
 >   2004    |--- 4: ACK 0.00 0000 [] Empty --->                                                   |
->   2004    | report 0: value 2, ETag 0000000000000002, Content-Format 0, 1 B                     |
+>   2004    | report 0: value 2, ETag 0000000000000002, Content-Format 0, 1 B, age 0 s            |
 2005 deliver 4
 >   2005    |                                                                --- 4 after 1 ms --->|
 2007 deliver 2
