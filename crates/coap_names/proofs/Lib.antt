@@ -1,0 +1,12 @@
+mod Lists
+mod Given
+mod Lookups
+mod Tied
+mod Order
+mod Sound
+mod Moves
+mod IdleMoves
+mod HeldMoves
+mod NamedNow
+mod FirstNames
+mod Histories

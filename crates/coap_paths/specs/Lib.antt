@@ -1,0 +1,3 @@
+pub mod Escapes
+pub mod FirstBytes
+pub mod PathTexts
