@@ -27,12 +27,14 @@
  *  - `now` is in milliseconds since a moment that you chose once, the same one for all calls of an end. A moment before
  *    the last one counts as the last, so a clock that jumps back is harmless.
  *  - `word` is 64 random bits, new ones for each call; a seed is 24 random bytes. Take both from getrandom(), say. What is
- *    proved holds whatever they are; that a stranger cannot guess Message IDs, tokens and timeouts rests on them.
+ *    proved holds whatever they are; that a stranger cannot guess Message IDs, tokens and timeouts rests on them. A
+ *    server's feed uses no word: hand it 0.
  * Bytes that you hand in are used up before the call returns; bytes that come out are written to your buffers. Nothing of
  * the library's memory is seen outside.
  *
- * What a call answers: KS_OK, KS_DONE, the number of a refusal (above 0, in the enum that stands at the call), or one of
- * the numbers below 0, the same for all calls. After an answer below 0 the end is as it was before the call. */
+ * What a call answers: KS_OK, KS_DONE, the number of a refusal (above 1, in the enum that stands at the call), or one
+ * of the numbers below 0, the same for all calls. No two refusals have one number; ks_refused tells them from KS_OK
+ * and KS_DONE, and ks_answer_text says each in words. After an answer below 0 the end is as it was before the call. */
 #ifndef KNIFESILVER_H
 #define KNIFESILVER_H
 
@@ -49,9 +51,9 @@ enum {
     KS_DONE = 1,            /* there was something, and it is done or written */
     KS_NOT_LIVE = -1,       /* the handle holds no end of this kind */
     KS_NO_MEMORY = -2,      /* malloc or realloc answered NULL */
-    KS_BAD_PATH = -3,       /* over 16 segments, or one of over 255 bytes */
+    KS_BAD_PATH = -3,       /* over 16 segments, one of over 255 bytes, or a % without two hexadecimal digits */
     KS_SMALL_ROOM = -4,     /* the buffer is too small: nothing was taken, call again with a larger one */
-    KS_BAD_ARGUMENT = -5,   /* a method that is none, an entity-tag of 0 or over 8 bytes, or over 4 entity-tags */
+    KS_BAD_ARGUMENT = -5,   /* an entity-tag of 0 or over 8 bytes, over 4 of them, a method or an error that is none */
     KS_BAD_SIZE = -6,       /* ks_config.size is neither 0 nor sizeof (ks_config) */
     KS_BAD_BLOCK_SIZE = -7, /* ks_config.block_size is none of 0, 16, 32, 64, 128, 256, 512 and 1,024 */
     KS_BAD_BODY_LIMIT = -8, /* ks_config.body_limit is over 1,048,576 */
@@ -59,10 +61,10 @@ enum {
     KS_BAD_CHANGES = -10    /* ks_config.changes is over 4,194,303 */
 };
 
-#define KS_VERSION 100u         /* of this header: 0.1.0 */
+#define KS_VERSION 200u         /* of this header: 0.2.0 */
 #define KS_NO_FORMAT (-1)       /* no Content-Format, no Accept; a number that is none counts as this */
 #define KS_DATAGRAM_ROOM 1152   /* no datagram that goes out is longer */
-#define KS_PATH_ROOM 4096       /* no path as text is longer */
+#define KS_PATH_ROOM 12256      /* no path as text is longer: 16 segments of 255 bytes, each three bytes long */
 
 /* The version of the library. It should be KS_VERSION. */
 uint32_t ks_version(void);
@@ -88,8 +90,11 @@ typedef struct { uint32_t size; uint32_t block_size; uint32_t body_limit; uint32
 typedef struct { uint64_t word; uint64_t key0; uint64_t key1; } ks_seed;
 
 /* A path is text, with its length: "temperature", "/floor/2/lamp". Its segments stand between `/`; one `/` in front is
- * left out; "" and "/" are the root. No percent-decoding: a segment with a `/` in it cannot be named, nor the path of one
- * empty segment. Where a call writes a path, a `/` stands before each segment. */
+ * left out; "" and "/" are the root. In a segment `%` and two hexadecimal digits are the byte of that number. Where a
+ * call writes a path, a `/` stands before each segment, and in a segment `%2F` stands for `/` and `%25` for `%`; all
+ * other bytes are written as they are. So no two paths have one text, and the text of a path is read as that path; but
+ * "/", the text of the path of one empty segment, is read as the root: no text says that path, nor does a URI (RFC 7252,
+ * section 6.4). */
 
 /* ---- The server -------------------------------------------------------------------------------------------------- */
 
@@ -101,12 +106,12 @@ int32_t ks_server_new(ks_server *handle, const ks_config *config, const ks_seed 
 /* Frees it. The handle is empty then: it may be freed again, and used for a new end. */
 void ks_server_free(ks_server *handle);
 
-/* Why a store is not changed. (1 is its want of memory, which calls answer as KS_NO_MEMORY.) */
+/* Why a store is not changed. (Want of memory is KS_NO_MEMORY.) */
 enum ks_set_refusal {
-    KS_SET_TOO_LARGE = 2,       /* the body is longer than body_limit */
-    KS_SET_TOO_MANY_PATHS = 3,  /* 256 other paths hold something */
-    KS_SET_RATE_EXCEEDED = 4,   /* the window of 256 s has no change left */
-    KS_SET_VERSIONS_SPENT = 5   /* the last change had the greatest version */
+    KS_SET_TOO_LARGE = 18,      /* the body is longer than body_limit */
+    KS_SET_TOO_MANY_PATHS = 19, /* 256 other paths hold something */
+    KS_SET_RATE_EXCEEDED = 20,  /* the window of 256 s has no change left */
+    KS_SET_VERSIONS_SPENT = 21  /* the last change had the greatest version */
 };
 
 /* Has the path hold the body, and marks its observers, which ticks notify. *version is the number of the change, which
@@ -131,13 +136,13 @@ typedef struct { uint64_t version; size_t body_len; int32_t format; } ks_represe
 int32_t ks_server_get(ks_server *handle, const char *path, size_t path_len, ks_representation *shown,
                       void *room, size_t room_len);
 
-enum ks_delay_refusal { KS_DELAY_FULL = 1 };    /* 16 other paths have a delay */
+enum ks_delay_refusal { KS_DELAY_FULL = 48 };   /* 16 other paths have a delay */
 
 /* Has each Confirmable request of the path wait so many ms, be carried out then, and be answered by a separate response.
  * KS_OK; ks_delay_refusal; KS_BAD_PATH, KS_NO_MEMORY, KS_NOT_LIVE. */
 int32_t ks_server_set_delay(ks_server *handle, const char *path, size_t path_len, uint64_t ms);
 
-enum ks_plain_refusal { KS_PLAIN_FULL = 1 };    /* 16 other paths are plain */
+enum ks_plain_refusal { KS_PLAIN_FULL = 49 };   /* 16 other paths are plain */
 
 /* Has the notifications of the path go in Non-confirmable messages, but for one a day, a state that is older than 100 s, and
  * the 4.04 of a path that is gone. There is no way back. KS_OK; ks_plain_refusal; KS_BAD_PATH, KS_NO_MEMORY, KS_NOT_LIVE. */
@@ -198,13 +203,13 @@ typedef struct {
 
 typedef struct { uint8_t len; uint8_t bytes[8]; } ks_tag;   /* an entity-tag of 1 to 8 bytes */
 
-/* Why a call or an observation is not taken. (4 is want of memory, answered as KS_NO_MEMORY.) */
+/* Why a call or an observation is not taken. (Want of memory is KS_NO_MEMORY.) */
 enum ks_call_refusal {
-    KS_CALL_QUEUE_FULL = 1,     /* 8 calls wait */
-    KS_CALL_BODY_TOO_LARGE = 2, /* the body is longer than body_limit */
-    KS_CALL_BAD_PATH = 3,       /* path and options are too long for one message */
-    KS_CALL_WATCHES_FULL = 5,   /* 16 observations wait, run or are live */
-    KS_CALL_CALLS_SPENT = 6     /* each number was given once */
+    KS_CALL_QUEUE_FULL = 33,    /* 8 calls wait */
+    KS_CALL_BODY_TOO_LARGE = 34, /* the body is longer than body_limit */
+    KS_CALL_BAD_PATH = 35,      /* path and options are too long for one message */
+    KS_CALL_WATCHES_FULL = 37,  /* 16 observations wait, run or are live */
+    KS_CALL_CALLS_SPENT = 38    /* each number was given once */
 };
 
 /* Takes a request. It starts at a later tick; one runs at a time, in order, and 8 wait. *id is its number; its report has
@@ -219,8 +224,8 @@ int32_t ks_client_call(ks_client *handle, uint64_t now, const ks_request *what, 
 int32_t ks_client_observe(ks_client *handle, uint64_t now, const char *path, size_t path_len, uint64_t *id);
 
 enum ks_cancel_refusal {
-    KS_CANCEL_UNKNOWN = 1,      /* no live observation has the number, or it is being cancelled */
-    KS_CANCEL_QUEUE_FULL = 2    /* 8 calls wait */
+    KS_CANCEL_UNKNOWN = 57,     /* no live observation has the number, or it is being cancelled */
+    KS_CANCEL_QUEUE_FULL = 58   /* 8 calls wait */
 };
 
 /* Takes the cancel of an observation, which is asked of the server; KS_CANCELLED is its last report. KS_OK;
@@ -277,27 +282,105 @@ int32_t ks_client_next_report(ks_client *handle, ks_report *report, void *room, 
 
 /* The first fault of a datagram that is no message of CoAP. */
 enum ks_fault {
-    KS_FAULT_SHORT = 1, KS_FAULT_VERSION = 2, KS_FAULT_TOKEN_LENGTH = 3, KS_FAULT_TOKEN_CUT = 4,
-    KS_FAULT_EMPTY_NOT_BARE = 5, KS_FAULT_DELTA_RESERVED = 6, KS_FAULT_LENGTH_RESERVED = 7, KS_FAULT_OPTION_CUT = 8,
-    KS_FAULT_NUMBER_TOO_LARGE = 9, KS_FAULT_NO_PAYLOAD = 10
+    KS_FAULT_SHORT = 81,        /* fewer than the 4 bytes of a header */
+    KS_FAULT_VERSION = 82,      /* a version other than 1 */
+    KS_FAULT_TOKEN_LENGTH = 83, /* a token length of 9 to 15 */
+    KS_FAULT_TOKEN_CUT = 84,    /* fewer bytes than the token length says */
+    KS_FAULT_EMPTY_NOT_BARE = 85, /* code 0.00 with a token length, or with bytes behind the Message ID */
+    KS_FAULT_DELTA_RESERVED = 86, /* a delta of 15 in a byte that is no payload marker */
+    KS_FAULT_LENGTH_RESERVED = 87, /* a length of 15 */
+    KS_FAULT_OPTION_CUT = 88,   /* the bytes end inside an option */
+    KS_FAULT_NUMBER_TOO_LARGE = 89, /* an option number above 65,535 */
+    KS_FAULT_NO_PAYLOAD = 90    /* the payload marker is the last byte */
 };
+
+/* The type of a message. */
+enum ks_type { KS_CON = 0, KS_NON = 1, KS_ACK = 2, KS_RST = 3, KS_TYPE_HIDDEN = 255 };
 
 typedef struct {
     size_t fault_at;            /* where the fault is, in bytes from the start; 0 where there is none */
     size_t path_len;            /* bytes of the path's text */
     size_t payload_len;
     uint16_t id;                /* the Message ID; 0 where the fault hides it */
-    uint8_t kind;               /* 0 Confirmable, 1 Non-confirmable, 2 Acknowledgement, 3 Reset; 255 where it is hidden */
+    uint8_t kind;               /* enum ks_type; KS_TYPE_HIDDEN where the fault hides it */
     uint8_t code;               /* as in ks_report; 1 to 4 of a request are enum ks_method; 0 at a fault */
     uint8_t token_len;
     uint8_t token[8];
 } ks_message;
 
 /* What a datagram says, so that an application may drop one before ks_server_feed, by its path or its sender; one that is
- * dropped looks lost to both ends. KS_OK with *shown written and the values of Uri-Path as text at the front of the room,
- * each behind a `/`; ks_fault with *shown written; KS_SMALL_ROOM with nothing written to *shown: a datagram's length and
- * 1 are room enough. It needs no end, takes no memory and changes nothing. */
+ * dropped looks lost to both ends. KS_OK with *shown written and the values of Uri-Path as text at the front of the
+ * room, each behind a `/`; ks_fault with *shown written; KS_SMALL_ROOM with nothing written to *shown: three times the
+ * length of the datagram is room enough. It needs no end, takes no memory and changes nothing. */
 int32_t ks_peek(const void *datagram, size_t datagram_len, ks_message *shown, char *room, size_t room_len);
+
+/* ---- A request that is refused ----------------------------------------------------------------------------------- */
+
+/* As ks_server_feed, but a request is fed as one of a method that there is none of (0.31): the server answers it with
+ * 4.05 (4.02 where it has a critical option that nobody knows, 5.05 where it wants a proxy) and serves nothing. What is
+ * no request is fed as it is. The refusal is remembered as any message: a copy of it gets that answer, and a copy of a
+ * request that was served gets the stored reply. So your rules may change at any moment. KS_OK; KS_NO_MEMORY, after
+ * which it counts as lost; KS_NOT_LIVE. */
+int32_t ks_server_refuse(ks_server *handle, uint64_t now, const ks_address *from, const void *datagram,
+                         size_t datagram_len, uint64_t word);
+
+#define KS_REFUSAL_ROOM 12      /* no answer of ks_refuse is longer */
+
+/* The answer of a Confirmable request that you do not feed: an acknowledgement with its Message ID, its token and this
+ * code of class 4 or 5 (0x83 for 4.03), and nothing else. KS_DONE with *len and its bytes at the front of the room;
+ * KS_OK: the datagram gets none, since it is no Confirmable request; KS_BAD_ARGUMENT: another code; KS_SMALL_ROOM. It
+ * needs no end, takes no memory and changes nothing. A client takes the answer to say that the request is never
+ * applied. So it is right only where no copy of the request is ever fed: your verdict is one of the sender and the
+ * datagram's bytes alone, and it stays as it is for 147 s. Send the answer at that moment or never. Prefer
+ * ks_server_refuse, which asks nothing of the kind, and answers a Non-confirmable request, too. */
+int32_t ks_refuse(const void *datagram, size_t datagram_len, uint8_t code, void *room, size_t room_len, size_t *len);
+
+/* ---- What an answer says ----------------------------------------------------------------------------------------- */
+
+/* Whether a call refused. (Not of ks_peek, which answers KS_OK or what is wrong with the datagram.) */
+static inline bool ks_refused(int32_t answer) { return answer != KS_OK && answer != KS_DONE; }
+
+/* An answer in words. */
+static inline const char *ks_answer_text(int32_t answer) {
+    switch (answer) {
+    case KS_OK: return "carried out, or there is nothing";
+    case KS_DONE: return "there was something, and it is done";
+    case KS_NOT_LIVE: return "the handle holds no end of this kind";
+    case KS_NO_MEMORY: return "out of memory";
+    case KS_BAD_PATH: return "the text is no path";
+    case KS_SMALL_ROOM: return "the buffer is too small";
+    case KS_BAD_ARGUMENT: return "a method, an entity-tag or a code that is none";
+    case KS_BAD_SIZE: return "the size of the configuration is none";
+    case KS_BAD_BLOCK_SIZE: return "the block size is none of 16, 32, .. 1,024";
+    case KS_BAD_BODY_LIMIT: return "the limit of bodies is not 1 to 1,048,576";
+    case KS_BAD_REMEMBERED: return "the number of remembered messages is not 1 to 1,048,576";
+    case KS_BAD_CHANGES: return "the number of changes is not 1 to 4,194,303";
+    case KS_SET_TOO_LARGE: return "the body is longer than the server's limit";
+    case KS_SET_TOO_MANY_PATHS: return "256 other paths hold something";
+    case KS_SET_RATE_EXCEEDED: return "the window of 256 s has no change left";
+    case KS_SET_VERSIONS_SPENT: return "the versions are spent";
+    case KS_CALL_QUEUE_FULL: return "8 calls wait: the call is not taken";
+    case KS_CALL_BODY_TOO_LARGE: return "the body is longer than the client's limit";
+    case KS_CALL_BAD_PATH: return "path and options are too long for one message";
+    case KS_CALL_WATCHES_FULL: return "16 observations wait, run or are live";
+    case KS_CALL_CALLS_SPENT: return "the numbers of calls are spent";
+    case KS_DELAY_FULL: return "16 other paths have a delay";
+    case KS_PLAIN_FULL: return "16 other paths are plain";
+    case KS_CANCEL_UNKNOWN: return "no live observation has the number";
+    case KS_CANCEL_QUEUE_FULL: return "8 calls wait: the cancel is not taken";
+    case KS_FAULT_SHORT: return "fewer than 4 bytes";
+    case KS_FAULT_VERSION: return "a version other than 1";
+    case KS_FAULT_TOKEN_LENGTH: return "a token length of 9 to 15";
+    case KS_FAULT_TOKEN_CUT: return "the bytes end inside the token";
+    case KS_FAULT_EMPTY_NOT_BARE: return "an Empty message that is not bare";
+    case KS_FAULT_DELTA_RESERVED: return "a reserved option delta";
+    case KS_FAULT_LENGTH_RESERVED: return "a reserved option length";
+    case KS_FAULT_OPTION_CUT: return "the bytes end inside an option";
+    case KS_FAULT_NUMBER_TOO_LARGE: return "an option number above 65,535";
+    case KS_FAULT_NO_PAYLOAD: return "a payload marker with no payload";
+    default: return "no answer of this library";
+    }
+}
 
 #ifdef __cplusplus
 }

@@ -1,24 +1,15 @@
-/* What the tests in C share: how an answer is compared; the three calls by which the library takes memory, of which one may
- * be refused (a test is linked with an archive that bindings/build --no-heap made); both ends in one process, over no
- * socket, by the calls of knifesilver.h alone. */
+/* What the tests of both ends share: the three calls by which the library takes memory, of which one may be refused (a
+ * test is linked with an archive that bindings/build --no-heap made); both ends in one process, over no socket, by the
+ * calls of knifesilver.h alone. */
 #ifndef BOTH_ENDS_H
 #define BOTH_ENDS_H
 
+#include "answers.h"
 #include "knifesilver.h"
-#include <stdio.h>
-#include <stdlib.h>
 #include <string.h>
 
 #define P(text) (text), sizeof(text) - 1
-#define NONE &one_tag, 0
-#define IS(a, b)                                                                                                   \
-    do {                                                                                                           \
-        long long x = (long long)(a), y = (long long)(b);                                                          \
-        if (x != y) {                                                                                              \
-            printf("%s:%d: %s is %lld, not %lld\n", __FILE__, __LINE__, #a, x, y);                                 \
-            exit(1);                                                                                               \
-        }                                                                                                          \
-    } while (0)
+#define NONE &(ks_tag){0, {0}}, 0
 
 /* Memory, of which the n-th allocation is refused. */
 
@@ -53,7 +44,6 @@ static ks_server server;
 static ks_client client;
 static uint64_t now;
 static const ks_address here = {{127, 0, 0, 1}, 40001}, there = {{127, 0, 0, 1}, 5683};
-static ks_tag one_tag;
 static uint8_t room[65536], datagram[KS_DATAGRAM_ROOM];
 static char path_room[KS_PATH_ROOM];
 static long no_memory, switched;

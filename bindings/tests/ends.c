@@ -30,12 +30,12 @@ static void the_servers_own_side(void) {
     IS(shown.format, 42);
     IS(ks_server_get(&server, P("none"), &shown, room, 6), KS_OK);
     for (int i = 0; i < 255; i++) {
-        char p[2] = {'p', (char)(i == '/' ? 255 : i)};
-        IS(ks_server_set(&server, now, p, 2, -1, p, 2, &version), KS_OK);
+        char p[3] = {'p', (char)('A' + i / 16), (char)('A' + i % 16)};
+        IS(ks_server_set(&server, now, p, 3, -1, p, 3, &version), KS_OK);
     }
     IS(ks_server_set(&server, now, P("more"), 0, P(""), &version), KS_SET_TOO_MANY_PATHS);
-    IS(ks_server_remove(&server, now, P("pA")), KS_DONE);
-    IS(ks_server_remove(&server, now, P("pA")), KS_OK);
+    IS(ks_server_remove(&server, now, P("pAA")), KS_DONE);
+    IS(ks_server_remove(&server, now, P("pAA")), KS_OK);
     for (int i = 0; i < 16; i++) {
         char p[2] = {'d', (char)('A' + i)};
         IS(ks_server_set_delay(&server, p, 2, 5000), KS_OK);
@@ -188,7 +188,7 @@ static void a_look_at_a_datagram(void) {
     IS(ks_peek(get, sizeof get - 1, &shown, path_room, 7), KS_SMALL_ROOM);
     IS(ks_peek(get, 3, &shown, path_room, 1), KS_FAULT_SHORT);
     IS(shown.fault_at, 3);
-    IS(shown.kind, 255);
+    IS(shown.kind, KS_TYPE_HIDDEN);
     IS(ks_peek(get, 9, &shown, path_room, 1), KS_FAULT_OPTION_CUT);
     IS(shown.kind, 0);
     IS(shown.id, 0x7d34);
@@ -216,7 +216,19 @@ static long exchange(long n) {
     return allocated;
 }
 
+/* Which answers are refusals, and what each says. */
+static void answers(void) {
+    static const int32_t refuse[] = {KS_NOT_LIVE, KS_BAD_CHANGES, KS_SET_TOO_LARGE, KS_CALL_CALLS_SPENT, KS_DELAY_FULL};
+    IS(ks_refused(KS_OK), 0);
+    IS(ks_refused(KS_DONE), 0);
+    for (size_t i = 0; i < sizeof refuse / sizeof refuse[0]; i++) IS(ks_refused(refuse[i]), 1);
+    IS(strcmp(ks_answer_text(KS_NO_MEMORY), "out of memory"), 0);
+    IS(strcmp(ks_answer_text(KS_PLAIN_FULL), "16 other paths are plain"), 0);
+    IS(strcmp(ks_answer_text(7), "no answer of this library"), 0);
+}
+
 int main(void) {
+    answers();
     the_servers_own_side();
     each_call_of_a_client();
     observation();

@@ -104,6 +104,7 @@ int main(int argc, char **argv) {
     bool serves = argc == 3 && strcmp(argv[1], "serve") == 0;
     if (!serves && (argc != 4 || strcmp(argv[1], "switch") != 0))
         return fprintf(stderr, "lamp serve PORT | lamp switch PORT on|off\n"), 2;
+    if (ks_version() != KS_VERSION) return fprintf(stderr, "the library is not the header's\n"), 2;
     uint16_t port = (uint16_t)atoi(argv[2]);
     ks_config config = {0};
     ks_seed seed = {random_word(), random_word(), random_word()};

@@ -11,6 +11,8 @@
 #include <sys/socket.h>
 #include <time.h>
 
+enum { LINK_FORMAT = 40 }; /* application/link-format (RFC 6690, section 7.3) */
+
 static ks_server server;
 static int udp;
 
@@ -52,6 +54,13 @@ static void receive_all(void) {
     }
 }
 
+/* What is there, for whoever asks (RFC 6690): the library makes no such list by itself. */
+static int32_t list(void) {
+    static const char path[] = ".well-known/core", links[] = "</temperature>;obs;ct=0";
+    uint64_t version;
+    return ks_server_set(&server, 0, path, sizeof path - 1, LINK_FORMAT, links, sizeof links - 1, &version);
+}
+
 static void measure(void) {
     char body[16];
     uint64_t version;
@@ -72,6 +81,7 @@ static int wait_ms(uint64_t now, uint64_t measurement) {
 
 int main(int argc, char **argv) {
     if (argc < 2) return fprintf(stderr, "sensor PORT [PERIOD_MS]\n"), 2;
+    if (ks_version() != KS_VERSION) return fprintf(stderr, "the library is not the header's\n"), 2;
     uint64_t period = argc > 2 ? strtoull(argv[2], NULL, 10) : 5000, next = 0;
     struct sockaddr_in a = {.sin_family = AF_INET, .sin_port = htons((uint16_t)atoi(argv[1])),
                             .sin_addr = {htonl(INADDR_LOOPBACK)}};
@@ -79,7 +89,7 @@ int main(int argc, char **argv) {
     if (udp < 0 || bind(udp, (struct sockaddr *)&a, sizeof a) < 0) return perror("bind"), 1;
     ks_config config = {0};
     ks_seed seed = {random_word(), random_word(), random_word()};
-    if (ks_server_new(&server, &config, &seed) != KS_OK) return 1;
+    if (ks_server_new(&server, &config, &seed) != KS_OK || list() != KS_OK) return 1;
     for (;;) {
         uint64_t now = now_ms();
         if (now >= next) {

@@ -2,7 +2,7 @@
 //! coap://127.0.0.1:PORT/sensors/0, 1 and 2, to whom it notifies each change. One server and three clients, each with a
 //! socket of its own: behind one port, ends would kill each other's exchanges.
 
-use knifesilver::{Client, Config, OutOfMemory, Report, Server, MAX_DATAGRAM};
+use knifesilver::{fits_library, CallId, Client, Config, OutOfMemory, Report, Server, MAX_DATAGRAM};
 use std::error::Error;
 use std::net::{Ipv4Addr, SocketAddr, SocketAddrV4, UdpSocket};
 use std::sync::mpsc::{channel, Sender};
@@ -10,6 +10,8 @@ use std::time::{Duration, Instant};
 
 /// How long to wait before an observation that ended is begun again.
 const AGAIN: Duration = Duration::from_secs(5);
+/// After how long without a value it is begun again: the server may have forgotten its observers, as it began anew.
+const SILENCE: Duration = Duration::from_secs(60);
 
 /// A datagram, and which end it is for: that of the server is the last.
 struct Arrived {
@@ -41,14 +43,17 @@ fn open(end: usize, port: u16, to: &Sender<Arrived>) -> std::io::Result<UdpSocke
 struct Source {
     client: Client,
     socket: UdpSocket,
-    again: Option<Instant>,
+    watched: Option<CallId>,
+    again: Instant,
 }
 
 impl Source {
     /// Does what is due, sends what is out, and gives what the server said.
     fn turn(&mut self, now: Instant, buffer: &mut [u8; MAX_DATAGRAM]) -> Result<Vec<Vec<u8>>, OutOfMemory> {
-        if self.again.is_some_and(|at| at <= now) {
-            self.again = self.client.observe(now, "temperature").err().map(|_| now + AGAIN);
+        if self.again <= now {
+            self.watched.take().map(|silent| self.client.forget(silent));
+            self.watched = self.client.observe(now, "temperature").ok();
+            self.again = now + if self.watched.is_some() { SILENCE } else { AGAIN };
         }
         self.client.handle_timeout(now)?;
         while let Some(transmit) = self.client.poll_transmit(buffer) {
@@ -57,8 +62,11 @@ impl Source {
         let mut values = Vec::new();
         while let Some((_, report)) = self.client.poll_report() {
             match report {
-                Report::Value(_, fetched) => values.push(fetched.body),
-                _ => self.again = Some(now + AGAIN),
+                Report::Value(_, fetched) => {
+                    self.again = now + SILENCE;
+                    values.push(fetched.body);
+                }
+                _ => (self.watched, self.again) = (None, now + AGAIN),
             }
         }
         Ok(values)
@@ -66,13 +74,14 @@ impl Source {
 }
 
 fn main() -> Result<(), Box<dyn Error>> {
+    assert!(fits_library(), "the library is not that of the crate");
     let ports = std::env::args().skip(1).map(|word| word.parse()).collect::<Result<Vec<u16>, _>>()?;
     let [port, sources @ ..] = ports.as_slice() else { return Err("gateway PORT A B C".into()) };
     let (to, arrived) = channel();
     let mut clients = Vec::new();
     for (end, at) in sources.iter().enumerate() {
         let client = Client::new(&Config::default(), SocketAddrV4::new(Ipv4Addr::LOCALHOST, *at), Instant::now())?;
-        clients.push(Source { client, socket: open(end, 0, &to)?, again: Some(Instant::now()) });
+        clients.push(Source { client, socket: open(end, 0, &to)?, watched: None, again: Instant::now() });
     }
     let mut config = Config::default();
     // It takes 265 new messages a second for good, and not the usual 16.
@@ -97,7 +106,7 @@ fn main() -> Result<(), Box<dyn Error>> {
             let _ = own.send_to(&buffer[..transmit.size], transmit.destination);
         }
         // The least moment at which something is due, at any end.
-        let dues = clients.iter().flat_map(|source| [source.client.poll_timeout(), source.again]);
+        let dues = clients.iter().flat_map(|source| [source.client.poll_timeout(), Some(source.again)]);
         let due = dues.chain([server.poll_timeout()]).flatten().min();
         let wait = due.map_or(Duration::from_secs(3600), |at| at.saturating_duration_since(Instant::now()));
         if let Ok(Arrived { end, from, bytes }) = arrived.recv_timeout(wait) {

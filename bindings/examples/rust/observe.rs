@@ -1,12 +1,15 @@
 //! observe PORT [COUNT [PATH]]: observes coap://127.0.0.1:PORT/PATH (temperature), prints COUNT values (3), cancels and
 //! ends. It sleeps until a datagram comes or something is due.
 
-use knifesilver::{Client, Config, Report, MAX_DATAGRAM};
+use knifesilver::{fits_library, Client, Config, Report, MAX_DATAGRAM};
 use std::error::Error;
 use std::net::{Ipv4Addr, SocketAddr, SocketAddrV4, UdpSocket};
 use std::time::{Duration, Instant};
 
 fn main() -> Result<(), Box<dyn Error>> {
+    if !fits_library() {
+        return Err("the library is not that of the crate".into());
+    }
     let mut words = std::env::args().skip(1);
     let port: u16 = words.next().ok_or("observe PORT [COUNT [PATH]]")?.parse()?;
     let count: u32 = words.next().map_or(Ok(3), |word| word.parse())?;

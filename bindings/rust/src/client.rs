@@ -5,6 +5,7 @@ use crate::message::{Code, Method, Tag};
 use crate::raw;
 use crate::setting::{address, format_number, format_of, socket_address, Config, Surroundings, Transmit};
 use crate::MAX_DATAGRAM;
+use std::fmt;
 use std::net::SocketAddrV4;
 use std::time::Instant;
 
@@ -27,7 +28,7 @@ pub struct CallId(pub u64);
 pub struct Request<'a> {
     /// What is asked for.
     pub method: Method,
-    /// Of which resource: segments with `/` between them.
+    /// Of which resource: segments with `/` between them; in a segment `%2F` is a slash, and `%25` a percent sign.
     pub path: &'a str,
     /// The body, of a PUT or a POST.
     pub body: &'a [u8],
@@ -57,6 +58,16 @@ impl<'a> Request<'a> {
     /// A PUT of that body.
     pub fn put(path: &'a str, format: Option<u16>, body: &'a [u8]) -> Request<'a> {
         Request { body, format, ..Request::new(Method::Put, path) }
+    }
+
+    /// A POST of that body.
+    pub fn post(path: &'a str, format: Option<u16>, body: &'a [u8]) -> Request<'a> {
+        Request { body, format, ..Request::new(Method::Post, path) }
+    }
+
+    /// A DELETE.
+    pub fn delete(path: &'a str) -> Request<'a> {
+        Request::new(Method::Delete, path)
     }
 }
 
@@ -113,7 +124,7 @@ impl Client {
     pub fn new(config: &Config, server: SocketAddrV4, now: Instant) -> Result<Client, NewError> {
         let mut around = Surroundings::new(config, now);
         let mut raw = raw::Client::empty();
-        made(raw.new(&address(server), &config.raw(), &around.seed()))?;
+        made(raw.make(&address(server), &config.raw(), &around.seed()))?;
         Ok(Client { raw, around, room: Vec::new() })
     }
 
@@ -155,6 +166,7 @@ impl Client {
     }
 
     /// When to call `handle_timeout`, unless something is handed in before. None: never.
+    #[must_use = "nothing else tells when to call `handle_timeout`"]
     pub fn poll_timeout(&self) -> Option<Instant> {
         let mut at = 0;
         match self.raw.due(&mut at) {
@@ -175,6 +187,7 @@ impl Client {
     }
 
     /// The datagram that is to be sent next, in the buffer.
+    #[must_use = "a datagram that is not sent is lost"]
     pub fn poll_transmit(&mut self, buffer: &mut [u8; MAX_DATAGRAM]) -> Option<Transmit> {
         let (mut to, mut size) = (raw::ks_address::default(), 0);
         let answer = self.raw.next_out(&mut to, buffer, &mut size);
@@ -182,6 +195,7 @@ impl Client {
     }
 
     /// What became of a call or an observation, in order.
+    #[must_use = "each report is told once"]
     pub fn poll_report(&mut self) -> Option<(CallId, Report)> {
         let mut told = raw::ks_report::default();
         loop {
@@ -196,22 +210,28 @@ impl Client {
         let body = || self.room.get(..told.body_len).unwrap_or_default().to_vec();
         let fetched = || Fetched { tag, format: format_of(told.format), body: body() };
         let report = match told.kind {
-            1 => Report::Body(fetched()),
-            2 => Report::Valid(tag),
-            3 => Report::Done(code),
-            4 => Report::Value(told.sequence, fetched()),
-            5 => Report::Ended(code),
-            6 => Report::Cancelled,
-            7 => Report::Failed(code),
-            8 => Report::Timeout,
-            9 => Report::Reset,
-            10 => Report::NoResponse,
-            11 => Report::Changed,
-            12 => Report::BadBlock,
-            13 => Report::NoTag,
-            14 => Report::TooLarge,
+            raw::KS_BODY => Report::Body(fetched()),
+            raw::KS_VALID => Report::Valid(tag),
+            raw::KS_SUCCESS => Report::Done(code),
+            raw::KS_VALUE => Report::Value(told.sequence, fetched()),
+            raw::KS_ENDED => Report::Ended(code),
+            raw::KS_CANCELLED => Report::Cancelled,
+            raw::KS_FAILED => Report::Failed(code),
+            raw::KS_TIMEOUT => Report::Timeout,
+            raw::KS_RESET => Report::Reset,
+            raw::KS_NO_RESPONSE => Report::NoResponse,
+            raw::KS_CHANGED => Report::Changed,
+            raw::KS_BAD_BLOCK => Report::BadBlock,
+            raw::KS_NO_TAG => Report::NoTag,
+            raw::KS_TOO_LARGE => Report::TooLarge,
             _ => Report::NoIds,
         };
         Some((CallId(told.id), report))
+    }
+}
+
+impl fmt::Debug for Client {
+    fn fmt(&self, f: &mut fmt::Formatter<'_>) -> fmt::Result {
+        f.debug_struct("Client").field("due", &self.poll_timeout()).finish_non_exhaustive()
     }
 }

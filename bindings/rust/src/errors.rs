@@ -45,8 +45,8 @@ errors! {
     SetError {
         /// An allocation was refused.
         Memory = "out of memory",
-        /// The path has over 16 segments, or one of over 255 bytes.
-        BadPath = "over 16 segments, or one of over 255 bytes",
+        /// The text has over 16 segments, one of over 255 bytes, or a `%` without two hexadecimal digits.
+        BadPath = "the text is no path",
         /// The body is longer than the server's limit.
         TooLarge = "the body is longer than the limit",
         /// 256 other paths hold something.
@@ -61,8 +61,8 @@ errors! {
     DelayError {
         /// An allocation was refused.
         Memory = "out of memory",
-        /// The path has over 16 segments, or one of over 255 bytes.
-        BadPath = "over 16 segments, or one of over 255 bytes",
+        /// The text has over 16 segments, one of over 255 bytes, or a `%` without two hexadecimal digits.
+        BadPath = "the text is no path",
         /// 16 other paths have a delay.
         Full = "16 other paths have a delay",
     }
@@ -71,8 +71,8 @@ errors! {
     PlainError {
         /// An allocation was refused.
         Memory = "out of memory",
-        /// The path has over 16 segments, or one of over 255 bytes.
-        BadPath = "over 16 segments, or one of over 255 bytes",
+        /// The text has over 16 segments, one of over 255 bytes, or a `%` without two hexadecimal digits.
+        BadPath = "the text is no path",
         /// 16 other paths are plain.
         Full = "16 other paths are plain",
     }
@@ -85,8 +85,8 @@ errors! {
         QueueFull = "8 calls wait",
         /// The body is longer than the client's limit.
         BodyTooLarge = "the body is longer than the limit",
-        /// The path has over 16 segments or one of over 255 bytes, or is too long for a message.
-        BadPath = "the path is too long",
+        /// The text is no path, or the path is too long for a message.
+        BadPath = "the text is no path, or it is too long for a message",
         /// 16 observations wait, run or are live.
         WatchesFull = "16 observations wait, run or are live",
         /// Each number was given once.
@@ -156,10 +156,10 @@ pub(crate) fn changed(answer: i32) -> Result<bool, SetError> {
     match answer {
         raw::KS_OK => Ok(false),
         raw::KS_DONE => Ok(true),
-        2 => Err(SetError::TooLarge),
-        3 => Err(SetError::TooManyPaths),
-        4 => Err(SetError::RateExceeded),
-        5 => Err(SetError::VersionsSpent),
+        raw::KS_SET_TOO_LARGE => Err(SetError::TooLarge),
+        raw::KS_SET_TOO_MANY_PATHS => Err(SetError::TooManyPaths),
+        raw::KS_SET_RATE_EXCEEDED => Err(SetError::RateExceeded),
+        raw::KS_SET_VERSIONS_SPENT => Err(SetError::VersionsSpent),
         raw::KS_BAD_PATH => Err(SetError::BadPath),
         _ => Err(SetError::Memory),
     }
@@ -168,7 +168,7 @@ pub(crate) fn changed(answer: i32) -> Result<bool, SetError> {
 pub(crate) fn delayed(answer: i32) -> Result<(), DelayError> {
     match answer {
         raw::KS_OK => Ok(()),
-        1 => Err(DelayError::Full),
+        raw::KS_DELAY_FULL => Err(DelayError::Full),
         raw::KS_BAD_PATH => Err(DelayError::BadPath),
         _ => Err(DelayError::Memory),
     }
@@ -177,7 +177,7 @@ pub(crate) fn delayed(answer: i32) -> Result<(), DelayError> {
 pub(crate) fn made_plain(answer: i32) -> Result<(), PlainError> {
     match answer {
         raw::KS_OK => Ok(()),
-        1 => Err(PlainError::Full),
+        raw::KS_PLAIN_FULL => Err(PlainError::Full),
         raw::KS_BAD_PATH => Err(PlainError::BadPath),
         _ => Err(PlainError::Memory),
     }
@@ -186,11 +186,11 @@ pub(crate) fn made_plain(answer: i32) -> Result<(), PlainError> {
 pub(crate) fn called(answer: i32) -> Result<(), CallError> {
     match answer {
         raw::KS_OK => Ok(()),
-        1 => Err(CallError::QueueFull),
-        2 => Err(CallError::BodyTooLarge),
-        3 | raw::KS_BAD_PATH => Err(CallError::BadPath),
-        5 => Err(CallError::WatchesFull),
-        6 => Err(CallError::CallsSpent),
+        raw::KS_CALL_QUEUE_FULL => Err(CallError::QueueFull),
+        raw::KS_CALL_BODY_TOO_LARGE => Err(CallError::BodyTooLarge),
+        raw::KS_CALL_BAD_PATH | raw::KS_BAD_PATH => Err(CallError::BadPath),
+        raw::KS_CALL_WATCHES_FULL => Err(CallError::WatchesFull),
+        raw::KS_CALL_CALLS_SPENT => Err(CallError::CallsSpent),
         raw::KS_NO_MEMORY => Err(CallError::Memory),
         // What else the library calls an argument at fault cannot be said in these types.
         _ => Err(CallError::TooManyTags),
@@ -200,7 +200,7 @@ pub(crate) fn called(answer: i32) -> Result<(), CallError> {
 pub(crate) fn cancelled(answer: i32) -> Result<(), CancelError> {
     match answer {
         raw::KS_OK => Ok(()),
-        2 => Err(CancelError::QueueFull),
+        raw::KS_CANCEL_QUEUE_FULL => Err(CancelError::QueueFull),
         _ => Err(CancelError::Unknown),
     }
 }
@@ -215,15 +215,15 @@ pub(crate) fn ticked(answer: i32) -> Result<bool, OutOfMemory> {
 
 pub(crate) fn fault(answer: i32) -> PeekError {
     match answer {
-        1 => PeekError::Short,
-        2 => PeekError::Version,
-        3 => PeekError::TokenLength,
-        4 => PeekError::TokenCut,
-        5 => PeekError::EmptyNotBare,
-        6 => PeekError::DeltaReserved,
-        7 => PeekError::LengthReserved,
-        8 => PeekError::OptionCut,
-        9 => PeekError::NumberTooLarge,
+        raw::KS_FAULT_SHORT => PeekError::Short,
+        raw::KS_FAULT_VERSION => PeekError::Version,
+        raw::KS_FAULT_TOKEN_LENGTH => PeekError::TokenLength,
+        raw::KS_FAULT_TOKEN_CUT => PeekError::TokenCut,
+        raw::KS_FAULT_EMPTY_NOT_BARE => PeekError::EmptyNotBare,
+        raw::KS_FAULT_DELTA_RESERVED => PeekError::DeltaReserved,
+        raw::KS_FAULT_LENGTH_RESERVED => PeekError::LengthReserved,
+        raw::KS_FAULT_OPTION_CUT => PeekError::OptionCut,
+        raw::KS_FAULT_NUMBER_TOO_LARGE => PeekError::NumberTooLarge,
         _ => PeekError::NoPayload,
     }
 }

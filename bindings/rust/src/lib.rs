@@ -38,10 +38,15 @@
 //!
 //! The library below is proved to meet its contracts; `docs/EMBEDDING.md` says what they promise, of which calls, and what
 //! this crate promises without proof. An end is [`Send`] and not [`Sync`].
+//!
+//! With the feature `std-driver` the module `driver` has a client that blocks and a server's loop, each with a socket of its
+//! own. With the feature `stub` the crate can be checked and documented where its archive is not there.
 
 #![deny(unsafe_code, missing_docs)]
 
 mod client;
+#[cfg(feature = "std-driver")]
+pub mod driver;
 mod errors;
 mod message;
 mod raw;
@@ -50,7 +55,7 @@ mod setting;
 
 pub use client::{CallId, Client, Fetched, Report, Request};
 pub use errors::{CallError, CancelError, DelayError, NewError, OutOfMemory, PeekError, PlainError, SetError};
-pub use message::{peek, Code, Kind, Message, Method, Tag};
+pub use message::{peek, refusal, Code, Kind, Message, Method, Tag};
 pub use server::{Applied, Representation, Server};
 pub use setting::{Config, Transmit};
 

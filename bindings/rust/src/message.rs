@@ -55,23 +55,23 @@ impl fmt::Debug for Code {
 #[derive(Clone, Copy, Debug, PartialEq, Eq, Hash)]
 pub enum Method {
     /// The representation.
-    Get = 1,
+    Get = raw::KS_GET as isize,
     /// That the resource process the body.
-    Post = 2,
+    Post = raw::KS_POST as isize,
     /// That the resource be made or replaced by the body.
-    Put = 3,
+    Put = raw::KS_PUT as isize,
     /// That the resource be deleted.
-    Delete = 4,
+    Delete = raw::KS_DELETE as isize,
 }
 
 impl Method {
     /// The method of a request's code.
     pub fn of(code: Code) -> Option<Method> {
         match code.0 {
-            1 => Some(Method::Get),
-            2 => Some(Method::Post),
-            3 => Some(Method::Put),
-            4 => Some(Method::Delete),
+            raw::KS_GET => Some(Method::Get),
+            raw::KS_POST => Some(Method::Post),
+            raw::KS_PUT => Some(Method::Put),
+            raw::KS_DELETE => Some(Method::Delete),
             _ => None,
         }
     }
@@ -136,7 +136,7 @@ pub struct Message {
     pub id: u16,
     /// Its token, of 0 to 8 bytes.
     pub token: Vec<u8>,
-    /// The values of Uri-Path, each behind a `/`.
+    /// The values of Uri-Path, each behind a `/`; in a value `%2F` stands for a slash, and `%25` for a percent sign.
     pub path: Vec<u8>,
     /// How many bytes its payload has.
     pub payload_len: usize,
@@ -153,19 +153,34 @@ pub struct Message {
 /// ```
 pub fn peek(datagram: &[u8]) -> Result<Message, (PeekError, usize)> {
     let mut shown = raw::ks_message::default();
-    // Each option takes a byte before its value, and so does its `/`.
-    let mut path = vec![0; datagram.len() + 1];
+    // Each option takes a byte before its value, and so does its `/`; a byte of the value takes at most three.
+    let mut path = vec![0; 3 * datagram.len()];
     let answer = raw::peek(datagram, &mut shown, &mut path);
     if answer != raw::KS_OK {
         return Err((fault(answer), shown.fault_at));
     }
     path.truncate(shown.path_len);
     let kind = match shown.kind {
-        0 => Kind::Confirmable,
-        1 => Kind::NonConfirmable,
-        2 => Kind::Acknowledgement,
+        raw::KS_CON => Kind::Confirmable,
+        raw::KS_NON => Kind::NonConfirmable,
+        raw::KS_ACK => Kind::Acknowledgement,
         _ => Kind::Reset,
     };
     let token = shown.token[..usize::from(shown.token_len.min(8))].to_vec();
     Ok(Message { kind, code: Code(shown.code), id: shown.id, token, path, payload_len: shown.payload_len })
+}
+
+/// The answer of a Confirmable request that is not handed to a server: an acknowledgement with this code, of class 4 or
+/// 5. None where the datagram gets none, or the code is another. A client takes it to say that the request is never
+/// applied: so hand no copy of the request to the server either. [`crate::Server::refuse`] asks nothing of the kind.
+///
+/// ```
+/// # use knifesilver::{refusal, Code};
+/// assert_eq!(refusal(b"\x41\x03\x7d\x34\xab", Code(0x83)), Some(b"\x61\x83\x7d\x34\xab".to_vec()));
+/// assert_eq!(refusal(b"\x51\x03\x7d\x34\xab", Code(0x83)), None);
+/// ```
+pub fn refusal(datagram: &[u8], code: Code) -> Option<Vec<u8>> {
+    let (mut room, mut len) = ([0; raw::KS_REFUSAL_ROOM], 0);
+    let answer = raw::refuse(datagram, code.0, &mut room, &mut len);
+    (answer == raw::KS_DONE).then(|| room[..len].to_vec())
 }

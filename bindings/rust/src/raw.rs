@@ -1,7 +1,7 @@
 //! The calls of `knifesilver.h`, and a safe method for each: the one file with `unsafe` in it.
 //!
-//! `bindings/check` compares these declarations with the header and with the library's exports, names and parameters, since
-//! no compiler does.
+//! `bindings/check` compares these declarations with the header and with the library's exports, since no compiler does:
+//! numbers, names, parameters, the order of fields, sizes.
 
 #![allow(unsafe_code, non_camel_case_types)]
 
@@ -18,10 +18,54 @@ pub const KS_BAD_BLOCK_SIZE: i32 = -7;
 pub const KS_BAD_BODY_LIMIT: i32 = -8;
 pub const KS_BAD_REMEMBERED: i32 = -9;
 pub const KS_BAD_CHANGES: i32 = -10;
-pub const KS_VERSION: u32 = 100;
+pub const KS_SET_TOO_LARGE: i32 = 18;
+pub const KS_SET_TOO_MANY_PATHS: i32 = 19;
+pub const KS_SET_RATE_EXCEEDED: i32 = 20;
+pub const KS_SET_VERSIONS_SPENT: i32 = 21;
+pub const KS_CALL_QUEUE_FULL: i32 = 33;
+pub const KS_CALL_BODY_TOO_LARGE: i32 = 34;
+pub const KS_CALL_BAD_PATH: i32 = 35;
+pub const KS_CALL_WATCHES_FULL: i32 = 37;
+pub const KS_CALL_CALLS_SPENT: i32 = 38;
+pub const KS_DELAY_FULL: i32 = 48;
+pub const KS_PLAIN_FULL: i32 = 49;
+pub const KS_CANCEL_QUEUE_FULL: i32 = 58;
+pub const KS_FAULT_SHORT: i32 = 81;
+pub const KS_FAULT_VERSION: i32 = 82;
+pub const KS_FAULT_TOKEN_LENGTH: i32 = 83;
+pub const KS_FAULT_TOKEN_CUT: i32 = 84;
+pub const KS_FAULT_EMPTY_NOT_BARE: i32 = 85;
+pub const KS_FAULT_DELTA_RESERVED: i32 = 86;
+pub const KS_FAULT_LENGTH_RESERVED: i32 = 87;
+pub const KS_FAULT_OPTION_CUT: i32 = 88;
+pub const KS_FAULT_NUMBER_TOO_LARGE: i32 = 89;
+pub const KS_VERSION: u32 = 200;
 pub const KS_NO_FORMAT: i32 = -1;
 pub const KS_DATAGRAM_ROOM: usize = 1152;
-pub const KS_PATH_ROOM: usize = 4096;
+pub const KS_PATH_ROOM: usize = 12256;
+pub const KS_REFUSAL_ROOM: usize = 12;
+
+pub const KS_GET: u8 = 1;
+pub const KS_POST: u8 = 2;
+pub const KS_PUT: u8 = 3;
+pub const KS_DELETE: u8 = 4;
+pub const KS_CON: u8 = 0;
+pub const KS_NON: u8 = 1;
+pub const KS_ACK: u8 = 2;
+pub const KS_BODY: u8 = 1;
+pub const KS_VALID: u8 = 2;
+pub const KS_SUCCESS: u8 = 3;
+pub const KS_VALUE: u8 = 4;
+pub const KS_ENDED: u8 = 5;
+pub const KS_CANCELLED: u8 = 6;
+pub const KS_FAILED: u8 = 7;
+pub const KS_TIMEOUT: u8 = 8;
+pub const KS_RESET: u8 = 9;
+pub const KS_NO_RESPONSE: u8 = 10;
+pub const KS_CHANGED: u8 = 11;
+pub const KS_BAD_BLOCK: u8 = 12;
+pub const KS_NO_TAG: u8 = 13;
+pub const KS_TOO_LARGE: u8 = 14;
 
 #[repr(C)]
 pub struct ks_handle {
@@ -152,6 +196,8 @@ extern "C" {
     fn ks_client_due(handle: *mut ks_client, at: *mut u64) -> i32;
     fn ks_client_next_out(handle: *mut ks_client, to: *mut ks_address, room: *mut c_void, room_len: usize, len: *mut usize) -> i32;
     fn ks_client_next_report(handle: *mut ks_client, report: *mut ks_report, room: *mut c_void, room_len: usize) -> i32;
+    fn ks_server_refuse(handle: *mut ks_server, now: u64, from: *const ks_address, datagram: *const c_void, datagram_len: usize, word: u64) -> i32;
+    fn ks_refuse(datagram: *const c_void, datagram_len: usize, code: u8, room: *mut c_void, room_len: usize, len: *mut usize) -> i32;
     fn ks_peek(datagram: *const c_void, datagram_len: usize, shown: *mut ks_message, room: *mut c_char, room_len: usize) -> i32;
 }
 
@@ -173,6 +219,11 @@ pub fn peek(datagram: &[u8], shown: &mut ks_message, room: &mut [u8]) -> i32 {
     unsafe { ks_peek(at, len, shown, room.as_mut_ptr().cast(), room.len()) }
 }
 
+/// The answer of a request that is refused.
+pub fn refuse(datagram: &[u8], code: u8, room: &mut [u8], len: &mut usize) -> i32 {
+    unsafe { ks_refuse(datagram.as_ptr().cast(), datagram.len(), code, room.as_mut_ptr().cast(), room.len(), len) }
+}
+
 /// The handle of a server, or of nothing.
 pub struct Server(UnsafeCell<ks_server>);
 
@@ -186,7 +237,7 @@ impl Server {
         Server(UnsafeCell::new(ks_server { handle: EMPTY }))
     }
 
-    pub fn new(&mut self, config: &ks_config, seed: &ks_seed) -> i32 {
+    pub fn make(&mut self, config: &ks_config, seed: &ks_seed) -> i32 {
         unsafe { ks_server_new(self.0.get_mut(), config, seed) }
     }
 
@@ -204,7 +255,7 @@ impl Server {
         unsafe { ks_server_remove(self.0.get_mut(), now, path.as_ptr().cast(), path.len()) }
     }
 
-    pub fn get(&self, path: &str, shown: &mut ks_representation, room: &mut [u8]) -> i32 {
+    pub fn get(&self, path: &[u8], shown: &mut ks_representation, room: &mut [u8]) -> i32 {
         let (text, place) = (path.as_ptr().cast(), room.as_mut_ptr().cast());
         unsafe { ks_server_get(self.0.get(), text, path.len(), shown, place, room.len()) }
     }
@@ -219,6 +270,10 @@ impl Server {
 
     pub fn feed(&mut self, now: u64, from: &ks_address, datagram: &[u8], word: u64) -> i32 {
         unsafe { ks_server_feed(self.0.get_mut(), now, from, datagram.as_ptr().cast(), datagram.len(), word) }
+    }
+
+    pub fn refuse(&mut self, now: u64, from: &ks_address, datagram: &[u8], word: u64) -> i32 {
+        unsafe { ks_server_refuse(self.0.get_mut(), now, from, datagram.as_ptr().cast(), datagram.len(), word) }
     }
 
     pub fn tick(&mut self, now: u64, word: u64) -> i32 {
@@ -255,7 +310,7 @@ impl Client {
         Client(UnsafeCell::new(ks_client { handle: EMPTY }))
     }
 
-    pub fn new(&mut self, server: &ks_address, config: &ks_config, seed: &ks_seed) -> i32 {
+    pub fn make(&mut self, server: &ks_address, config: &ks_config, seed: &ks_seed) -> i32 {
         unsafe { ks_client_new(self.0.get_mut(), server, config, seed) }
     }
 

@@ -6,6 +6,7 @@ use crate::raw;
 use crate::setting::{address, format_number, format_of, socket_address, Config, Surroundings, Transmit};
 use crate::MAX_DATAGRAM;
 use std::collections::VecDeque;
+use std::fmt;
 use std::net::SocketAddrV4;
 use std::time::{Duration, Instant};
 
@@ -41,7 +42,7 @@ pub struct Server {
     room: Vec<u8>,
 }
 
-/// What a path holds.
+/// What a path holds, or held.
 #[derive(Clone, Debug, PartialEq, Eq)]
 #[non_exhaustive]
 pub struct Representation {
@@ -65,16 +66,22 @@ pub struct Applied {
     pub method: Method,
     /// Its token.
     pub token: Vec<u8>,
-    /// The path, with a `/` before each segment.
+    /// The path, with a `/` before each segment; in a segment `%2F` stands for a slash, and `%25` for a percent sign.
     pub path: Vec<u8>,
+    /// What the path held as soon as the request was applied. None where it held nothing, as after a DELETE; and of the
+    /// path of one empty segment, which no text names.
+    pub held: Option<Representation>,
 }
+
+// The text by which the path of one empty segment is told; read, it is the root.
+const ONE_EMPTY_SEGMENT: &[u8] = b"/";
 
 impl Server {
     /// A server that holds nothing.
     pub fn new(config: &Config, now: Instant) -> Result<Server, NewError> {
         let mut around = Surroundings::new(config, now);
         let mut raw = raw::Server::empty();
-        made(raw.new(&config.raw(), &around.seed()))?;
+        made(raw.make(&config.raw(), &around.seed()))?;
         Ok(Server { raw, around, applied: VecDeque::new(), room: vec![0; raw::KS_PATH_ROOM] })
     }
 
@@ -100,6 +107,11 @@ impl Server {
 
     /// What the path holds. None too where the text is no path.
     pub fn get(&self, path: &str) -> Option<Representation> {
+        self.held(path.as_bytes())
+    }
+
+    // What the path of that text holds.
+    fn held(&self, path: &[u8]) -> Option<Representation> {
         let mut shown = raw::ks_representation::default();
         let mut body = Vec::new();
         loop {
@@ -133,7 +145,18 @@ impl Server {
         Ok(())
     }
 
+    /// Takes a datagram that arrived from somebody who may not have what it asks for. A request is answered with 4.05 and
+    /// not served; what is none is taken as it is. A copy gets the same answer, and a copy of what was served gets that
+    /// reply: so your rules may change at any moment.
+    pub fn refuse(&mut self, now: Instant, from: SocketAddrV4, datagram: &[u8]) -> Result<(), OutOfMemory> {
+        let (now, word) = (self.around.moment(now), self.around.word());
+        ticked(self.raw.refuse(now, &address(from), datagram, word))?;
+        self.keep_applied();
+        Ok(())
+    }
+
     /// When to call `handle_timeout`, unless something is handed in before. None: never.
+    #[must_use = "nothing else tells when to call `handle_timeout`"]
     pub fn poll_timeout(&self) -> Option<Instant> {
         let mut at = 0;
         match self.raw.due(&mut at) {
@@ -155,6 +178,7 @@ impl Server {
     }
 
     /// The datagram that is to be sent next, in the buffer.
+    #[must_use = "a datagram that is not sent is lost"]
     pub fn poll_transmit(&mut self, buffer: &mut [u8; MAX_DATAGRAM]) -> Option<Transmit> {
         let (mut to, mut size) = (raw::ks_address::default(), 0);
         let answer = self.raw.next_out(&mut to, buffer, &mut size);
@@ -162,21 +186,32 @@ impl Server {
     }
 
     /// What a client had this server do, each once, in order. It waits here until it is taken.
+    #[must_use = "each request that was applied is told once"]
     pub fn poll_applied(&mut self) -> Option<Applied> {
         self.applied.pop_front()
     }
 
-    // What the last feed or tick applied, which the next one empties.
+    // What the last feed or tick applied, which the next one empties, and what its path holds, which that may change.
     fn keep_applied(&mut self) {
         let mut done = raw::ks_applied::default();
         if self.raw.applied(&mut done, &mut self.room) == raw::KS_DONE {
+            let path = self.room[..done.path_len].to_vec();
+            let held = if path == ONE_EMPTY_SEGMENT { None } else { self.held(&path) };
             self.applied.push_back(Applied {
                 version: done.version,
                 from: socket_address(done.from),
                 method: Method::of(Code(done.method)).unwrap_or(Method::Post),
                 token: done.token[..usize::from(done.token_len.min(8))].to_vec(),
-                path: self.room[..done.path_len].to_vec(),
+                path,
+                held,
             });
         }
+    }
+}
+
+impl fmt::Debug for Server {
+    fn fmt(&self, f: &mut fmt::Formatter<'_>) -> fmt::Result {
+        let mut shown = f.debug_struct("Server");
+        shown.field("due", &self.poll_timeout()).field("applied", &self.applied.len()).finish_non_exhaustive()
     }
 }

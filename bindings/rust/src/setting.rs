@@ -6,12 +6,13 @@ use std::hash::{BuildHasher, Hasher};
 use std::net::{Ipv4Addr, SocketAddrV4};
 use std::time::{Duration, Instant};
 
-/// What an end is made with. `Config::default()` is the usual; change its fields for another.
+/// What an end is made with. `Config::default()` is the usual; change its fields for another. What an end can't be made
+/// with is told when it is made.
 ///
 /// ```
 /// # use knifesilver::Config;
-/// let mut config = Config::default();
-/// config.body_limit = 1_048_576;
+/// let config = Config::default().with_body_limit(1_048_576).with_remembered(65_536);
+/// assert_eq!((config.body_limit, config.remembered, config.block_size), (1_048_576, 65_536, 1024));
 /// ```
 #[derive(Clone, Debug, PartialEq, Eq)]
 #[non_exhaustive]
@@ -35,6 +36,36 @@ impl Default for Config {
 }
 
 impl Config {
+    /// The same with blocks of so many bytes at most.
+    #[must_use]
+    pub fn with_block_size(self, block_size: u32) -> Config {
+        Config { block_size, ..self }
+    }
+
+    /// The same with bodies of so many bytes at most.
+    #[must_use]
+    pub fn with_body_limit(self, body_limit: u32) -> Config {
+        Config { body_limit, ..self }
+    }
+
+    /// The same with so many messages remembered at once.
+    #[must_use]
+    pub fn with_remembered(self, remembered: u32) -> Config {
+        Config { remembered, ..self }
+    }
+
+    /// The same with so many changes of a server's store in 256 s.
+    #[must_use]
+    pub fn with_changes(self, changes: u32) -> Config {
+        Config { changes, ..self }
+    }
+
+    /// The same with random numbers from this seed, for tests: whoever knows it can guess Message IDs and tokens.
+    #[must_use]
+    pub fn with_rng_seed(self, seed: u64) -> Config {
+        Config { rng_seed: Some(seed), ..self }
+    }
+
     pub(crate) fn raw(&self) -> raw::ks_config {
         raw::ks_config {
             size: std::mem::size_of::<raw::ks_config>() as u32,

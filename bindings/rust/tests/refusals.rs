@@ -46,6 +46,7 @@ fn changes_are_refused() {
     assert_eq!(server.set(now, "t", None, &[0; 65_537]), Err(SetError::TooLarge));
     assert_eq!(server.set(now, &"a/".repeat(16), None, b""), Err(SetError::BadPath));
     assert_eq!(server.set(now, &"a".repeat(256), None, b""), Err(SetError::BadPath));
+    assert_eq!(server.set(now, "100%", None, b""), Err(SetError::BadPath));
     assert_eq!(server.update(now, "t", None, b"x"), Ok((1, true)));
     assert_eq!(server.update(now, "t", None, b"x"), Ok((1, false)));
     assert_eq!(server.set(now, "t", None, b"x"), Ok(2));
@@ -108,6 +109,36 @@ fn calls_are_refused() {
     assert!(!client.forget(CallId(0)));
     assert_eq!(client.poll_timeout(), Some(now));
     assert_eq!(client.poll_report(), None);
+}
+
+#[test]
+fn paths_are_told_by_their_texts() {
+    let (mut server, now) = server();
+    server.set(now, "a%2Fb/100%25", None, b"x").unwrap();
+    assert_eq!(server.get("a/b/100%25"), None);
+    assert_eq!(server.get("/%61%2fb/100%25").unwrap().body, b"x");
+    // (Uri-Path options of three and of four bytes)
+    let put = b"\x40\x03\x00\x01\xb3a/b\x04100%\xffy";
+    assert_eq!(peek(put).unwrap().path, b"/a%2Fb/100%25");
+    server.handle(now, THERE, put).unwrap();
+    let applied = server.poll_applied().unwrap();
+    assert_eq!((applied.path.as_slice(), applied.held.unwrap().body), (&b"/a%2Fb/100%25"[..], b"y".to_vec()));
+}
+
+#[test]
+fn requests_are_refused() {
+    let (mut server, now) = server();
+    let mut buffer = [0; MAX_DATAGRAM];
+    let mut answer = |server: &mut Server| server.poll_transmit(&mut buffer).map(|it| buffer[..it.size].to_vec());
+    let put = b"\x41\x03\x00\x01\x07\xb1t\xffx";
+    server.refuse(now, THERE, put).unwrap();
+    assert_eq!(answer(&mut server), Some(b"\x61\x85\x00\x01\x07".to_vec()));
+    // A copy has the same answer, though it may be served by now.
+    server.handle(now, THERE, put).unwrap();
+    assert_eq!(answer(&mut server), Some(b"\x61\x85\x00\x01\x07".to_vec()));
+    assert_eq!((server.poll_applied(), server.get("t")), (None, None));
+    assert_eq!(refusal(put, Code(0x81)), Some(b"\x61\x81\x00\x01\x07".to_vec()));
+    assert_eq!(refusal(put, Code::CONTENT), None);
 }
 
 #[test]

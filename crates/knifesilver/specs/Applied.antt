@@ -3,7 +3,7 @@ use Rattle.std.specs.Prelude.{◌≡◌, ◌<◌, ℕ, ℤ, pos, List, [], ◌�
 use Rattle.coap_types.specs.MethodCode.{method_code}
 use Rattle.coap_server.specs.Trace.{Applied}
 use Rattle.knifesilver.specs.declared.server.out.KsApplied.{KsApplied}
-use Rattle.knifesilver.specs.PathTexts.{IsText, text_of}
+use Rattle.coap_paths.specs.PathTexts.{IsText, text_of}
 use Rattle.knifesilver.specs.ShortBytes.{AreIn}
 
 -- whose it was, its method and its token, the version that it made, and its path, as text at the front of the room

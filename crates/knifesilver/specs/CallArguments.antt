@@ -4,7 +4,7 @@ use Rattle.coap_types.specs.MethodCode.{method_of}
 use Rattle.knifesilver.specs.declared.answers.TheConstants.{BAD_ARGUMENT as bad_argument, NO_MEMORY as no_memory}
 use Rattle.knifesilver.specs.declared.client.calls.KsRequest.{KsRequest}
 use Rattle.knifesilver.specs.declared.client.calls.KsTag.{KsTag}
-use Rattle.knifesilver.specs.PathTexts.{SpellsPath}
+use Rattle.coap_paths.specs.PathTexts.{SpellsPath}
 
 -- an entity-tag has 1 to 8 bytes (RFC 7252, section 5.10.6)
 abbrev pub IsTag : KsTag → Type 0

@@ -1,5 +1,5 @@
 -- Which call of a client an export makes, by what the export was handed and answered.
-use Rattle.std.specs.Prelude.{◌≡◌, ◌<◌, ◌⊎◌, ◌^◌, max, ℕ, ℤ, pos, Bool, true, false, List, map, take}
+use Rattle.std.specs.Prelude.{◌≡◌, ◌<◌, ◌⊎◌, ◌^◌, ◌+◌, max, ℕ, ℤ, pos, Bool, true, false, List, map, take}
 use Rattle.std.specs.Prelude.{Option, Some, None, Result, Ok, Err}
 use Rattle.std.specs.Option.{option_map}
 use Rattle.coap_types.specs.MethodCode.{method_of}
@@ -61,7 +61,7 @@ asked what path body etags if_match = option_map (λ (method : Method). record {
 -- it was taken: the answer is 0, and its number is told; or the answer is the number of the refusal
 abbrev pub TakenAnswers : ℤ → ℕ → Result ℕ CallRefusal → Type 0
 TakenAnswers answer id (Ok number) = (answer ≡ pos 0) × (id ≡ number)
-TakenAnswers answer id (Err why) = answer ≡ pos (call_refusal_number why)
+TakenAnswers answer id (Err why) = answer ≡ pos (32 + call_refusal_number why)
 
 -- a request is to be sent
 abbrev pub IsCall : ℕ → Request → (answer : ℤ) (id : ℕ) → Call → Type 0
@@ -81,7 +81,7 @@ IsObserve now path answer id c =
 -- the answer is 0, or the number of the refusal
 abbrev pub CancelAnswers : ℤ → Option CancelRefusal → Type 0
 CancelAnswers answer None = answer ≡ pos 0
-CancelAnswers answer (Some why) = answer ≡ pos (cancel_refusal_number why)
+CancelAnswers answer (Some why) = answer ≡ pos (56 + cancel_refusal_number why)
 
 -- an observation is to be cancelled (RFC 7641, section 3.6)
 abbrev pub IsCancel : ℕ → ℕ → ℤ → Call → Type 0

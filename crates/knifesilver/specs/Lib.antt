@@ -8,9 +8,10 @@ pub mod Formats
 pub mod Fresh
 pub mod Outgoing
 pub mod Owned
-pub mod PathTexts
+pub mod PathRefusals
 pub mod Peeks
 pub mod Quiet
+pub mod Refusing
 pub mod Reports
 pub mod Seeds
 pub mod ServerCalls

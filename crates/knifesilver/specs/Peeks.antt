@@ -7,7 +7,7 @@ use Rattle.coap_codec.specs.Faulty.{Faulty, head_of}
 use Rattle.coap_codec.specs.Message.{Message, Spells, kind_number}
 use Rattle.coap_codec.specs.declared.fault.Reason.{Reason}
 use Rattle.knifesilver.specs.declared.peek.KsMessage.{KsMessage}
-use Rattle.knifesilver.specs.PathTexts.{IsText, text_of}
+use Rattle.coap_paths.specs.PathTexts.{IsText, text_of}
 use Rattle.knifesilver.specs.ShortBytes.{AreIn}
 
 -- its type, code, Message ID and token, how long its payload is, and its path, as text at the front of the room

@@ -1,5 +1,5 @@
 -- Which call of a server an export makes, by what the export was handed and answered.
-use Rattle.std.specs.Prelude.{◌≡◌, ◌<◌, ◌⊎◌, ◌^◌, max, ℕ, ℤ, pos, Bool, true, false, not, List, length, take}
+use Rattle.std.specs.Prelude.{◌≡◌, ◌<◌, ◌⊎◌, ◌^◌, ◌+◌, max, ℕ, ℤ, pos, Bool, true, false, List, length, take}
 use Rattle.std.specs.Prelude.{Option, Some, None, Result, Ok, Err}
 use Rattle.coap_types.specs.declared.endpoint.Endpoint.{Endpoint}
 use Rattle.coap_codec.specs.Message.{Message}
@@ -40,7 +40,7 @@ IsDue answer at s = ((answer ≡ pos 0) × ((now : ℕ) → now < 2 ^ 64 → Tic
 -- a body was set: the answer is the one for that, and the version is told; or the answer is the number of the refusal
 abbrev pub SetAnswers : (done answer : ℤ) (version : ℕ) → Result ℕ StoreRefusal → Type 0
 SetAnswers done answer version (Ok number) = (answer ≡ done) × (version ≡ number)
-SetAnswers done answer version (Err why) = answer ≡ pos (refusal_number why)
+SetAnswers done answer version (Err why) = answer ≡ pos (16 + refusal_number why)
 
 -- the path is to hold the body (RFC 7252, section 5.8.3)
 abbrev pub IsSet : ℕ → List (List ℕ) → Option ℕ → List ℕ → (done answer : ℤ) (version : ℕ) → Call → Type 0
@@ -62,21 +62,26 @@ Updates now path format body answer version old new =
 -- whether there was something that was removed; or the answer is the number of the refusal
 abbrev pub RemoveAnswers : ℤ → Result Bool StoreRefusal → Type 0
 RemoveAnswers answer (Ok held) = answer ≡ told held
-RemoveAnswers answer (Err why) = answer ≡ pos (refusal_number why)
+RemoveAnswers answer (Err why) = answer ≡ pos (16 + refusal_number why)
 
 -- what the path holds is to be removed (RFC 7252, section 5.8.4)
 abbrev pub IsRemove : ℕ → List (List ℕ) → ℤ → Call → Type 0
 IsRemove now path answer call = (removed : Result Bool StoreRefusal) × (left : Content)
     × RemoveAnswers answer removed × (call ≡ Removes now path removed left)
 
--- the requests of the path are to wait (RFC 7252, section 5.2.2); the answer is 1 where too many other paths have a delay
-abbrev pub IsDelay : List (List ℕ) → ℕ → ℤ → Call → Type 0
-IsDelay path ms answer call = (given : Bool) × (answer ≡ told (not given)) × (call ≡ Delays path ms given)
+-- 0 where it was done, and else this number
+abbrev pub or_full : Bool → ℕ → ℤ
+or_full true number = pos 0
+or_full false number = pos number
 
--- the notifications of the path are to go in NONs (RFC 7641, section 4.5); the answer is 1 where too many other paths are
+-- the requests of the path are to wait (RFC 7252, section 5.2.2); the answer is 48 where too many other paths have a delay
+abbrev pub IsDelay : List (List ℕ) → ℕ → ℤ → Call → Type 0
+IsDelay path ms answer call = (given : Bool) × (answer ≡ or_full given 48) × (call ≡ Delays path ms given)
+
+-- the notifications of the path are to go in NONs (RFC 7641, section 4.5); the answer is 49 where too many other paths are
 -- plain
 abbrev pub IsPlain : List (List ℕ) → ℤ → Call → Type 0
-IsPlain path answer call = (given : Bool) × (answer ≡ told (not given)) × (call ≡ Plains path given)
+IsPlain path answer call = (given : Bool) × (answer ≡ or_full given 49) × (call ≡ Plains path given)
 
 -- what is told of what a path holds
 abbrev pub representation_of : resource.Held → KsRepresentation

@@ -1,6 +1,5 @@
-//! What a call answers: 0 or 1 where it was carried out, the number of a refusal where the end refused, as the enum of
-//! that refusal has it, and one of these below 0 where nothing was done. No refusal for want of memory has its number
-//! here: `NO_MEMORY` says it, in each call.
+//! What a call answers: 0 or 1 where it was carried out, the number of a refusal where the end refused (`numbers`), and one
+//! of these below 0 where nothing was done. Want of memory is `NO_MEMORY` in each call.
 
 /// It was carried out, or there is nothing.
 pub(crate) const NOTHING: i32 = 0;
@@ -12,11 +11,11 @@ pub(crate) const TOO_LONG: i32 = 2;
 pub(crate) const NOT_LIVE: i32 = -1;
 /// An allocation was refused.
 pub(crate) const NO_MEMORY: i32 = -2;
-/// A path of over 16 segments, or with one of over 255 bytes.
+/// A text that is no path.
 pub(crate) const BAD_PATH: i32 = -3;
 /// The room that was lent is too small; nothing was taken.
 pub(crate) const SMALL_ROOM: i32 = -4;
-/// A method, an entity-tag or a number of entity-tags that is none.
+/// A method, an entity-tag, a number of entity-tags or an error that is none.
 pub(crate) const BAD_ARGUMENT: i32 = -5;
 /// The size of a configuration is none.
 pub(crate) const BAD_SIZE: i32 = -6;
@@ -28,3 +27,16 @@ pub(crate) const BAD_BODY_LIMIT: i32 = -8;
 pub(crate) const BAD_REMEMBERED: i32 = -9;
 /// No window takes so many changes.
 pub(crate) const BAD_CHANGES: i32 = -10;
+
+// C has these numbers in its header.
+const _: () = prove!(NOTHING == 0 && DONE == 1 && TOO_LONG == 2);
+
+const _: () = prove!(
+    NOT_LIVE == -1 && NO_MEMORY == -2 && BAD_PATH == -3 && SMALL_ROOM == -4 && BAD_ARGUMENT == -5
+);
+
+const _: () = prove!(
+    BAD_SIZE == -6 && BAD_BLOCK_SIZE == -7 && BAD_BODY_LIMIT == -8 && BAD_REMEMBERED == -9
+);
+
+const _: () = prove!(BAD_CHANGES == -10);

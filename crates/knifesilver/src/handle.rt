@@ -82,8 +82,9 @@ impl KsHandle {
         }
     }
 
-    /// Has it hold this. What it held is forgotten: take that out first.
+    /// Has it hold this. What it held was taken out before: else it would be forgotten, and never freed.
     pub(crate) fn put(&mut self, end: Box<Held, Global>)
+        requires { self.old.held ≡ None }
         ensures { self.new.held ≡ Some end.value }
     {
         *self = KsHandle::holding(Released::release(end));

@@ -1,17 +1,18 @@
 //! What a datagram says, before it is fed.
-ghost use Rattle.std.specs.Prelude.{◌≡◌, ◌≢◌, ◌<◌, pos, length, IfSome, IfNone};
+ghost use Rattle.std.specs.Prelude.{◌≡◌, ◌≢◌, ◌<◌, ◌+◌, pos, length, IfSome, IfNone};
 ghost use Rattle.coap_types.specs.RequestPath.{path_of};
 ghost use Rattle.coap_codec.specs.Message.{kind_number};
 ghost use Rattle.coap_codec.specs.Faulty.{reason_number};
 ghost use Rattle.coap_codec.specs.declared.fault.Reason.{Reason as ReasonSpec};
 ghost use Rattle.knifesilver.specs.Answers.{IsAnswered, IsRefused};
-ghost use Rattle.knifesilver.specs.PathTexts.{IsText, text_of};
+ghost use Rattle.coap_paths.specs.PathTexts.{IsText, text_of};
 ghost use Rattle.knifesilver.specs.Peeks.{IsBare, IsFault, IsHead, IsTold, IsTooLong, Tells};
 
 use crate::answers::{NOTHING, SMALL_ROOM};
 use crate::crossing::short_bytes;
-use crate::path_text::put_segment;
+use crate::numbers::fault_number;
 use coap_codec::{Fault, Options, View, decode};
+use coap_paths::put_segment;
 use coap_types::Kind;
 use coap_types::option_number::URI_PATH;
 
@@ -113,9 +114,9 @@ fn fault(fault: Fault) -> KsMessage
 pub extern "C" fn ks_peek(datagram: &[u8], shown: &mut KsMessage, room: &mut [u8]) -> i32
     // What is told of a datagram is the message that it spells.
     ensures told { result ≡ pos 0 → Tells datagram.now shown.new room.new }
-    // A datagram that is answered with a number is at fault, and that is the number of its first fault.
+    // A datagram that is answered with a number is at fault, and that is 80 and the number of its first fault.
     ensures fault { IsAnswered result → result ≢ pos 0
-        → (reason : ReasonSpec) × (result ≡ pos (reason_number reason)) × IsFault datagram.now shown.new reason }
+        → (reason : ReasonSpec) × (result ≡ pos (80 + reason_number reason)) × IsFault datagram.now shown.new reason }
     // Where the room is too small for it, a datagram spells a message with a longer path, and nothing is told.
     ensures long { IsRefused result → (result ≡ SMALL_ROOM) × IsTooLong datagram.now (length room.old)
         × (shown.new ≡ shown.old) }
@@ -130,7 +131,7 @@ pub extern "C" fn ks_peek(datagram: &[u8], shown: &mut KsMessage, room: &mut [u8
         },
         Err(why) => {
             *shown = fault(why);
-            i32::from(why.reason.number())
+            fault_number(why.reason)
         }
     }
 }

@@ -3,4 +3,5 @@ mod local;
 mod made;
 mod out;
 mod plain;
-mod turns;
+mod refusing;
+pub(crate) mod turns;

@@ -1,22 +1,24 @@
 //! What a client is asked for.
-ghost use Rattle.std.specs.Prelude.{◌≡◌, ◌≢◌, ◌↔◌, ◌⊎◌, pos, map, Option, Some, IfOk, IfErr, IfSome};
+ghost use Rattle.std.specs.Prelude.{◌≡◌, ◌≢◌, ◌↔◌, ◌⊎◌, ◌+◌, pos, map, Option, Some, IfOk, IfErr, IfSome};
 ghost use Rattle.std.specs.Prelude.{IfNone, OnOk, Ok, Err};
 ghost use Rattle.coap_client.specs.Object.CallShown.{shown_request};
 ghost use Rattle.coap_client.specs.Object.Shown.{number_of};
 ghost use Rattle.coap_client.specs.RefusalNumbers.{call_refusal_number};
 ghost use Rattle.coap_client.specs.declared.refusals.CallRefusal.TheVariants as refusals;
+ghost use Rattle.coap_paths.specs.PathTexts.{spelled};
 ghost use Rattle.knifesilver.specs.Answers.{IsAnswered, IsRefused, IsUsual};
 ghost use Rattle.knifesilver.specs.CallArguments.{AreTags, MakeRequest, RefusesArguments};
 ghost use Rattle.knifesilver.specs.ClientCalls.{CallsThat, IsCall, IsCancel, IsForget, IsObserve, TakenAnswers, asked};
 ghost use Rattle.knifesilver.specs.ClientCalls.{tag_bytes};
 ghost use Rattle.knifesilver.specs.ClientHeld.{HoldsClient, IsClient, Made};
-ghost use Rattle.knifesilver.specs.PathTexts.{RefusesPath, spelled};
+ghost use Rattle.knifesilver.specs.PathRefusals.{RefusesPath};
 ghost use Rattle.knifesilver.specs.Reports.{beside};
 
 use crate::answers::{BAD_ARGUMENT, BAD_PATH, DONE, NO_MEMORY, NOT_LIVE, NOTHING};
 use crate::crossing::format_of;
 use crate::handle::KsHandle;
 use crate::held::Held;
+use crate::numbers::{call_number, cancel_number};
 use crate::path_text::path_of;
 use bytes::Bytes;
 use coap_ends::{CallId, CallRefusal};
@@ -103,7 +105,7 @@ fn request_of(
 
 // What a refusal of the client answers.
 fn refused(why: CallRefusal) -> i32
-    ensures answered { IsAnswered result → (why ≢ refusals.Memory) × (result ≡ pos (call_refusal_number why)) }
+    ensures answered { IsAnswered result → (why ≢ refusals.Memory) × (result ≡ pos (32 + call_refusal_number why)) }
     ensures memory { IsRefused result → why ≡ refusals.Memory }
     ensures live { result ≢ NOT_LIVE }
     ensures path { result ≢ BAD_PATH }
@@ -112,7 +114,7 @@ fn refused(why: CallRefusal) -> i32
 {
     match why {
         CallRefusal::Memory => NO_MEMORY,
-        _ => i32::from(why.number()),
+        _ => call_number(why),
     }
 }
 
@@ -262,7 +264,7 @@ fn cancel(held: &mut Held, now: u64, id: u64) -> i32
     match held {
         Held::Client(client) => match client.client.cancel(Moment(now), CallId(id)) {
             Ok(()) => NOTHING,
-            Err(why) => i32::from(why.number()),
+            Err(why) => cancel_number(why),
         },
         Held::Server(_) => NOT_LIVE,
     }

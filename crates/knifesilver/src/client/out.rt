@@ -1,5 +1,5 @@
 //! The datagrams that a client hands out.
-ghost use Rattle.std.specs.Prelude.{◌≡◌, ◌≢◌, ◌⊎◌, Some};
+ghost use Rattle.std.specs.Prelude.{◌≡◌, ◌≢◌, ◌<◌, ◌⊎◌, length, Some};
 ghost use Rattle.knifesilver.specs.Answers.{IsAnswered, IsRefused};
 ghost use Rattle.knifesilver.specs.ClientCalls.{IsNextOut};
 ghost use Rattle.knifesilver.specs.ClientHeld.{HoldsClient, IsClient, Made};
@@ -20,6 +20,7 @@ fn next_out(held: &mut Held, to: &mut KsAddress, room: &mut [u8], len: &mut usiz
     ensures kept { IsRefused result → held.new ≡ held.old }
     ensures beside { beside (Some held.new) ≡ beside (Some held.old) }
     ensures live { IsClient held.old → result ≢ NOT_LIVE }
+    ensures small { result ≡ SMALL_ROOM → length room.old < MAX_MESSAGE_LEN }
     ensures why { IsRefused result → (result ≡ SMALL_ROOM) ⊎ (result ≡ NOT_LIVE) }
 {
     match held {
@@ -55,6 +56,8 @@ pub extern "C" fn ks_client_next_out(
     // To take a datagram of a client is refused for a room that is too small or for want of a client in the handle,
     // and for nothing else.
     ensures why { IsRefused result → (result ≡ SMALL_ROOM) ⊎ (result ≡ NOT_LIVE) }
+    // A room for a datagram of a client is too small only where it has under 1,152 bytes.
+    ensures small { result ≡ SMALL_ROOM → length room.old < MAX_MESSAGE_LEN }
 {
     let Some(mut held) = handle.take(alloc) else {
         return NOT_LIVE;

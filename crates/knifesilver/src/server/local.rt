@@ -1,13 +1,14 @@
 //! What the server's own side does with its resources.
-ghost use Rattle.std.specs.Prelude.{◌≡◌, ◌≢◌, ◌⊎◌, ℕ, pos, length, option_copied, Some, IfSome, IfNone};
+ghost use Rattle.std.specs.Prelude.{◌≡◌, ◌≢◌, ◌⊎◌, ◌+◌, ℕ, pos, length, option_copied, Some, IfSome, IfNone};
 ghost use Rattle.coap_resource.specs.Content.{refusal_number};
 ghost use Rattle.coap_resource.specs.Entries.{content_of};
 ghost use Rattle.coap_resource.specs.declared.refusal.StoreRefusal.TheVariants.{Memory};
 ghost use Rattle.coap_server.specs.Object.Shown.{state_of};
+ghost use Rattle.coap_paths.specs.PathTexts.{spelled};
 ghost use Rattle.knifesilver.specs.Answers.{IsAnswered, IsRefused, IsUsual};
 ghost use Rattle.knifesilver.specs.Formats.{format_in};
 ghost use Rattle.knifesilver.specs.declared.held.Held.TheVariants.{Server};
-ghost use Rattle.knifesilver.specs.PathTexts.{RefusesPath, spelled};
+ghost use Rattle.knifesilver.specs.PathRefusals.{RefusesPath};
 ghost use Rattle.knifesilver.specs.ServerCalls.{HoldsThat, IsDelay, IsGot, IsRemove, IsSet, IsTooLong, Updates};
 ghost use Rattle.knifesilver.specs.ServerHeld.{HoldsServer, HoldsServerIn, IsServer, IsServerIn, Made};
 
@@ -15,6 +16,7 @@ use crate::answers::{BAD_PATH, DONE, NO_MEMORY, NOT_LIVE, NOTHING, SMALL_ROOM};
 use crate::crossing::{copy_out, format_number, format_of};
 use crate::handle::KsHandle;
 use crate::held::{Held, OurServer};
+use crate::numbers::{DELAY_FULL, set_number};
 use crate::path_text::path_of;
 use coap_ends::DelayRefusal;
 use coap_resource::StoreRefusal;
@@ -23,7 +25,7 @@ use std::alloc::Global;
 
 // What a refusal of the store answers.
 fn refused(why: StoreRefusal) -> i32
-    ensures answered { IsAnswered result → (why ≢ Memory) × (result ≡ pos (refusal_number why)) }
+    ensures answered { IsAnswered result → (why ≢ Memory) × (result ≡ pos (16 + refusal_number why)) }
     ensures memory { IsRefused result → why ≡ Memory }
     ensures live { result ≢ NOT_LIVE }
     ensures path { result ≢ BAD_PATH }
@@ -31,7 +33,7 @@ fn refused(why: StoreRefusal) -> i32
 {
     match why {
         StoreRefusal::Memory => NO_MEMORY,
-        _ => i32::from(why.number()),
+        _ => set_number(why),
     }
 }
 
@@ -213,8 +215,7 @@ fn remove(held: &mut Held, now: u64, path: &Path) -> i32
         Held::Server(server) => match server.remove(Moment(now), path) {
             Ok(true) => DONE,
             Ok(false) => NOTHING,
-            // It takes no memory, so 1 is the number of no refusal here.
-            Err(why) => i32::from(why.number()),
+            Err(why) => set_number(why),
         },
         Held::Client(_) => NOT_LIVE,
     }
@@ -338,9 +339,6 @@ pub extern "C" fn ks_server_get(
     answer
 }
 
-// The number by which a call answers that no further path is given a delay.
-const DELAYS_FULL: i32 = 1;
-
 // Gives the path a delay.
 fn set_delay(held: &mut Held, path: &Path, ms: u64) -> i32
     ensures led { IsAnswered result → Made (IsDelay path.now ms result) (Some held.old) (Some held.new) }
@@ -352,7 +350,7 @@ fn set_delay(held: &mut Held, path: &Path, ms: u64) -> i32
     match held {
         Held::Server(server) => match server.set_delay(path, ms) {
             Ok(()) => NOTHING,
-            Err(DelayRefusal::Full) => DELAYS_FULL,
+            Err(DelayRefusal::Full) => DELAY_FULL,
             Err(DelayRefusal::Memory) => NO_MEMORY,
         },
         Held::Client(_) => NOT_LIVE,

@@ -1,5 +1,5 @@
 //! What a server hands out: datagrams, and what a client had it do.
-ghost use Rattle.std.specs.Prelude.{◌≡◌, ◌≢◌, ◌⊎◌, ◌∷◌, [], length, Some};
+ghost use Rattle.std.specs.Prelude.{◌≡◌, ◌≢◌, ◌<◌, ◌⊎◌, ◌∷◌, [], length, Some};
 ghost use Rattle.coap_server.specs.Object.Shown.{applied_as};
 ghost use Rattle.knifesilver.specs.Answers.{IsAnswered, IsRefused};
 ghost use Rattle.knifesilver.specs.Applied.{AppliedAnswers, IsLongPath};
@@ -11,8 +11,8 @@ use crate::crossing::{KsAddress, address, token_of};
 use crate::handle::KsHandle;
 use crate::held::Held;
 use crate::outgoing::give;
-use crate::path_text::put_path;
 use coap_ends::Applied;
+use coap_paths::put_path;
 use coap_types::limits::MAX_MESSAGE_LEN;
 use std::alloc::Global;
 
@@ -22,6 +22,7 @@ fn next_out(held: &mut Held, to: &mut KsAddress, room: &mut [u8], len: &mut usiz
         → Made (IsNextOut result to.new room.new len.new) (Some held.old) (Some held.new) }
     ensures kept { IsRefused result → held.new ≡ held.old }
     ensures live { IsServer held.old → result ≢ NOT_LIVE }
+    ensures small { result ≡ SMALL_ROOM → length room.old < MAX_MESSAGE_LEN }
     ensures why { IsRefused result → (result ≡ SMALL_ROOM) ⊎ (result ≡ NOT_LIVE) }
 {
     match held {
@@ -55,6 +56,8 @@ pub extern "C" fn ks_server_next_out(
     // To take a datagram of a server is refused for a room that is too small or for want of a server in the handle,
     // and for nothing else.
     ensures why { IsRefused result → (result ≡ SMALL_ROOM) ⊎ (result ≡ NOT_LIVE) }
+    // A room for a datagram of a server is too small only where it has under 1,152 bytes.
+    ensures small { result ≡ SMALL_ROOM → length room.old < MAX_MESSAGE_LEN }
 {
     let Some(mut held) = handle.take(alloc) else {
         return NOT_LIVE;

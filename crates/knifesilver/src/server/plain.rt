@@ -1,20 +1,19 @@
 //! Which paths are notified in Non-confirmable messages (RFC 7641, section 4.5).
 ghost use Rattle.std.specs.Prelude.{◌≡◌, ◌≢◌, ◌⊎◌, Some};
+ghost use Rattle.coap_paths.specs.PathTexts.{spelled};
 ghost use Rattle.knifesilver.specs.Answers.{IsAnswered, IsRefused, IsUsual};
-ghost use Rattle.knifesilver.specs.PathTexts.{RefusesPath, spelled};
+ghost use Rattle.knifesilver.specs.PathRefusals.{RefusesPath};
 ghost use Rattle.knifesilver.specs.ServerCalls.{IsPlain};
 ghost use Rattle.knifesilver.specs.ServerHeld.{HoldsServer, IsServer, Made};
 
 use crate::answers::{BAD_PATH, NO_MEMORY, NOT_LIVE, NOTHING};
 use crate::handle::KsHandle;
 use crate::held::Held;
+use crate::numbers::PLAIN_FULL;
 use crate::path_text::path_of;
 use coap_ends::PlainRefusal;
 use coap_types::Path;
 use std::alloc::Global;
-
-// The number by which a call answers that no further path is made plain.
-const PLAINS_FULL: i32 = 1;
 
 // Makes the path plain.
 fn set_plain(held: &mut Held, path: &Path) -> i32
@@ -27,7 +26,7 @@ fn set_plain(held: &mut Held, path: &Path) -> i32
     match held {
         Held::Server(server) => match server.set_plain(path) {
             Ok(()) => NOTHING,
-            Err(PlainRefusal::Full) => PLAINS_FULL,
+            Err(PlainRefusal::Full) => PLAIN_FULL,
             Err(PlainRefusal::Memory) => NO_MEMORY,
         },
         Held::Client(_) => NOT_LIVE,

@@ -1,7 +1,7 @@
 use Rattle.std.proofs.Common.{◌≡◌, ◌++◌, length}
 use Rattle.coap_types.specs.CoapOption.{options_of}
 use Rattle.coap_types.specs.RequestPath.{path_of}
-use Rattle.knifesilver.specs.PathTexts.{IsText}
+use Rattle.coap_paths.specs.PathTexts.{IsText}
 use Rattle.knifesilver.proofs.peek.put_uri_path.Given as goal
 
 abbrev pub invariant-loop-option : goal.invariant-loop-option

@@ -1,4 +1,4 @@
-use Rattle.std.proofs.Common.{◌∙◌, ap, pos, refl, subst, w32}
+use Rattle.std.proofs.Common.{◌∙◌, refl, subst, w32}
 use Rattle.std.proofs.Math.Facts.{to_z-of_z}
 use Rattle.coap_client.specs.Led.{Led}
 use Rattle.knifesilver.specs.ClientHeld.{IsClientIn}
@@ -12,5 +12,5 @@ returns-in-Ok-clause-led c = λ _ server sizes setup t led.
 pub returns-in-Err-clause-led : goal.returns-in-Err-clause-led
 returns-in-Err-clause-led c = λ _ server sizes setup t led.
     let w = c.in-Err.ensures.led server sizes setup t (subst (IsClientIn (Led server sizes setup t)) c.in-Client.is led) in
-    let same = to_z-of_z {w = w32} {z = c.from.result} (record { sfits = c.from.type_inv }) in
-    (_, (_, same ∙ c.from.ensures ∙ ap pos c.number.ensures, refl), w)
+    let same = to_z-of_z {w = w32} {z = c.cancel_number.result} (record { sfits = c.cancel_number.type_inv }) in
+    (_, (_, same ∙ c.cancel_number.ensures, refl), w)

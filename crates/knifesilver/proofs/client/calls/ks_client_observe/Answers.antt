@@ -3,7 +3,7 @@ use Rattle.std.proofs.Math.Facts.{to_z-of_z}
 use Rattle.knifesilver.specs.Answers.{IsAnswered}
 use Rattle.knifesilver.specs.ClientCalls.{IsObserve}
 use Rattle.knifesilver.specs.ClientHeld.{Made}
-use Rattle.knifesilver.specs.PathTexts.{spelled}
+use Rattle.coap_paths.specs.PathTexts.{spelled}
 use Rattle.knifesilver.proofs.Carried.{carried}
 use Rattle.knifesilver.proofs.client.calls.ks_client_observe.Goals as goal
 

@@ -1,7 +1,7 @@
 use Rattle.std.proofs.Common.{w32, subst, Some}
 use Rattle.std.proofs.Math.Facts.{to_z-of_z}
 use Rattle.knifesilver.specs.Answers.{IsAnswered}
-use Rattle.knifesilver.specs.PathTexts.{spelled}
+use Rattle.coap_paths.specs.PathTexts.{spelled}
 use Rattle.knifesilver.specs.ServerCalls.{IsRemove}
 use Rattle.knifesilver.specs.ServerHeld.{Made}
 use Rattle.knifesilver.proofs.Carried.{carried}

@@ -2,7 +2,7 @@ use Rattle.std.proofs.Common.{◌∙◌, ap, w32, subst, pos, Some}
 use Rattle.std.proofs.Math.Facts.{to_z-of_z}
 use Rattle.knifesilver.specs.Answers.{IsAnswered}
 use Rattle.knifesilver.specs.Formats.{format_in}
-use Rattle.knifesilver.specs.PathTexts.{spelled}
+use Rattle.coap_paths.specs.PathTexts.{spelled}
 use Rattle.knifesilver.specs.ServerCalls.{IsSet}
 use Rattle.knifesilver.specs.ServerHeld.{Made}
 use Rattle.knifesilver.proofs.Carried.{carried}

@@ -2,7 +2,7 @@ use Rattle.std.proofs.Common.{◌∙◌, ap, w32, subst, Some}
 use Rattle.std.proofs.Math.Facts.{to_z-of_z}
 use Rattle.knifesilver.specs.Answers.{IsAnswered}
 use Rattle.knifesilver.specs.Formats.{format_in}
-use Rattle.knifesilver.specs.PathTexts.{spelled}
+use Rattle.coap_paths.specs.PathTexts.{spelled}
 use Rattle.knifesilver.specs.ServerCalls.{Updates}
 use Rattle.knifesilver.proofs.Carried.{carried}
 use Rattle.knifesilver.proofs.server.local.ks_server_update.Goals as goal

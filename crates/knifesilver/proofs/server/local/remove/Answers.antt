@@ -1,4 +1,4 @@
-use Rattle.std.proofs.Common.{◌∙◌, pos, refl, sym, ap, subst, w32}
+use Rattle.std.proofs.Common.{◌∙◌, refl, sym, ap, subst, w32}
 use Rattle.std.proofs.Math.Facts.{to_z-of_z}
 use Rattle.coap_server.specs.Led.{Led}
 use Rattle.knifesilver.specs.Answers.{told}
@@ -18,5 +18,5 @@ returns-in-Ok-false-clause-led c = λ _ limits szx setup t led.
 pub returns-in-Err-clause-led : goal.returns-in-Err-clause-led
 returns-in-Err-clause-led c = λ _ limits szx setup t led.
     let w = c.in-Err.ensures.led limits szx setup t (subst (IsServerIn (Led limits szx setup t)) c.in-Server.is led) in
-    let same = to_z-of_z {w = w32} {z = c.from.result} (record { sfits = c.from.type_inv }) in
-    (_, (_, _, same ∙ c.from.ensures ∙ ap pos c.number.ensures, refl), w)
+    let same = to_z-of_z {w = w32} {z = c.set_number.result} (record { sfits = c.set_number.type_inv }) in
+    (_, (_, _, same ∙ c.set_number.ensures, refl), w)

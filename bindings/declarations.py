@@ -1,0 +1,318 @@
+"""What crosses to C and to Rust is written in three places: the library's source, the C header, the Rust crate's raw.rs.
+
+`differences` compares its calls with their parameters, its structs with the order of their fields, and its numbers.
+`sizes` writes assertions of sizes and offsets for both compilers. `unnoticed` tries the comparison with wrong
+declarations. No compiler compares the three by itself."""
+
+import pathlib
+import re
+
+HERE = pathlib.Path(__file__).resolve().parent
+TOP = HERE.parent
+HEADER = "bindings/include/knifesilver.h"
+RAW = "bindings/rust/src/raw.rs"
+LIBRARY = "crates/knifesilver/src/"
+TYPES = "crates/coap_types/src/"
+CODEC = "crates/coap_codec/src/"
+
+# The types that cross: as the library has them; in C, in Rust, and how many bytes each has (each target has 64 bits).
+PLAIN = {
+    "u8": ("uint8_t", "u8", 1), "u16": ("uint16_t", "u16", 2), "u32": ("uint32_t", "u32", 4),
+    "u64": ("uint64_t", "u64", 8), "i32": ("int32_t", "i32", 4), "usize": ("size_t", "usize", 8),
+    "bool": ("bool", "bool", 1),
+}
+IN_C = {rattle: c for rattle, (c, _, _) in PLAIN.items()}
+RUST_OF = {"void": "c_void", "char": "c_char", **{c: rust for c, rust, _ in PLAIN.values()}}
+POINTER = "*mut ()"
+POINTER_LEN = 8
+WRAPPERS = ("ks_server", "ks_client")
+# Parameters that are lent as text, where others are bytes.
+TEXTS = {("ks_server_applied", "room"), ("ks_peek", "room")}
+
+
+def read_all():
+    """The texts that are compared, by file."""
+    files = [HEADER, RAW]
+    for folder in (LIBRARY, TYPES, CODEC):
+        files += sorted(str(file.relative_to(TOP)) for file in (TOP / folder).glob("**/*.rt"))
+    return {file: (TOP / file).read_text() for file in files}
+
+
+def spaced(text):
+    return re.sub(r"\s+", " ", text).strip()
+
+
+def uncommented(text):
+    return re.sub(r"/\*.*?\*/|//[^\n]*", " ", text, flags=re.S)
+
+
+def snake(name):
+    """KsAddress is ks_address."""
+    return re.sub(r"(?<!^)(?=[A-Z])", "_", name).lower()
+
+
+def crossed(call, name, kind):
+    """The parameters in C of a parameter of an export, as pairs of type and name."""
+    if kind == "Global":
+        return []
+    if kind == "&mut KsHandle":
+        return [(f"ks_{call.split('_')[1]} *", name)]
+    if kind in ("&[u8]", "&mut [u8]"):
+        const = "" if "mut" in kind else "const "
+        text = name == "path" or (call, name) in TEXTS
+        return [(f"{const}{'char' if text else 'void'} *", name), ("size_t", f"{name}_len")]
+    slice_of = re.fullmatch(r"&\[(Ks\w+)\]", kind)
+    if slice_of:
+        return [(f"const {snake(slice_of[1])} *", name), ("size_t", f"{name}_len")]
+    pointer = re.fullmatch(r"&(mut )?(\w+)", kind)
+    if pointer:
+        to = IN_C.get(pointer[2]) or snake(pointer[2])
+        return [(f"{'' if pointer[1] else 'const '}{to} *", name)]
+    return [(IN_C[kind], name)]
+
+
+EXPORT = r'pub extern "C" fn (\w+)\((.*?)\)\s*(?:->\s*(\w+))?\s*(?:ensures|\{)'
+STRUCT = r"#\[repr\(C\)\]\s*(?:#\[[^\]]*\]\s*)*pub struct (%s) \{(.*?)\n\}"
+
+
+def exports(texts):
+    """The library's exports and their structs, as the header should declare them."""
+    calls, structs = {}, {}
+    for file, text in texts.items():
+        if not file.startswith(LIBRARY):
+            continue
+        text = uncommented(text)
+        for call, params, result in re.findall(EXPORT, text, re.S):
+            given = [it.split(":") for it in spaced(params).rstrip(",").split(", ") if it]
+            flat = [it for name, kind in given for it in crossed(call, name.strip(), kind.strip())]
+            calls[call] = (IN_C[result] if result else "void", flat)
+        for name, fields in re.findall(STRUCT % r"Ks\w+", text, re.S):
+            # (the allocator has no bytes, and a ghost field neither)
+            pairs = re.findall(r"^\s*(?:pub )?(\w+): ([^\n]+),$", fields, re.M)
+            structs[snake(name)] = [(field, kind) for field, kind in pairs if kind != "Global"]
+    return calls, structs
+
+
+def c_field(name, kind):
+    array = re.fullmatch(r"\[(\w+); (\d+)\]", kind)
+    if array:
+        return f"{IN_C[array[1]]} {name}[{array[2]}]"
+    if kind == POINTER:
+        return f"void *{name}"
+    return f"{IN_C.get(kind) or snake(kind)} {name}"
+
+
+def header(texts):
+    text = uncommented(texts[HEADER])
+    calls, structs = {}, {}
+    for result, call, params in re.findall(r"^(\w+) (ks_\w+)\((.*?)\);", text, re.M | re.S):
+        given = [] if params == "void" else params.split(",")
+        flat = [re.fullmatch(r"(.*?[ *])(\w+)", spaced(it)).groups() for it in given]
+        calls[call] = (result, [(kind.strip(), name) for kind, name in flat])
+    for fields, name in re.findall(r"typedef struct \{(.*?)\} (ks_\w+);", text, re.S):
+        structs[name] = [spaced(it) for it in fields.split(";") if it.strip()]
+    return calls, structs
+
+
+def rust_field(kind):
+    if kind == POINTER:
+        return "*mut c_void"
+    return kind if kind in PLAIN or kind.startswith("[") else snake(kind)
+
+
+def in_rust(kind):
+    pointer = re.fullmatch(r"(const )?(\w+) \*", kind)
+    if pointer:
+        return f"*{'const' if pointer[1] else 'mut'} {RUST_OF.get(pointer[2], pointer[2])}"
+    return RUST_OF[kind]
+
+
+def raw(texts):
+    text = uncommented(texts[RAW])
+    calls, structs = {}, {}
+    for call, params, result in re.findall(r"^    fn (ks_\w+)\((.*?)\)(?: -> (\w+))?;", text, re.M):
+        calls[call] = (result or None, [tuple(it.split(": ")[::-1]) for it in params.split(", ") if it])
+    for name, fields in re.findall(STRUCT % r"ks_\w+", text, re.S):
+        structs[name] = re.findall(r"(?:pub )?(\w+): ([^\n]+),", fields)
+    return calls, structs
+
+
+def compared(texts):
+    """What is compared: its name, what is found, and what is wanted."""
+    (calls, structs), (c_calls, c_structs), (r_calls, r_structs) = exports(texts), header(texts), raw(texts)
+    yield "calls of the header", sorted(c_calls), sorted(calls)
+    yield "calls of raw.rs", sorted(r_calls), sorted(calls)
+    for call, (result, params) in calls.items():
+        yield f"{call} in the header", c_calls.get(call), (result, params)
+        rust = (None if result == "void" else RUST_OF[result], [(in_rust(kind), name) for kind, name in params])
+        yield f"{call} in raw.rs", r_calls.get(call), rust
+    yield "structs of the header", sorted(set(c_structs) - set(WRAPPERS)), sorted(structs)
+    yield "structs of raw.rs", sorted(set(r_structs) - set(WRAPPERS)), sorted(structs)
+    for name, fields in structs.items():
+        yield f"{name} in the header", c_structs.get(name), [c_field(field, kind) for field, kind in fields]
+        yield f"{name} in raw.rs", r_structs.get(name), [(field, rust_field(kind)) for field, kind in fields]
+    for name in WRAPPERS:
+        yield name, (c_structs.get(name), r_structs.get(name)), (["ks_handle handle"], [("handle", "ks_handle")])
+
+
+# ---- Numbers ---------------------------------------------------------------------------------------------------------
+
+# Names of the library that are others in C; and those of answers that no call gives, which C doesn't have.
+OTHER_NAMES = {"NOTHING": "OK", "REPORT_DONE": "SUCCESS"}
+NOT_IN_C = {"TOO_LONG", "SET_MEMORY", "CALL_MEMORY"}
+REFUSALS = r"ks_\w+_refusal|ks_fault"
+ENUM = r"enum (\w*)\s*\{(.*?)\}"
+
+
+def header_numbers(text):
+    """Each number of the header by its name, and the names of those that refuse."""
+    text, numbers, refusals = uncommented(text), {}, []
+    for name, body in re.findall(ENUM, text, re.S):
+        pairs = [(it, int(n)) for it, n in re.findall(r"(KS_\w+) = (-?\d+)", body)]
+        numbers.update(pairs)
+        if not name or re.fullmatch(REFUSALS, name):
+            refusals += [it for it, _ in pairs if it not in ("KS_OK", "KS_DONE")]
+    for name, n in re.findall(r"#define (KS_\w+) \(?(-?\d+)u?\)?", text):
+        numbers[name] = int(n)
+    return numbers, refusals
+
+
+def number_in(text, name):
+    return int(re.search(rf"\bconst {name}: \w+ = (-?[\d_]+);", text)[1].replace("_", ""))
+
+
+def library_numbers(texts):
+    """Each number of the library that C has, by its name in C."""
+    found = {}
+    for file in ("answers.rt", "numbers.rt"):
+        for name, n in re.findall(r"^(?:pub\(crate\) )?const (\w+): i32 = (-?\d+);", texts[LIBRARY + file], re.M):
+            if name not in NOT_IN_C:
+                found["KS_" + OTHER_NAMES.get(name, name)] = int(n)
+    reports = texts[LIBRARY + "client/reports.rt"]
+    for name, n in re.findall(r"^        Report::(\w+)(?:\(.*?\))? => (\d+),", reports, re.M):
+        name = snake(name).upper()
+        found["KS_" + OTHER_NAMES.get("REPORT_" + name, name)] = int(n)
+    peek = texts[LIBRARY + "peek.rt"]
+    for name, n in re.findall(r"^        Kind::(\w+) => (\d),", peek, re.M):
+        found["KS_" + name.upper()] = int(n)
+    found["KS_TYPE_HIDDEN"] = number_in(peek, "NO_KIND")
+    found["KS_NO_FORMAT"] = number_in(texts[LIBRARY + "crossing.rt"], "NO_FORMAT")
+    found["KS_VERSION"] = number_in(texts[LIBRARY + "version.rt"], "VERSION")
+    found["KS_DATAGRAM_ROOM"] = number_in(texts[TYPES + "limits.rt"], "MAX_MESSAGE_LEN")
+    path = texts[TYPES + "path.rt"]
+    # (each segment behind a slash, and each of its bytes in three)
+    found["KS_PATH_ROOM"] = number_in(path, "MAX_SEGMENTS") * (1 + 3 * number_in(path, "MAX_SEGMENT_LEN"))
+    head, token = texts[CODEC + "head.rt"], texts[TYPES + "token.rt"]
+    found["KS_REFUSAL_ROOM"] = number_in(head, "HEADER_LEN") + number_in(token, "MAX_TOKEN_LEN")
+    # (RFC 7252, section 12.1.1)
+    found.update({"KS_GET": 1, "KS_POST": 2, "KS_PUT": 3, "KS_DELETE": 4})
+    return found
+
+
+def number_faults(texts):
+    """Where numbers of the three differ, or two refusals have one."""
+    (numbers, refusals), wanted = header_numbers(texts[HEADER]), library_numbers(texts)
+    for name in sorted(numbers.keys() | wanted.keys()):
+        if numbers.get(name) != wanted.get(name):
+            yield f"{name} is {numbers.get(name)} in the header, and {wanted.get(name)} in the library"
+    for name, n in re.findall(r"^pub const (KS_\w+): \w+ = (-?\d+);", texts[RAW], re.M):
+        if numbers.get(name) != int(n):
+            yield f"{name} is {n} in raw.rs, and {numbers.get(name)} in the header"
+    owners = {0: "KS_OK", 1: "KS_DONE"}
+    for name in refusals:
+        owner = owners.setdefault(numbers[name], name)
+        if owner != name:
+            yield f"{name} and {owner} are both {numbers[name]}"
+    texts_of = dict(re.findall(r'case (KS_\w+): return "([^"]+)";', texts[HEADER]))
+    if sorted(texts_of) != sorted(["KS_OK", "KS_DONE", *refusals]):
+        yield f"ks_answer_text: {sorted(set(texts_of) ^ {'KS_OK', 'KS_DONE', *refusals})}"
+    if len(set(texts_of.values())) != len(texts_of):
+        yield "ks_answer_text says the same of two answers"
+
+
+def differences(texts):
+    """Where the three differ, a line each."""
+    found = [f"{what}: {is_}, not {wanted}" for what, is_, wanted in compared(texts) if is_ != wanted]
+    return found + list(number_faults(texts))
+
+
+# ---- Sizes -----------------------------------------------------------------------------------------------------------
+
+def layout(structs, kind):
+    """How many bytes a type has, and of which number its place is a multiple."""
+    array = re.fullmatch(r"\[(\w+); (\d+)\]", kind)
+    if array:
+        size, align = layout(structs, array[1])
+        return size * int(array[2]), align
+    if kind in PLAIN or kind == POINTER:
+        size = POINTER_LEN if kind == POINTER else PLAIN[kind][2]
+        return size, size
+    places, size, align = placed(structs, structs[snake(kind)])
+    return size, align
+
+
+def placed(structs, fields):
+    """Where C puts each field, how many bytes the struct has, and of which number its place is a multiple."""
+    places, end, most = [], 0, 1
+    for name, kind in fields:
+        size, align = layout(structs, kind)
+        end = -(-end // align) * align
+        places.append((name, end))
+        end, most = end + size, max(most, align)
+    return places, -(-end // most) * most, most
+
+
+def sizes(texts):
+    """Assertions, in C and in Rust, that each struct has the size of the library's, and each field its place."""
+    structs, in_c, in_rust_ = exports(texts)[1], [], []
+    for name, fields in structs.items():
+        places, size, align = placed(structs, fields)
+        in_c.append((f"sizeof ({name}) == {size}", f"_Alignof ({name}) == {align}"))
+        in_rust_.append((f"size_of::<raw::{name}>() == {size}", f"align_of::<raw::{name}>() == {align}"))
+        for field, place in places:
+            in_c.append((f"offsetof ({name}, {field}) == {place}",))
+            # (the handle's fields are private there)
+            if name != "ks_handle":
+                in_rust_.append((f"offset_of!(raw::{name}, {field}) == {place}",))
+    for name in WRAPPERS:
+        size = placed(structs, structs["ks_handle"])[1]
+        in_c.append((f"sizeof ({name}) == {size}",))
+        in_rust_.append((f"size_of::<raw::{name}>() == {size}",))
+    c = [f'_Static_assert({it}, "{it}");' for them in in_c for it in them]
+    rust = [f"const _: () = assert!({it});" for them in in_rust_ for it in them]
+    return "\n".join(['#include "knifesilver.h"', *c, ""]), "\n".join([
+        "#![allow(dead_code)]", f'#[path = "{TOP / RAW}"]', "mod raw;",
+        "use std::mem::{align_of, offset_of, size_of};", *rust, ""])
+
+
+# ---- Wrong declarations ----------------------------------------------------------------------------------------------
+
+# A file, and what is put in the place of what: `differences` has to name each.
+WRONG = (
+    (LIBRARY + "config.rt", "body_limit: u32,", "remembered: u32,", "remembered: u32,", "body_limit: u32,"),
+    (LIBRARY + "answers.rt", "NOT_LIVE: i32 = -1", "NOT_LIVE: i32 = -2", "NO_MEMORY: i32 = -2", "NO_MEMORY: i32 = -1"),
+    (LIBRARY + "version.rt", "VERSION: u32 = ", "VERSION: u32 = 1"),
+    (LIBRARY + "peek.rt", "Kind::Ack => 2", "Kind::Ack => 3", "Kind::Rst => 3", "Kind::Rst => 2"),
+    (HEADER, "uint8_t ip[4]; uint16_t port;", "uint16_t port; uint8_t ip[4];"),
+    (HEADER, "KS_PLAIN_FULL = 49", "KS_PLAIN_FULL = 48"),
+    (HEADER, "KS_SET_TOO_LARGE = 18", "KS_SET_TOO_LARGE = 1"),
+    (HEADER, "KS_TIMEOUT = 8", "KS_TIMEOUT = 9"),
+    (HEADER, "#define KS_PATH_ROOM 12256", "#define KS_PATH_ROOM 4096"),
+    (HEADER, "case KS_CANCEL_UNKNOWN:", "case KS_CANCEL_QUEUE_FULL:"),
+    (HEADER, "ks_server_due(ks_server *handle, uint64_t *at)", "ks_server_due(ks_server *handle, uint32_t *at)"),
+    (RAW, "KS_FAULT_SHORT: i32 = 81", "KS_FAULT_SHORT: i32 = 1"),
+    (RAW, "pub body_limit: u32,", "pub body_limit: u64,"),
+)
+
+
+def unnoticed(texts):
+    """The wrong declarations that `differences` says nothing of."""
+    for file, *changes in WRONG:
+        text = texts[file]
+        for old, new in zip(changes[::2], changes[1::2]):
+            if old not in text:
+                yield f"{file} has no {old!r}"
+            # (a mark, so that what was changed isn't changed back)
+            text = text.replace(old, "\0".join(new), 1)
+        if not differences({**texts, file: text.replace("\0", "")}):
+            yield f"{changes[1]!r} in {file}"

@@ -1,0 +1,192 @@
+// Tries knifesilver.hpp: each call of both ends, in one process and over no socket, what is refused, and moves.
+#include "knifesilver.hpp"
+#include "knifesilver_easy.h"
+#include <cstdio>
+#include <cstdlib>
+#include <type_traits>
+#if __has_include(<span>) && __cplusplus >= 202002L
+#include <span>
+#endif
+
+using namespace knifesilver;
+
+static_assert(!std::is_copy_constructible_v<Server> && !std::is_copy_constructible_v<Client>);
+static_assert(!std::is_copy_assignable_v<Server> && !std::is_copy_assignable_v<Client>);
+static_assert(std::is_move_constructible_v<Server> && std::is_move_assignable_v<Client>);
+static_assert(code(4, 4).number == KS_CODE(4, 04));
+
+#define WANT(holds)                                                                                                  \
+    do {                                                                                                             \
+        if (!(holds)) std::printf("%s:%d: not %s\n", __FILE__, __LINE__, #holds), std::exit(1);                      \
+    } while (0)
+
+static const Address here{{127, 0, 0, 1}, 40001}, there{{127, 0, 0, 1}, 5683};
+
+static std::uint64_t word() {
+    static std::uint64_t s = 88172645463325252u;
+    s ^= s << 13, s ^= s >> 7, s ^= s << 17;
+    return s;
+}
+
+// Both ends, and a network that carries what is out; what the server is told to have applied.
+struct Pair {
+    Server server;
+    Client client;
+    Moment now{0};
+    std::vector<Applied> applied{};
+
+    explicit Pair(const Config &config = {}) : server(config, word), client(there, config, word) {}
+
+    void turn() {
+        for (bool more = true; more;) {
+            more = false;
+            client.tick(now), server.tick(now);
+            while (auto out = client.next_out()) {
+                WANT(out->to.port == there.port);
+                server.feed(now, here, out->bytes), more = true;
+            }
+            while (auto out = server.next_out()) {
+                WANT(out->to.port == here.port);
+                client.feed(now, there, out->bytes), more = true;
+            }
+        }
+        while (auto it = server.next_applied()) applied.push_back(*it);
+    }
+
+    Report await() {
+        for (int i = 0; i < 100000; i++, now += Moment(50)) {
+            turn();
+            if (auto report = client.next_report()) return *report;
+        }
+        std::puts("no report"), std::exit(1);
+    }
+
+    Report ask(const Request &request) {
+        const auto id = client.call(now, request);
+        Report report = await();
+        WANT(report.id == id);
+        return report;
+    }
+};
+
+// The answer of the refusal that this throws; 0 where it throws none.
+template <class Call> static std::int32_t refused(Call call) {
+    try {
+        call();
+    } catch (const Refused &why) {
+        return why.answer();
+    }
+    return KS_OK;
+}
+
+static void of_requests() {
+    Pair it;
+    WANT(it.server.set(it.now, "temperature", "22.3 C", 0) == 1);
+    WANT(it.server.update(it.now, "temperature", "22.3 C", 0) == std::make_pair(std::uint64_t(1), false));
+    WANT(it.server.update(it.now, "temperature", "22.4 C", 0) == std::make_pair(std::uint64_t(2), true));
+    Report got = it.ask(Request::get("temperature"));
+    WANT(got.kind == KS_BODY && got.succeeded() && got.text() == "22.4 C" && got.format == Format(0)
+         && got.tag->size() == 8);
+    Request known = Request::get("temperature");
+    known.etags = {*got.tag};
+    WANT(it.ask(known).kind == KS_VALID);
+    Report put = it.ask(Request::put("lamp", std::string("on")));
+    WANT(put.kind == KS_SUCCESS && put.code == code(2, 1) && put.code.text() == "2.01");
+    WANT(it.applied.size() == 1 && it.applied[0].path == "/lamp" && it.applied[0].method == KS_PUT);
+    WANT(it.applied[0].version == 3 && it.applied[0].from.port == here.port && it.applied[0].token.size() <= 8);
+    WANT(it.applied[0].held && Bytes(it.applied[0].held->body).text() == "on" && it.applied[0].held->version == 3);
+    Request twice = Request::put("lamp", "off");
+    twice.if_none_match = true;
+    Report late = it.ask(twice);
+    WANT(late.failed() && late.code == code(4, 12) && !late.succeeded());
+    WANT(it.ask(Request::post("lamp", "!")).code == code(2, 4));
+    WANT(Bytes(it.server.get("lamp")->body).text() == "on!" && !it.server.get("lamp")->format);
+    WANT(it.ask(Request::del("lamp")).code == code(2, 2) && !it.server.get("lamp"));
+    WANT(it.server.remove(it.now, "temperature") && !it.server.remove(it.now, "temperature"));
+    WANT(it.ask(Request::get("lamp")).code == code(4, 4));
+    const std::vector<std::uint8_t> big(30000, 7);
+    WANT(it.ask(Request::put("big", big)).code == code(2, 1) && it.server.get("big")->body == big);
+    WANT(it.ask(Request::get("big")).body == big);
+}
+
+static void of_observations() {
+    Pair it;
+    it.server.set(it.now, "temperature", "1");
+    const auto id = it.client.observe(it.now, "temperature");
+    WANT(it.await().text() == "1");
+    it.server.set(it.now, "temperature", "2");
+    const Report second = it.await();
+    WANT(second.id == id && second.kind == KS_VALUE && second.text() == "2");
+    it.client.cancel(it.now, id);
+    WANT(it.await().kind == KS_CANCELLED && !it.client.forget(id));
+    const auto other = it.client.observe(it.now, "temperature");
+    WANT(it.await().id == other && it.client.forget(other));
+}
+
+static void of_refusals() {
+    Pair it;
+    const std::string deep(40, '/'), large(70000, 'x');
+    WANT(refused([&] { it.server.set(it.now, deep, ""); }) == KS_BAD_PATH);
+    WANT(refused([&] { it.server.set(it.now, "a", large); }) == KS_SET_TOO_LARGE);
+    for (int i = 0; i < 16; i++)
+        it.server.set_delay(std::to_string(i), Moment(5)), it.server.set_plain(std::to_string(i));
+    WANT(refused([&] { it.server.set_delay("another", Moment(5)); }) == KS_DELAY_FULL);
+    WANT(refused([&] { it.server.set_plain("another"); }) == KS_PLAIN_FULL);
+    for (int i = 0; i < 8; i++) it.client.call(it.now, Request::get("a"));
+    WANT(refused([&] { it.client.call(it.now, Request::get("a")); }) == KS_CALL_QUEUE_FULL);
+    WANT(refused([&] { it.client.cancel(it.now, 77); }) == KS_CANCEL_UNKNOWN);
+    Request tagged = Request::get("a");
+    tagged.etags = {Tag(9, 1)};
+    WANT(refused([&] { it.client.call(it.now, tagged); }) == KS_BAD_ARGUMENT);
+    tagged.etags = {Tag()};
+    WANT(refused([&] { it.client.call(it.now, tagged); }) == KS_BAD_ARGUMENT);
+    Config wrong{};
+    wrong.block_size = 17;
+    WANT(refused([&] { Server(wrong, word); }) == KS_BAD_BLOCK_SIZE);
+    try {
+        Client(there, wrong, word);
+        WANT(false);
+    } catch (const Refused &why) {
+        WANT(std::string(why.what()).find("ks_client_new") == 0);
+    }
+}
+
+static void of_moves() {
+    Server one({}, word);
+    one.set(Moment(0), "a", "b");
+    Server two = std::move(one);
+    WANT(two.get("a")->version == 1);
+    WANT(refused([&] { one.set(Moment(0), "a", "b"); }) == KS_NOT_LIVE);
+    one = Server();
+    WANT(!one.get("a"));
+    one = std::move(two);
+    WANT(one.get("a")->version == 1 && one.due() == std::nullopt);
+    Server &same = one;
+    one = std::move(same);
+    WANT(one.get("a")->version == 1);
+    std::vector<Client> many;
+    for (int i = 0; i < 20; i++) many.emplace_back(there, Config{}, word);
+    WANT(many[0].call(Moment(0), Request::get("a")) == many[19].call(Moment(0), Request::get("a")));
+    WANT(many[0].due().has_value());
+}
+
+#ifdef __cpp_lib_span
+static void of_spans() {
+    const std::uint8_t bytes[] = {'h', 'i'};
+    Server server({}, word);
+    server.set(Moment(0), "a", std::span(bytes));
+    WANT(Bytes(server.get("a")->body).text() == "hi"
+         && server.get("a")->body.size() == std::span(Bytes("hi")).size());
+}
+#else
+static void of_spans() {}
+#endif
+
+int main() {
+    of_requests();
+    of_observations();
+    of_refusals();
+    of_moves();
+    of_spans();
+    std::puts("knifesilver.hpp: passed");
+}

@@ -1,0 +1,119 @@
+//! The numbers of refusals and faults: those of each call stand apart, and none of them is 0 or 1.
+ghost use Rattle.std.specs.Prelude.{◌≡◌, ◌+◌, pos};
+ghost use Rattle.coap_client.specs.RefusalNumbers.{call_refusal_number, cancel_refusal_number};
+ghost use Rattle.coap_codec.specs.Faulty.{reason_number};
+ghost use Rattle.coap_resource.specs.Content.{refusal_number};
+
+use coap_codec::Reason;
+use coap_ends::{CallRefusal, CancelRefusal};
+use coap_resource::StoreRefusal;
+
+// A store that is not changed: 16, and the number of its refusal.
+const SET_MEMORY: i32 = 17;
+
+const SET_TOO_LARGE: i32 = 18;
+
+const SET_TOO_MANY_PATHS: i32 = 19;
+
+const SET_RATE_EXCEEDED: i32 = 20;
+
+const SET_VERSIONS_SPENT: i32 = 21;
+
+// A call that is not taken: 32, and the number of its refusal.
+const CALL_QUEUE_FULL: i32 = 33;
+
+const CALL_BODY_TOO_LARGE: i32 = 34;
+
+const CALL_BAD_PATH: i32 = 35;
+
+const CALL_MEMORY: i32 = 36;
+
+const CALL_WATCHES_FULL: i32 = 37;
+
+const CALL_CALLS_SPENT: i32 = 38;
+
+/// No further path is given a delay.
+pub(crate) const DELAY_FULL: i32 = 48;
+/// No further path is made plain.
+pub(crate) const PLAIN_FULL: i32 = 49;
+
+// A cancel that is not taken: 56, and the number of its refusal.
+const CANCEL_UNKNOWN: i32 = 57;
+
+const CANCEL_QUEUE_FULL: i32 = 58;
+
+// A datagram that is no message: 80, and the number of its first fault.
+const FAULT_SHORT: i32 = 81;
+
+const FAULT_VERSION: i32 = 82;
+
+const FAULT_TOKEN_LENGTH: i32 = 83;
+
+const FAULT_TOKEN_CUT: i32 = 84;
+
+const FAULT_EMPTY_NOT_BARE: i32 = 85;
+
+const FAULT_DELTA_RESERVED: i32 = 86;
+
+const FAULT_LENGTH_RESERVED: i32 = 87;
+
+const FAULT_OPTION_CUT: i32 = 88;
+
+const FAULT_NUMBER_TOO_LARGE: i32 = 89;
+
+const FAULT_NO_PAYLOAD: i32 = 90;
+
+/// The number of a refusal of the store.
+pub(crate) fn set_number(why: StoreRefusal) -> i32
+    ensures { result ≡ pos (16 + refusal_number why) }
+{
+    match why {
+        StoreRefusal::Memory => SET_MEMORY,
+        StoreRefusal::TooLarge => SET_TOO_LARGE,
+        StoreRefusal::TooManyPaths => SET_TOO_MANY_PATHS,
+        StoreRefusal::RateExceeded => SET_RATE_EXCEEDED,
+        StoreRefusal::VersionsSpent => SET_VERSIONS_SPENT,
+    }
+}
+
+/// The number of a refusal of a call.
+pub(crate) fn call_number(why: CallRefusal) -> i32
+    ensures { result ≡ pos (32 + call_refusal_number why) }
+{
+    match why {
+        CallRefusal::QueueFull => CALL_QUEUE_FULL,
+        CallRefusal::BodyTooLarge => CALL_BODY_TOO_LARGE,
+        CallRefusal::BadPath => CALL_BAD_PATH,
+        CallRefusal::Memory => CALL_MEMORY,
+        CallRefusal::WatchesFull => CALL_WATCHES_FULL,
+        CallRefusal::CallsSpent => CALL_CALLS_SPENT,
+    }
+}
+
+/// The number of a refusal of a cancel.
+pub(crate) fn cancel_number(why: CancelRefusal) -> i32
+    ensures { result ≡ pos (56 + cancel_refusal_number why) }
+{
+    match why {
+        CancelRefusal::Unknown => CANCEL_UNKNOWN,
+        CancelRefusal::QueueFull => CANCEL_QUEUE_FULL,
+    }
+}
+
+/// The number of a fault.
+pub(crate) fn fault_number(reason: Reason) -> i32
+    ensures { result ≡ pos (80 + reason_number reason) }
+{
+    match reason {
+        Reason::Short => FAULT_SHORT,
+        Reason::Version => FAULT_VERSION,
+        Reason::TokenLength => FAULT_TOKEN_LENGTH,
+        Reason::TokenCut => FAULT_TOKEN_CUT,
+        Reason::EmptyNotBare => FAULT_EMPTY_NOT_BARE,
+        Reason::DeltaReserved => FAULT_DELTA_RESERVED,
+        Reason::LengthReserved => FAULT_LENGTH_RESERVED,
+        Reason::OptionCut => FAULT_OPTION_CUT,
+        Reason::NumberTooLarge => FAULT_NUMBER_TOO_LARGE,
+        Reason::NoPayload => FAULT_NO_PAYLOAD,
+    }
+}
