@@ -1,0 +1,1 @@
+"""What tools/package makes packages with: the standard library of Python alone."""
