@@ -1,0 +1,8 @@
+mod Appended
+mod Bytes
+mod Seals
+mod Segments
+mod OneReading
+mod Written
+pub mod CutAnywhere
+pub mod Facts

@@ -1,0 +1,6 @@
+pub mod Frames
+pub mod Input
+pub mod Numbers
+pub mod Records
+pub mod Waking
+pub mod Whole

@@ -1,0 +1,13 @@
+//! Tests of the journal of a server and of its replay, by their public calls.
+#![tactic(auto)]
+
+#[cfg(test)]
+mod bytes_of_records;
+#[cfg(test)]
+mod lives;
+#[cfg(test)]
+mod reading_back;
+#[cfg(test)]
+mod replaying;
+#[cfg(test)]
+mod torn_files;

@@ -1,0 +1,39 @@
+use Rattle.std.proofs.Common.{[], ◌∷◌, ◌++◌, ◌+◌, ◌∙◌, sym, ap, refl, arith}
+use Rattle.coap_journal.specs.declared.beginning.Life.{Life}
+use Rattle.coap_replay.specs.Replaying.{last_life}
+use Rattle.coap_journal.proofs.Facts.{rest_is_less}
+use Rattle.coap_replay.proofs.Chains.{last_life_more, latest_more, record_framed, replays_more}
+use Rattle.coap_replay.proofs.replay.replay_frames.Goals as goal
+
+pub loop-body-init : goal.loop-body-init
+loop-body-init g c =
+    ([], [], record { bytes = refl; replays = (refl, refl); place = refl; life = refl; latest = refl })
+
+pub loop-body-smaller : goal.loop-body-smaller
+loop-body-smaller g c =
+    omega (
+      arith,
+      rest_is_less c.loop-body.at c.in-Some.body.now c.loop-body.rest.now c.in-Some.behind.now
+          c.in-Some.ensures.some,
+    )
+
+pub loop-body-preserved : goal.loop-body-preserved
+loop-body-preserved g c =
+    let so_far = c.loop-body.invariant in
+    let next = c.in_ok-further.ensures in (
+      so_far.0 ++ next.0 ∷ [],
+      so_far.1 ++ next.1,
+      record {
+        bytes = record_framed c.args.place c.loop-body.at c.args.bytes.now c.loop-body.rest.now c.in-Some.behind.now
+            c.in-Some.body.now so_far.0 next.0 so_far.2.bytes so_far.2.place c.in-Some.ensures.some next.2;
+        replays = replays_more _ so_far.0 so_far.1 _ next.0 next.1 _ so_far.2.replays next.3;
+        place = omega (
+          arith,
+          so_far.2.place,
+          rest_is_less c.loop-body.at c.in-Some.body.now c.loop-body.rest.now c.in-Some.behind.now c.in-Some.ensures.some,
+        );
+        life = next.4 ∙ ap (λ (l : Life). last_life l (next.0 ∷ [])) so_far.2.life
+            ∙ sym (last_life_more c.args.life so_far.0 next.0);
+        latest = next.5 _ ∙ sym (latest_more c.args.life.moment.0 so_far.0 next.0);
+      },
+    )
