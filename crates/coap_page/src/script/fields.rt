@@ -1,0 +1,86 @@
+//! The words of a line of a script.
+
+use crate::script::refusal::LineRefusal;
+use coap_types::{MAX_SEGMENT_LEN, MAX_SEGMENTS, Path};
+use coap_world::Side;
+use std::alloc::Allocator;
+use std::str;
+
+// What stands between two words.
+const SPACE: u8 = b' ';
+// What may stand before a number elsewhere.
+const PLUS: u8 = b'+';
+// What stands between two segments of a path.
+const SLASH: u8 = b'/';
+
+// What stands before the first such byte, and what stands behind it.
+fn cut_at(text: &[u8], byte: u8) -> Option<(&[u8], &[u8])> {
+    let at = text.iter().position(|other| *other == byte)?;
+    Some((&text[..at], &text[at + 1..]))
+}
+
+/// The first word of a line of several, and what comes behind the space after it.
+pub(super) fn cut(line: &[u8]) -> Result<(&[u8], &[u8]), LineRefusal> {
+    match cut_at(line, SPACE) {
+        Some(parts) => Ok(parts),
+        None => Err(LineRefusal::Unreadable),
+    }
+}
+
+/// The word that ends a line.
+pub(super) fn last_word(line: &[u8]) -> Result<&[u8], LineRefusal> {
+    match cut_at(line, SPACE) {
+        Some(_) => Err(LineRefusal::Unreadable),
+        None => Ok(line),
+    }
+}
+
+// Whether a plus stands first, which `parse` would read.
+fn has_plus(word: &[u8]) -> bool {
+    !word.is_empty() && word[0] == PLUS
+}
+
+/// The number of 64 bits that a word of decimal digits says.
+pub(super) fn number(word: &[u8]) -> Result<u64, LineRefusal> {
+    if has_plus(word) {
+        return Err(LineRefusal::Unreadable);
+    }
+    let Ok(text) = str::from_utf8(word) else {
+        return Err(LineRefusal::Unreadable);
+    };
+    match text.parse::<u64>() {
+        Ok(number) => Ok(number),
+        Err(_) => Err(LineRefusal::Unreadable),
+    }
+}
+
+/// The end that a word names.
+pub(super) fn side(word: &[u8]) -> Result<Side, LineRefusal> {
+    match word {
+        b"client" => Ok(Side::Client),
+        b"server" => Ok(Side::Server),
+        _ => Err(LineRefusal::Unreadable),
+    }
+}
+
+// The word, of which one leading slash is dropped.
+fn without_slash(word: &[u8]) -> &[u8] {
+    word.strip_prefix(b"/").unwrap_or(word)
+}
+
+/// The path that a word says: segments joined by `/`, where one leading `/` is dropped; `/` and the
+/// empty word are the path without segments.
+pub(crate) fn path<A: Allocator + Copy>(alloc: A, word: &[u8]) -> Result<Path<A>, LineRefusal>
+// The path is what the text of the word says, which says no other.
+// A word is refused only where what it says is no path, or for want of memory.
+{
+    let mut path = Path::new(alloc);
+    let rest = without_slash(word);
+    if rest.is_empty() {
+        return Ok(path);
+    }
+    for segment in rest.split(|byte| *byte == SLASH) {
+        path.push(segment)?;
+    }
+    Ok(path)
+}
