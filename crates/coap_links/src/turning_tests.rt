@@ -220,7 +220,10 @@ fn most_in_a_row(alloc: Global, n: u64) -> Result<(u64, u64), AllocError> {
     let mut tally = fresh_tally(0);
     let mut most = 0;
     for number in 1..=300 {
-        let failing = if number % n == 0 { 1 } else { 0 };
+        let failing = match u64::checked_rem(number, n) {
+            Some(0) => 1,
+            _ => 0,
+        };
         let happens = (1, failing, 0, false);
         most = failed_after(&mut end, &mut link, happens, &mut tally)?.max(most);
     }
