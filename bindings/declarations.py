@@ -10,10 +10,14 @@ import re
 HERE = pathlib.Path(__file__).resolve().parent
 TOP = HERE.parent
 HEADER = "bindings/include/knifesilver.h"
+NAMES = "bindings/include/ks_names.h"
 RAW = "bindings/rust/src/raw.rs"
 LIBRARY = "crates/knifesilver/src/"
 TYPES = "crates/coap_types/src/"
 CODEC = "crates/coap_codec/src/"
+# The exports of the exchanges, and their header, which takes in the other one.
+EXCHANGE = "crates/knifesilver_exchange/src/"
+EXCHANGE_HEADER = "bindings/include/knifesilver_exchange.h"
 
 # The types that cross: as the library has them; in C, in Rust, and how many bytes each has (each target has 64 bits).
 PLAIN = {
@@ -32,8 +36,8 @@ TEXTS = {("ks_server_applied", "room"), ("ks_peek", "room")}
 
 def read_all():
     """The texts that are compared, by file."""
-    files = [HEADER, RAW]
-    for folder in (LIBRARY, TYPES, CODEC):
+    files = [HEADER, EXCHANGE_HEADER, NAMES, RAW]
+    for folder in (LIBRARY, EXCHANGE, TYPES, CODEC):
         files += sorted(str(file.relative_to(TOP)) for file in (TOP / folder).glob("**/*.rt"))
     return {file: (TOP / file).read_text() for file in files}
 
@@ -61,9 +65,10 @@ def crossed(call, name, kind):
         const = "" if "mut" in kind else "const "
         text = name == "path" or (call, name) in TEXTS
         return [(f"{const}{'char' if text else 'void'} *", name), ("size_t", f"{name}_len")]
-    slice_of = re.fullmatch(r"&\[(Ks\w+)\]", kind)
+    slice_of = re.fullmatch(r"&\[(Ks\w+|u16)\]", kind)
     if slice_of:
-        return [(f"const {snake(slice_of[1])} *", name), ("size_t", f"{name}_len")]
+        of = IN_C.get(slice_of[1]) or snake(slice_of[1])
+        return [(f"const {of} *", name), ("size_t", f"{name}_len")]
     pointer = re.fullmatch(r"&(mut )?(\w+)", kind)
     if pointer:
         to = IN_C.get(pointer[2]) or snake(pointer[2])
@@ -75,11 +80,11 @@ EXPORT = r'pub extern "C" fn (\w+)\((.*?)\)\s*(?:->\s*(\w+))?\s*(?:ensures|\{)'
 STRUCT = r"#\[repr\(C\)\]\s*(?:#\[[^\]]*\]\s*)*pub struct (%s) \{(.*?)\n\}"
 
 
-def exports(texts):
+def exports(texts, library=LIBRARY):
     """The library's exports and their structs, as the header should declare them."""
     calls, structs = {}, {}
     for file, text in texts.items():
-        if not file.startswith(LIBRARY):
+        if not file.startswith(library):
             continue
         text = uncommented(text)
         for call, params, result in re.findall(EXPORT, text, re.S):
@@ -102,8 +107,8 @@ def c_field(name, kind):
     return f"{IN_C.get(kind) or snake(kind)} {name}"
 
 
-def header(texts):
-    text = uncommented(texts[HEADER])
+def header(texts, file=HEADER):
+    text = uncommented(texts[file])
     calls, structs = {}, {}
     for result, call, params in re.findall(r"^(\w+) (ks_\w+)\((.*?)\);", text, re.M | re.S):
         given = [] if params == "void" else params.split(",")
@@ -153,6 +158,42 @@ def compared(texts):
         yield f"{name} in raw.rs", r_structs.get(name), [(field, rust_field(kind)) for field, kind in fields]
     for name in WRAPPERS:
         yield name, (c_structs.get(name), r_structs.get(name)), (["ks_handle handle"], [("handle", "ks_handle")])
+
+
+def compared_exchange(texts):
+    """The same of the exchanges, which have no Rust crate yet; some of their structs stand in the other header."""
+    (calls, structs), (c_calls, c_structs) = exports(texts, EXCHANGE), header(texts, EXCHANGE_HEADER)
+    others = header(texts)[1]
+    # (the other header has a ks_request already)
+    calls = {call: (result, [(kind.replace("ks_request *", "ks_request_told *"), name) for kind, name in params])
+             for call, (result, params) in calls.items()}
+    structs = {"ks_request_told" if name == "ks_request" else name: fields for name, fields in structs.items()}
+    yield "calls of the header of the exchanges", sorted(c_calls), sorted(calls)
+    for call, (result, params) in calls.items():
+        yield f"{call} in the header", c_calls.get(call), (result, params)
+    for name, fields in structs.items():
+        shown = c_structs.get(name) or others.get(name)
+        yield f"{name} in the header", shown, [c_field(field, kind) for field, kind in fields]
+    yield "ks_answerer", c_structs.get("ks_answerer"), ["ks_handle handle"]
+
+
+def exchange_numbers(texts):
+    """Where numbers of the exchanges differ, or one is taken already."""
+    ours, theirs = header_numbers(texts[EXCHANGE_HEADER])[0], header_numbers(texts[HEADER])[0]
+    found = {"KS_READY": number_in(texts[EXCHANGE + "answerer/turns.rt"], "READY")}
+    for name, n in re.findall(r"^const (\w+): i32 = (\d+);", texts[EXCHANGE + "numbers.rt"], re.M):
+        found["KS_" + name] = int(n)
+    for name, n in re.findall(r"^pub\(crate\) const (\w+): i32 = (-?\d+);", texts[EXCHANGE + "answers.rt"], re.M):
+        name = "KS_" + OTHER_NAMES.get(name, name)
+        if name[3:] not in NOT_IN_C and theirs.get(name) != int(n):
+            yield f"{name} is {theirs.get(name)} in the header, and {n} in the library of the exchanges"
+    for name in sorted(ours.keys() | found.keys()):
+        if ours.get(name) != found.get(name):
+            yield f"{name} is {ours.get(name)} in the header, and {found.get(name)} in the library of the exchanges"
+    taken = {n for name, n in theirs.items() if name in header_numbers(texts[HEADER])[1]}
+    for name, n in ours.items():
+        if name != "KS_READY" and (n in taken or list(ours.values()).count(n) > 1):
+            yield f"{name} is {n}, which another refusal is"
 
 
 # ---- Numbers ---------------------------------------------------------------------------------------------------------
@@ -218,11 +259,13 @@ def number_faults(texts):
     for name, n in re.findall(r"^pub const (KS_\w+): \w+ = (-?\d+);", texts[RAW], re.M):
         if numbers.get(name) != int(n):
             yield f"{name} is {n} in raw.rs, and {numbers.get(name)} in the header"
+    # (a header without proofs has refusals of its own)
+    more, more_refusals = header_numbers(texts[NAMES])
     owners = {0: "KS_OK", 1: "KS_DONE"}
-    for name in refusals:
-        owner = owners.setdefault(numbers[name], name)
+    for name, n in [(it, numbers[it]) for it in refusals] + [(it, more[it]) for it in more_refusals]:
+        owner = owners.setdefault(n, name)
         if owner != name:
-            yield f"{name} and {owner} are both {numbers[name]}"
+            yield f"{name} and {owner} are both {n}"
     texts_of = dict(re.findall(r'case (KS_\w+): return "([^"]+)";', texts[HEADER]))
     if sorted(texts_of) != sorted(["KS_OK", "KS_DONE", *refusals]):
         yield f"ks_answer_text: {sorted(set(texts_of) ^ {'KS_OK', 'KS_DONE', *refusals})}"
@@ -232,8 +275,9 @@ def number_faults(texts):
 
 def differences(texts):
     """Where the three differ, a line each."""
-    found = [f"{what}: {is_}, not {wanted}" for what, is_, wanted in compared(texts) if is_ != wanted]
-    return found + list(number_faults(texts))
+    pairs = [*compared(texts), *compared_exchange(texts)]
+    found = [f"{what}: {is_}, not {wanted}" for what, is_, wanted in pairs if is_ != wanted]
+    return found + list(number_faults(texts)) + list(exchange_numbers(texts))
 
 
 # ---- Sizes -----------------------------------------------------------------------------------------------------------
@@ -289,8 +333,6 @@ def sizes(texts):
 
 # A file, and what is put in the place of what: `differences` has to name each.
 WRONG = (
-    (LIBRARY + "config.rt", "body_limit: u32,", "remembered: u32,", "remembered: u32,", "body_limit: u32,"),
-    (LIBRARY + "answers.rt", "NOT_LIVE: i32 = -1", "NOT_LIVE: i32 = -2", "NO_MEMORY: i32 = -2", "NO_MEMORY: i32 = -1"),
     (LIBRARY + "version.rt", "VERSION: u32 = ", "VERSION: u32 = 1"),
     (LIBRARY + "peek.rt", "Kind::Ack => 2", "Kind::Ack => 3", "Kind::Rst => 3", "Kind::Rst => 2"),
     (HEADER, "uint8_t ip[4]; uint16_t port;", "uint16_t port; uint8_t ip[4];"),
@@ -300,19 +342,42 @@ WRONG = (
     (HEADER, "#define KS_PATH_ROOM 12256", "#define KS_PATH_ROOM 4096"),
     (HEADER, "case KS_CANCEL_UNKNOWN:", "case KS_CANCEL_QUEUE_FULL:"),
     (HEADER, "ks_server_due(ks_server *handle, uint64_t *at)", "ks_server_due(ks_server *handle, uint32_t *at)"),
+    (NAMES, "KS_NAMES_FULL = 96", "KS_NAMES_FULL = 49"),
+    (EXCHANGE_HEADER, "KS_ANSWER_GIVEN = 113", "KS_ANSWER_GIVEN = 112"),
+    (EXCHANGE_HEADER, "uint64_t delay_ms);", "uint32_t delay_ms);"),
+    (EXCHANGE + "crossing.rt", "pub id: u16,", "pub id: u32,"),
     (RAW, "KS_FAULT_SHORT: i32 = 81", "KS_FAULT_SHORT: i32 = 1"),
     (RAW, "pub body_limit: u32,", "pub body_limit: u64,"),
 )
 
 
+# Two numbers, or two fields, of one file that are swapped: `check --declarations` is red on a copy with each.
+SWAPPED = (
+    (HEADER, "KS_TIMEOUT = 8", "KS_TIMEOUT = 9", "KS_RESET = 9", "KS_RESET = 8"),
+    (HEADER, "KS_CANCEL_UNKNOWN = 57", "KS_CANCEL_UNKNOWN = 58", "KS_CANCEL_QUEUE_FULL = 58",
+     "KS_CANCEL_QUEUE_FULL = 57"),
+    (RAW, "KS_FAULT_SHORT: i32 = 81", "KS_FAULT_SHORT: i32 = 82", "KS_FAULT_VERSION: i32 = 82",
+     "KS_FAULT_VERSION: i32 = 81"),
+    (LIBRARY + "config.rt", "body_limit: u32,", "remembered: u32,", "remembered: u32,", "body_limit: u32,"),
+    (LIBRARY + "answers.rt", "NOT_LIVE: i32 = -1", "NOT_LIVE: i32 = -2", "NO_MEMORY: i32 = -2", "NO_MEMORY: i32 = -1"),
+)
+
+
+def changed(text, changes):
+    """A text with these changes, each of what stands there to what is put in its place; None where that isn't there."""
+    for old, new in zip(changes[::2], changes[1::2]):
+        if old not in text:
+            return None
+        # (a mark, so that what was changed isn't changed back)
+        text = text.replace(old, "\0".join(new), 1)
+    return text.replace("\0", "")
+
+
 def unnoticed(texts):
     """The wrong declarations that `differences` says nothing of."""
-    for file, *changes in WRONG:
-        text = texts[file]
-        for old, new in zip(changes[::2], changes[1::2]):
-            if old not in text:
-                yield f"{file} has no {old!r}"
-            # (a mark, so that what was changed isn't changed back)
-            text = text.replace(old, "\0".join(new), 1)
-        if not differences({**texts, file: text.replace("\0", "")}):
+    for file, *changes in WRONG + SWAPPED:
+        text = changed(texts[file], changes)
+        if text is None:
+            yield f"{file} has none of {changes[::2]}"
+        elif not differences({**texts, file: text}):
             yield f"{changes[1]!r} in {file}"

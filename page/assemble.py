@@ -2,6 +2,7 @@
 """Makes the page of a module: assemble.py MODULE.wasm README.md PAGE.html
 
 The premises are the words of README."""
+
 import base64
 import json
 import pathlib
@@ -9,21 +10,49 @@ import re
 import sys
 
 HERE = pathlib.Path(__file__).resolve().parent
-SCRIPTS = ("module", "record", "promises", "premises", "broken", "stories")
-SCRIPTS += ("network", "ladder", "drag", "picture", "page", "controls")
+SCRIPTS = ("module", "record", "facts", "promises", "premises", "stories", "broken")
+SCRIPTS += ("network", "ladder", "strangers", "drag", "picture", "link", "page", "inspect", "play", "controls")
 MOST_BYTES = 2_000_000
 
 
+class Lacking(Exception):
+    """README lacks what the page cites."""
+
+
+def numbered(text):
+    """The lists (1) .., (2) .., in a text, or 1. .., 2. .., a line each: each in its order from 1."""
+    lists = []
+    text = re.sub(r"^(\d)\. ", r"(\1) ", text, flags=re.M)
+    for number, words in re.findall(r"\((\d)\)\s+(.*?)(?=\(\d\)\s|\Z)", text, re.S):
+        if number == "1":
+            lists.append([])
+        if lists and int(number) == len(lists[-1]) + 1:
+            lists[-1].append(words)
+    return lists
+
+
+def sentence(words):
+    """What a number says: up to the next number or the end of the sentence, on one line."""
+    words = re.split(r"\n\s*\n", words)[0]
+    words = re.sub(r"\s+", " ", words).strip()
+    return re.split(r"[.;](?= |$)", words)[0].removesuffix(" -").removesuffix(" and").strip(" -,")
+
+
+def cited():
+    """The words by which premises.js finds a premise."""
+    return re.findall(r'^const [A-Z]+ = "(.*)";', (HERE / "premises.js").read_text(), re.M)
+
+
 def premises(readme):
-    """The premises of the promise, as README numbers them. Those that premises.js cites are there once each."""
-    found = re.search(r"It holds where (\(1\) .*?)\n\n", readme, re.S)
-    assert found, "README has no premises"
-    parts = re.split(r"; (?=\(\d\) )", re.sub(r"\s+", " ", found[1]))
-    parts[-1] = parts[-1].split(". ")[0].rstrip(".")
-    assert [it[:4] for it in parts] == [f"({i}) " for i in range(1, len(parts) + 1)], parts
-    for words in re.findall(r'^const [A-Z]+ = "(.*)";', (HERE / "premises.js").read_text(), re.M):
-        assert sum(words in it for it in parts) == 1, f"no premise has the words: {words}"
-    return parts
+    """The premises of the promise, as README numbers them: "(1) ..", "(2) ..". Each that premises.js cites is there
+    once."""
+    lists = [[sentence(it) for it in words] for words in numbered(readme)]
+    wanted = cited()
+    for found in lists:
+        if all(sum(words in it for it in found) == 1 for words in wanted):
+            return [f"({number}) {it}" for number, it in enumerate(found, 1)]
+    words = ", ".join(f"“{it}”" for it in wanted)
+    raise Lacking(f"README has no numbered premises, (1) to the last, in which each of these stands once: {words}")
 
 
 def main():
@@ -45,4 +74,8 @@ def main():
     page.write_text(text)
 
 
-main()
+if __name__ == "__main__":
+    try:
+        main()
+    except Lacking as why:
+        sys.exit(f"assemble.py: {why}")

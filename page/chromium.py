@@ -9,6 +9,11 @@ import tempfile
 import time
 
 
+from driven import ENDED
+
+NAME = "Chromium"
+
+
 def program():
     for name in ("chromium", "chromium-browser", "google-chrome"):
         if shutil.which(name):
@@ -64,12 +69,11 @@ class Page:
                     raise RuntimeError(f"{method}: {got['error']}")
                 return got["result"]
 
-    def go(self, url):
+    def go(self, url, until=ENDED):
         self.ask("Page.navigate", url="about:blank")
         self.ask("Page.navigate", url=url)
         for _ in range(200):
-            fault = "document.getElementById('fault')?.hidden === false"
-            if self.run(f"document.body && (document.body.dataset.ready || {fault}) || ''"):
+            if self.run(f"document.body && ({until}) || ''"):
                 return
             time.sleep(0.05)
         raise RuntimeError("the page does not get ready")
@@ -80,8 +84,11 @@ class Page:
             raise RuntimeError(json.dumps(got["exceptionDetails"])[:600])
         return got["result"].get("value")
 
-    def size(self, width, height):
-        self.ask("Emulation.setDeviceMetricsOverride", width=width, height=height, deviceScaleFactor=1, mobile=False)
+    def size(self, width, height, is_phone=False):
+        """The size of the page; on a phone it is touched, too."""
+        words = {"width": width, "height": height, "deviceScaleFactor": 1, "mobile": is_phone}
+        self.ask("Emulation.setDeviceMetricsOverride", **words)
+        self.ask("Emulation.setTouchEmulationEnabled", enabled=is_phone)
 
     def mouse(self, kind, x, y, down=False):
         pressed = down or kind == "mousePressed"
@@ -89,25 +96,35 @@ class Page:
         words = {"type": kind, "x": x, "y": y, "button": button, "buttons": int(pressed), "clickCount": 1}
         self.ask("Input.dispatchMouseEvent", **words)
 
-    def key(self, name):
-        codes = {"Tab": 9, "Delete": 46, "ArrowDown": 40, "ArrowUp": 38, "ArrowRight": 39}
+    def finger(self, places):
+        """A finger goes down at the first of these places, over the others, and up at the last."""
+        for kind, place in zip(["touchStart", *["touchMove"] * (len(places) - 1)], places):
+            self.ask("Input.dispatchTouchEvent", type=kind, touchPoints=[{"x": place[0], "y": place[1]}])
+        self.ask("Input.dispatchTouchEvent", type="touchEnd", touchPoints=[])
+
+    def key(self, name, shift=False):
+        codes = {"Tab": 9, "Enter": 13, "Escape": 27, "Delete": 46, "ArrowDown": 40, "ArrowUp": 38, "ArrowRight": 39}
         code = codes.get(name) or ord(name)
-        words = {"key": name, "windowsVirtualKeyCode": code}
-        text = {"text": name} if len(name) == 1 else {}
+        words = {"key": name, "windowsVirtualKeyCode": code, "modifiers": 8 * shift}
+        text = {"text": "\r" if name == "Enter" else name} if len(name) == 1 or name == "Enter" else {}
         self.ask("Input.dispatchKeyEvent", type="keyDown", **words, **text)
         self.ask("Input.dispatchKeyEvent", type="keyUp", **words)
+
+    def colours(self, scheme):
+        self.ask("Emulation.setEmulatedMedia", features=[{"name": "prefers-color-scheme", "value": scheme}])
+
+    def accessible(self):
+        """What a screen reader sees: the roles and names of the page."""
+        self.ask("Accessibility.enable")
+        nodes = self.ask("Accessibility.getFullAXTree")["nodes"]
+        self.ask("Accessibility.disable")
+        word = lambda node, of: node.get(of, {}).get("value", "")  # noqa: E731
+        return [(word(it, "role"), word(it, "name")) for it in nodes if not it["ignored"]]
 
     def click(self, x, y):
         self.mouse("mouseMoved", x, y)
         self.mouse("mousePressed", x, y)
         self.mouse("mouseReleased", x, y)
-
-    def middle(self, selector, index=0):
-        """The middle of an element, in the window."""
-        return self.run(f"""(() => {{
-            const it = document.querySelectorAll({json.dumps(selector)})[{index}].getBoundingClientRect();
-            return [it.x + it.width / 2, it.y + it.height / 2];
-        }})()""")
 
     def shot(self, file):
         with open(file, "wb") as it:

@@ -48,10 +48,15 @@ const KEYS = {
   Backspace: (out) => does.lose(out),
   1: (out) => does.once(out),
   2: (out) => does.twice(out),
+  Enter: () => enterDatagram(),
 };
 
 function onKey(event) {
-  if (/TEXTAREA|INPUT|SELECT|BUTTON|A|SUMMARY|PRE/.test(event.target.tagName)) return;
+  if (event.key === "Escape") {
+    leaveDatagram();
+    return;
+  }
+  if (/^(TEXTAREA|INPUT|SELECT|BUTTON|A|SUMMARY|PRE)$/.test(event.target.tagName)) return;
   const out = event.target.closest?.(".gram") ? chosen() : null;
   const act = out ? KEYS[event.key] : { " ": play, ArrowRight: step }[event.key];
   if (!act && !{ " ": 1, ArrowRight: 1 }[event.key]) return;
@@ -80,20 +85,17 @@ function makeControls() {
   on("play", "click", play);
   on("step", "click", () => { stop(); step(); });
   on("all", "click", () => showUpTo(Infinity));
-  on("latency", "input", () => change({ latency: clamp(10 ** $("latency").value, 1, 5000) }));
+  on("latency", "input", () => change({ latency: clamp(10 ** $("latency").value, LEAST_DELAY_MS, MOST_LATENCY_MS) }));
   on("lines", "input", () => change({ lines: $("lines").value }));
-  on("plains", "input", () => change({ plains: $("plains").value }));
+  on("plains", "input", () => change({ plains: $("plains").value, script: state.script }));
   on("quiet", "click", () => change({ fates: {} }));
   on("shake", "click", shake);
   on("many", "click", () => shakeMany(100));
   on("broken", "click", () => showBroken((state.broken + 1) % BROKEN.length));
   on("copy", "click", copyLink);
   on("hex", "input", showDatagram);
-  on("run-script", "click", () => {
-    stop();
-    state.shown = Infinity;
-    show(runScript(module_, $("script").value, plainPaths()));
-  });
+  on("run-script", "click", () => take({ ...state, script: $("script").value }));
+  on("leave", "click", () => choose(null));
   on("strange-send", "click", () => {
     ask(`stranger ${$("strange-end").value} ${$("strange-port").value} ${$("strange-hex").value.replace(/\s/g, "")}`);
   });
@@ -111,12 +113,13 @@ function bytesOfBase64(text) {
 }
 
 async function start() {
+  $("fault").hidden = true;
   try {
     module_ = await openModule(bytesOfBase64(MODULE));
   } catch (why) {
     $("fault").hidden = false;
-    $("fault").textContent = `This browser can't run the page (${why.message}). It needs WebAssembly with 64-bit ` +
-      "memory: Chrome and Edge have it from version 133 on, and Firefox from 134 on.";
+    $("fault").textContent = `This browser can't run the page (${why.message}). ${$("fault").textContent}`;
+    document.body.dataset.fault = "yes";
     return;
   }
   $("loaded").textContent = `${(MODULE_BYTES / 1024).toFixed(0)} KiB of WebAssembly`;

@@ -4,6 +4,11 @@ const SVG = "http://www.w3.org/2000/svg";
 const COLORS = 8;
 const WIDE = { width: 1120, time: 58, client: 340, server: 800, beside: true, mostNote: 42, mostLabel: 62 };
 const NARROW = { width: 440, time: 34, client: 44, server: 396, beside: false, mostNote: 34, mostLabel: 40 };
+// With the lines of strangers, notes stand between the two ends.
+const CROWDED = {
+  width: 1120, time: 58, client: 110, server: 560, columns: [810, 1050], beside: false, mostNote: 42, mostLabel: 62,
+  mostStrange: 38,
+};
 
 // The colour of a version (colors.css).
 const colorOf = (version) => `var(--v${((version - 1) % COLORS) + 1})`;
@@ -16,8 +21,6 @@ function el(name, attributes, ...children) {
 }
 
 // ---- Words ----
-
-const msWords = (ms) => (ms < 1000 ? `${ms} ms` : `${String(ms / 1000)} s`);
 
 function bodyWords(hex, most = 20) {
   if (!hex || hex === "-") return "empty";
@@ -33,7 +36,7 @@ function shortWords(words) {
   const found = /^(\w+) (\S+) (\w+) \[\w*\] ?(.*)$/.exec(words);
   if (!found) return words;
   const rest = found[4]
-    .replace(/ETag 0*([0-9a-f]+)/, (_, tag) => `v${parseInt(tag, 16)}`)
+    .replace(/(ETag|If-Match) 0*([0-9a-f]+)/g, (_, name, tag) => `${name === "ETag" ? "" : "if "}v${parseInt(tag, 16)}`)
     .replace(/, Content-Format 0/, "");
   return `${found[1]} ${found[3]} ${rest}`;
 }
@@ -58,10 +61,11 @@ function changerWords(applied) {
   return applied.isCall ? `${applied.method} of ${applied.call}: ` : `${applied.method} of a stranger: `;
 }
 
+// A report, with its age where the path no longer holds it.
 function reportWords(it) {
   const isValue = it.hex !== undefined;
   const text = isValue ? `v${it.version} ${bodyWords(it.hex, 14)}` : [it.what, ...it.rest].join(" ");
-  return `${it.call}: ${text}`;
+  return `${it.call}: ${text}${it.age ? `, ${ageWords(it.age)}` : ""}`;
 }
 
 const FAILURES = /^(timeout|failed|reset|no-|bad-|too-|changed)/;
@@ -89,7 +93,10 @@ function noteOf(it, turn, applied) {
       const color = it.version ? colorOf(it.version) : FAILURES.test(it.what) ? "var(--bad)" : "var(--good)";
       return { side: "client", text: reportWords(it), color, strong: true };
     }
-    case "stranger": return { side: it.end, text: `stranger: ${shortWords(it.words)}`, color: "var(--soft)" };
+    case "stranger": {
+      const text = `stranger at ${it.from.split(":")[1]}: ${shortWords(it.words)}`;
+      return { side: it.end, text, color: "var(--soft)" };
+    }
     case "memory": return { side: "server", text: "no memory: counts as lost", color: "var(--bad)" };
     default: return null;
   }
@@ -99,6 +106,7 @@ function noteOf(it, turn, applied) {
 
 function layOut(turns, latency) {
   const layout = { y: 74, moment: null, moments: [], notes: [], held: [], known: [], sent: new Map(), latency };
+  Object.assign(layout, { strange: [], strangers: strangersIn(turns) });
   for (const turn of turns) layTurn(layout, turn);
   return { ...layout, sent: [...layout.sent.values()], height: layout.y + 60 };
 }
@@ -123,7 +131,8 @@ function layTurn(layout, turn) {
       layout.y += 4;
       continue;
     }
-    layNote(layout, noteOf(it, turn, applied));
+    if (it.kind === "stranger") layStranger(layout, it, noteOf(it, turn));
+    else layNote(layout, noteOf(it, turn, applied));
     if (it.kind === "holds" || it.kind === "gone") applied = null;
     if (it.kind === "holds") layout.held.push({ y: layout.y, version: it.version, lane: it.path });
     if (it.kind === "gone") layout.held.push({ y: layout.y, lane: it.path });
@@ -184,7 +193,10 @@ function drawLadder(svg, layout, place, does) {
   drawEnd(svg, place.client, "client", ENDS.client, layout.known, end);
   drawEnd(svg, place.server, "server", ENDS.server, layout.held, end);
   const labels = el("g", { class: "labels" });
-  for (const sent of layout.sent) drawDatagram(svg, labels, sent, place, does);
+  drawStrangers(svg, labels, layout, place, end);
+  for (const sent of layout.sent) {
+    drawDatagram(svg, labels, sent, { ...place, to: columnOf(layout, place, sent.out.to) }, does);
+  }
   svg.append(labels);
   for (const note of layout.notes) drawNote(svg, note, place);
 }
@@ -256,7 +268,7 @@ function drawDatagram(svg, labels, sent, place, does) {
   }
   for (const arrival of sent.arrivals) drawArrow(g, labels, sent, arrival, ends, color, isRight);
   const comes = delays.length > 0;
-  if (sent.arrivals.length === 0) drawStub(g, labels, sent, ends, color, { isRight, between, comes });
+  if (sent.arrivals.length === 0) drawStub(g, labels, sent, ends, color, { isRight, between, comes, to: place.to });
   drawLabel(labels, sent, ends[0], isRight, place, does);
   if (between) {
     drawTools(g, sent, ends[1], isRight, does);
@@ -266,22 +278,30 @@ function drawDatagram(svg, labels, sent, place, does) {
   svg.append(g);
 }
 
-// What a datagram says, above the end that it leaves.
+// What a datagram says, above the end that it leaves, and to whom, where it goes to neither end.
 function drawLabel(labels, { out, y }, from, isRight, place, does) {
   const copy = out.first === out.n ? "" : `= ${out.first} again  `;
-  const words = cut(`${out.n}  ${copy}${shortWords(out.words)}`, place.mostLabel);
+  const elsewhere = isBetween(out) || place.to ? "" : `, to port ${out.to.split(":")[1]}`;
+  const words = cut(`${out.n}  ${copy}${shortWords(out.words)}${elsewhere}`, place.mostLabel);
   const kind = `label${copy ? " again" : ""}${does.isChosen(out.key) ? " chosen" : ""}`;
-  const at = { x: from + (isRight ? 10 : -10), y: y - 5, "text-anchor": isRight ? "start" : "end" };
+  const toRight = isRight || place.to;
+  const x = place.to ? place[out.end] + 16 : from + (isRight ? 10 : -10);
+  const at = { x, y: y - 5, "text-anchor": toRight ? "start" : "end" };
   labels.append(el("text", { class: kind, "data-key": out.key, ...at }, words));
+}
+
+// A shaft and a head.
+function arrow({ x1, y1, x2, y2 }, color) {
+  const angle = Math.atan2(y2 - y1, x2 - x1);
+  const corner = (d) => `${x2 - 9 * Math.cos(angle + d)},${y2 - 9 * Math.sin(angle + d)}`;
+  const head = el("polygon", { points: `${x2},${y2} ${corner(0.4)} ${corner(-0.4)}`, fill: color });
+  return [el("line", { class: "shaft", x1, y1, x2, y2, stroke: color }), head];
 }
 
 function drawArrow(g, labels, sent, arrival, [x1, x2], color, isRight) {
   const line = { x1, y1: sent.y, x2, y2: arrival.y };
-  const shaft = el("line", { class: "shaft", ...line, stroke: color });
+  const [shaft, head] = arrow(line, color);
   if (arrival.index > 0) shaft.setAttribute("stroke-dasharray", "6 4");
-  const angle = Math.atan2(arrival.y - sent.y, x2 - x1);
-  const corner = (d) => `${x2 - 9 * Math.cos(angle + d)},${arrival.y - 9 * Math.sin(angle + d)}`;
-  const head = el("polygon", { points: `${x2},${arrival.y} ${corner(0.4)} ${corner(-0.4)}`, fill: color });
   g.append(el("line", { class: "hit", ...line }), shaft, head);
   if (!arrival.say) return;
   const at = { x: isRight ? x2 - 14 : x2 + 14, y: arrival.y + 12, "text-anchor": isRight ? "end" : "start" };
@@ -289,7 +309,12 @@ function drawArrow(g, labels, sent, arrival, [x1, x2], color, isRight) {
 }
 
 // A datagram that does not arrive here: it is lost, it is on its way, or it goes elsewhere.
-function drawStub(g, labels, sent, [x1, x2], color, { isRight, between, comes }) {
+function drawStub(g, labels, sent, [x1, x2], color, { isRight, between, comes, to: column }) {
+  if (column) {
+    const line = { x1: isRight ? x1 : x1 + 12, y1: sent.y, x2: column - 6, y2: sent.y + 6 };
+    g.append(el("line", { class: "hit", ...line }), ...arrow(line, color));
+    return;
+  }
   const to = between ? x1 + (x2 - x1) * 0.5 : x1 + (isRight ? -46 : 46);
   const y2 = between ? sent.y + 12 : sent.y;
   const line = { x1, y1: sent.y, x2: to, y2 };

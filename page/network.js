@@ -113,7 +113,8 @@ function simulate(module, actions, delaysOf, plains) {
 
 // A script as `coap sim` takes it, with its own ticks and deliveries.
 function runScript(module, script, plains) {
-  const list = script.replace(/\n$/, "").split("\n").map((text, number) => {
+  const lines = script === "" ? [] : script.replace(/\n$/, "").split("\n");
+  const list = lines.map((text, number) => {
     const [at, word, rest] = text.split(" ");
     const delivers = word === "deliver" ? Number(rest) : undefined;
     const isAction = !["deliver", "tick", "stranger"].includes(word);
@@ -128,4 +129,16 @@ function runScript(module, script, plains) {
     }
   }
   return { ...ran, script };
+}
+
+// What a script asks for and what its network does, as the page has these: the ticks are left out, and each datagram
+// arrives as late as the script has it. A delivery at the moment of the sending comes one millisecond late.
+function readInto({ run, list }) {
+  const lines = list.filter((it) => !it.isTick && it.delivers === undefined).map((it) => it.text).join("\n");
+  const fates = Object.fromEntries(run.outs.filter(isBetween).map((it) => [it.key, []]));
+  for (const { event } of run.turns) {
+    const out = run.outs[event.delivers];
+    if (out) fates[out.key].push(Math.max(event.delay, 1));
+  }
+  return { lines, fates };
 }

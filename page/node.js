@@ -7,9 +7,10 @@ const fs = require("fs");
 const path = require("path");
 const vm = require("vm");
 
-const FILES = ["module", "record", "promises", "premises", "stories", "network", "drag"];
-vm.runInThisContext("const PREMISES = [];\n" + FILES.map((it) => fs.readFileSync(path.join(__dirname, `${it}.js`), "utf8")).join("\n") +
-  "\nObject.assign(globalThis, { openModule, actionsOf, readRecord, simulate, promisesIn, STORIES, clamp });");
+const FILES = ["module", "record", "facts", "promises", "premises", "stories", "network", "drag"];
+const USED = "{ openModule, actionsOf, simulate, runScript, markAges, promisesIn, brokenIn, STORIES, clamp }";
+const SOURCES = FILES.map((it) => fs.readFileSync(path.join(__dirname, `${it}.js`), "utf8"));
+vm.runInThisContext(`const PREMISES = [];\n${SOURCES.join("\n")}\nObject.assign(globalThis, ${USED});`);
 
 // Random numbers of a seed (xorshift), so that a failure comes again.
 function randomOf(seed) {
@@ -71,7 +72,7 @@ function randomScript(module, random) {
   for (;;) {
     const script = lines.map((it) => `${it}\n`).join("");
     const found = /not legal (\d+)/.exec(module.all(script, plains).text);
-    if (!found) return { script, plains, run: readRecord(module.all(script, plains).text) };
+    if (!found) return { ...runScript(module, script, plains), plains };
     lines.splice(Number(found[1]), 1);
   }
 }
@@ -111,8 +112,9 @@ async function main([wasm, examples, count, seed]) {
   for (let i = 0; i < Number(count);) {
     const ran = i % 20 === 0 ? randomNetwork(module, random) : randomScript(module, random);
     if (!ran) continue;
-    const broken = ran.list ? promisesIn(ran.run.turns).filter((it) => it.broken) : [];
+    const broken = brokenIn(promisesIn(ran.run.turns, ran.list.length));
     if (broken.length) throw new Error(`${broken[0].name} is broken: ${ran.script}`);
+    markAges(ran.run.turns);
     tell(module, `random ${i}`, i % 4 === 3 ? edited(random, ran.script) : ran.script, ran.plains);
     i += 1;
   }

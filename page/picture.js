@@ -6,6 +6,7 @@ function ladderFile() {
   for (const it of svg.querySelectorAll(".gram")) {
     for (const name of ["tabindex", "role", "aria-label", "data-key"]) it.removeAttribute(name);
   }
+  svg.removeAttribute("tabindex");
   svg.setAttribute("xmlns", SVG);
   svg.setAttribute("role", "img");
   const style = document.createElementNS(SVG, "style");

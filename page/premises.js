@@ -2,9 +2,9 @@
 // has it, or nothing where no network and no program does that.
 
 const MAX_LATENCY_MS = 100_000;
-const LATE = "arrives within 100 s";
-const CLOCKS = "keep pace";
-const ADDRESSES = "forges that address";
+const LATE = "within 100 s";
+const CLOCKS = "pace";
+const ADDRESSES = "forges";
 
 // The premise that has these words (page/assemble.py sees that one does).
 const premiseOf = (words) => PREMISES.find((it) => it.includes(words));

@@ -1,6 +1,5 @@
 // The stories: what is asked for, and what the network does with the datagrams c0, c1, .. of the client and s0, s1,
-// .. of the server: each arrives after these milliseconds, or never. Those with a `file` stand in examples/ as
-// scripts.
+// .. of the server: each arrives after these milliseconds, or never. `file` names the script of each in examples/.
 
 const STORIES = {
   lost: {
@@ -44,14 +43,35 @@ const STORIES = {
     say: "A stranger sends a Reset with the Message ID of the notification. It comes from another address, so the " +
       "server goes on notifying its observer.",
   },
+  writers: {
+    name: "Two writers and one winner",
+    file: "two-writers",
+    lines: "0 set lock free\n1000 stranger server 9 40030001180000000000000001a46c6f636bff61\n" +
+      "1010 stranger server 10 40030001180000000000000001a46c6f636bff62\n2000 call get lock",
+    fates: {},
+    say: "Two strangers write “a” and “b”, each on condition that the lock has version 1. The first makes version 2, " +
+      "so the second is refused: 4.12. The page has one client; of the writers it has the bytes alone.",
+  },
+  old: {
+    name: "An old value, and its age",
+    file: "old-value",
+    plains: "temperature",
+    lines: "0 set temperature 21 C\n0 observe temperature\n1000 set temperature 22 C\n1100 set temperature 23 C\n" +
+      "90000 call get temperature",
+    fates: { s1: [90000], s2: [] },
+    say: "The second value is 90 seconds late, and the third is lost. A GET reads the third before the second comes. " +
+      "Beside each report stands its age: how long ago the server last held that. It is at most 247 seconds.",
+  },
   get: {
     name: "A GET",
-    lines: "0 set temperature 22.5 C\n0 call get temperature",
-    fates: {},
+    file: "get",
+    lines: "0 set t hi\n0 call get t",
+    fates: { c0: [5], s0: [4] },
     say: "A request and its answer. Lose either: two seconds later a copy goes out.",
   },
   observe: {
     name: "An observation",
+    file: "late-value",
     lines: "0 set temperature 21 C\n0 observe temperature\n500 set temperature 22 C\n900 set temperature 23 C\n" +
       "4000 set temperature 24 C",
     fates: { s1: [5200] },
@@ -60,6 +80,7 @@ const STORIES = {
   },
   gone: {
     name: "Nobody answers",
+    file: "nobody-answers",
     lines: "0 call put light on\n1000 call get light",
     fates: { c0: [], c1: [], c2: [], c3: [], c4: [] },
     say: "Four copies, each after twice the time, then a timeout. The client doesn't say failed, since it can't " +
@@ -67,6 +88,7 @@ const STORIES = {
   },
   stale: {
     name: "A stale block",
+    file: "stale-block",
     latency: 1,
     lines: "0 call put t {1024a}A\n62003 call put t {1024b}B",
     fates: { c1: [], c2: [], c3: [], c4: [], c5: [99998] },

@@ -80,11 +80,11 @@ class Served:
             self.disk.kept = self.disk.kept[:end]
         self.server = ks.Server(self.draw() if self.variant in ("another_seed", "no_replay") else self.word)
         last, latest = self.replayed(found)
-        self.server.outs()
+        dropped = len(self.server.outs())
         silence, moment = go_on(last, latest, self.boot, self.uptime())
         if self.variant == "no_silence":
             silence, moment = 0, max(latest, moment - silence)
-        self.number, self.batch, self.busy, self.queue, self.taken = self.number + 1, [], False, [], 0
+        self.number, self.batch, self.busy, self.queue, self.taken = self.number + 1, [], False, [], dropped
         self.untold = []
         self.silent = True
         self.world.at(self.world.now + silence, self.if_alive(lambda: self.speak(moment)))

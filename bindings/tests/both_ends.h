@@ -38,6 +38,11 @@ struct tried rattle_realloc(void *at, size_t kept, size_t size, size_t align) {
 
 void rattle_dealloc(void *at) { free(at); }
 
+/* The same for knifesilver-portable.c, which takes its memory by itself. */
+bool allocation_is_refused(void);
+
+bool allocation_is_refused(void) { return ++allocated == refuse_at; }
+
 /* Two ends, and a network that carries what is out. */
 
 static ks_server server;

@@ -6,7 +6,7 @@ import pathlib
 import re
 from typing import Dict, List, NamedTuple, Set, Tuple
 
-from .setting import TOP, kit
+from .setting import TERMS_OF_GLIBC, TOP, kit
 
 #: What SPDX says where nothing is known.
 UNKNOWN = "NOASSERTION"
@@ -70,6 +70,18 @@ def linked_into(*roots: str) -> List[Linked]:
             seen.add(name)
             left += _below(name, crates, folder)
     return [_described(it, folder) for it in sorted(seen - set(crates))]
+
+
+def of_wabt() -> Linked:
+    """What stands in knifesilver-portable.c beside the library: wasm-rt.h, and the forms that wasm2c writes."""
+    terms = pathlib.Path("/usr/share/doc/wabt/copyright").read_text("utf-8")
+    return Linked("wabt", "1.0.32", "Apache-2.0", (("LICENSE", terms),))
+
+
+def of_glibc() -> Linked:
+    """What the static program is linked with."""
+    terms = ("LICENSE.glibc", TERMS_OF_GLIBC.read_text("utf-8"))
+    return Linked("glibc", UNKNOWN, "LGPL-2.1-or-later", (terms,))
 
 
 def third_party(linked: List[Linked]) -> str:

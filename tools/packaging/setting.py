@@ -13,6 +13,11 @@ TOP = pathlib.Path(__file__).resolve().parent.parent.parent
 BINDINGS = TOP / "bindings"
 HEADER = BINDINGS / "include" / "knifesilver.h"
 PROGRAM = TOP / "crates" / "coap" / "out" / "coap"
+PAGE = TOP / "page" / "out" / "knifesilver.html"
+#: What the program is linked of.
+OBJECT = PROGRAM.with_suffix(".o")
+#: On what terms glibc is linked into a program: Debian's copy, which says which glibc it is.
+TERMS_OF_GLIBC = pathlib.Path("/usr/share/doc/libc6-dev/copyright")
 
 
 class Problem(Exception):

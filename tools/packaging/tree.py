@@ -12,10 +12,14 @@ from . import linked, sbom
 from .archives import files_of, sha256_lines
 from .setting import (
     BINDINGS,
+    OBJECT,
+    PAGE,
     PROGRAM,
+    TERMS_OF_GLIBC,
     TOP,
     Target,
     commit,
+    kit,
     oldest_glibc,
     said,
     soname,
@@ -126,6 +130,27 @@ def program(place: Place, target: Target) -> str:
     return f"{', '.join(wanted_libraries(to))}; glibc {oldest_glibc(to)} or later"
 
 
+def page(place: Place) -> bool:
+    """The page with the simulator, where page/build has made it. It runs in a browser of any machine."""
+    if PAGE.is_file():
+        shutil.copyfile(PAGE, place.at("share/doc/knifesilver", PAGE.name))
+    return PAGE.is_file()
+
+
+def static_program(place: Place, target: Target) -> bool:
+    """The program linked with all of glibc, for machines that have another C library or an older one, where coap.o and
+    glibc's terms are there; beside it what it is linked of, so that who has it may link it with another glibc."""
+    if target.triple or not OBJECT.is_file() or not TERMS_OF_GLIBC.is_file():
+        return False
+    of_kit = [kit() / "c" / name for name in ("libos_c.a", "liblibc_c.a")]
+    to = place.at("bin", "coap-static")
+    said(target.cc, "-static-pie", "-s", "-Wl,--build-id=none", OBJECT, *of_kit, "-o", to)
+    for it in (OBJECT, *of_kit):
+        shutil.copyfile(it, place.at("share/knifesilver/coap-static", it.name))
+    shutil.copyfile(TERMS_OF_GLIBC, place.at("share/doc/knifesilver", "LICENSE.glibc"))
+    return True
+
+
 def documents(place: Place, proof: str, parts: List[linked.Linked], moment: int, name: str) -> None:
     """Licences, the list of what it is made of, how to prove it again, and the examples."""
     home = "share/doc/knifesilver"
@@ -142,6 +167,14 @@ def documents(place: Place, proof: str, parts: List[linked.Linked], moment: int,
             )
 
 
+def portable(place: Place) -> bool:
+    """The one file of C for other processors, where KNIFESILVER_PORTABLE names it; whether it is there."""
+    named = os.environ.get("KNIFESILVER_PORTABLE")
+    if named:
+        shutil.copyfile(named, place.at("share/knifesilver/portable", "knifesilver-portable.c"))
+    return bool(named)
+
+
 def rust(place: Place) -> None:
     """The crate for cargo, which finds the archive of this package by KNIFESILVER_LIB."""
     for name in _OF_RUST:
@@ -154,7 +187,7 @@ def rust(place: Place) -> None:
     manifest.write_text(manifest.read_text().replace("../examples/rust/", "../../doc/knifesilver/examples/rust/"))
 
 
-def proof(archive: pathlib.Path, target: Target, program_wants: str) -> str:
+def proof(archive: pathlib.Path, target: Target, program_wants: str, is_static: bool) -> str:
     """The file PROOF."""
     words = f" --target {target.triple}" if target.triple else ""
     lines = [
@@ -172,6 +205,12 @@ def proof(archive: pathlib.Path, target: Target, program_wants: str) -> str:
     ]
     if program_wants:
         lines += ["", f"bin/coap wants {program_wants}."]
+    if is_static:
+        lines += ["bin/coap-static wants nothing. It has glibc in it (LICENSE.glibc), and is linked again by", ""]
+        lines += ["    cd share/knifesilver/coap-static && cc -static-pie coap.o libos_c.a liblibc_c.a -o coap-static"]
+    if PAGE.is_file():
+        digest = sha256_lines(PAGE.parent, [PAGE]).split()[0]
+        lines += ["", f"share/doc/knifesilver/{PAGE.name}: {digest}", "page/build proves and makes it again."]
     return "\n".join(lines) + "\n"
 
 

@@ -1,5 +1,6 @@
 /* lamp serve PORT: a CoAP server of a lamp, coap://127.0.0.1:PORT/lamp, which a client switches by a PUT of "on" or "off".
- *     A request is carried out half a second later, once, whatever is repeated on the way, and answered then.
+ *     A request is carried out half a second later, once, whatever is repeated on the way, and answered then. The lamp
+ *     follows what its path holds.
  * lamp switch PORT on|off: the client that switches it. It says what became of the request, and ends with status 0 where
  *     the lamp was switched, 1 where it was not, and 3 where nobody knows. */
 #include "knifesilver.h"
@@ -49,15 +50,17 @@ static ssize_t receive(bool until, uint64_t at, ks_address *from) {
     return len;
 }
 
-/* Here the lamp is switched: once for each request that was applied, in the call that served it. */
-static void ask_applied(ks_server *server) {
-    char path[KS_PATH_ROOM];
-    ks_applied done;
+static bool is_on; /* what the lamp is; a real one is asked, as the level of its relay's pin */
+
+/* Switches the lamp where it isn't what the path holds. It hangs on what is held, and not on the telling of
+ * ks_server_applied: that is told once, and lost with a program that ends before it has acted on it. */
+static void follow(ks_server *server) {
     ks_representation lamp = {0};
-    if (ks_server_applied(server, &done, path, sizeof path) != KS_DONE) return;
-    if (done.method != KS_PUT || done.path_len != 5 || memcmp(path, "/lamp", 5) != 0) return;
     if (ks_server_get(server, "lamp", 4, &lamp, buffer, sizeof buffer) != KS_DONE) return;
-    printf("switched %.*s\n", (int)lamp.body_len, (const char *)buffer);
+    bool wanted = lamp.body_len == 2 && memcmp(buffer, "on", 2) == 0;
+    if (wanted == is_on) return;
+    is_on = wanted;
+    puts(is_on ? "switched on" : "switched off");
     fflush(stdout);
 }
 
@@ -70,8 +73,9 @@ static int serve(const ks_config *config, const ks_seed *seed) {
     for (;;) {
         bool until = ks_server_due(&server, &at) == KS_DONE;
         ssize_t got = receive(until, at, &peer);
-        if (got >= 0 && ks_server_feed(&server, now_ms(), &peer, buffer, (size_t)got, 0) == KS_OK) ask_applied(&server);
-        while (ks_server_tick(&server, now_ms(), random_word()) == KS_DONE) ask_applied(&server);
+        if (got >= 0) ks_server_feed(&server, now_ms(), &peer, buffer, (size_t)got, 0);
+        while (ks_server_tick(&server, now_ms(), random_word()) == KS_DONE) {}
+        follow(&server);
         while (ks_server_next_out(&server, &peer, buffer, sizeof buffer, &len) == KS_DONE) send_to(peer, len);
     }
 }

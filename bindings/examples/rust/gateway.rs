@@ -1,6 +1,6 @@
 //! gateway PORT A B C: observes the temperature of three servers, at 127.0.0.1:A, B and C, and serves what they say at
-//! coap://127.0.0.1:PORT/sensors/0, 1 and 2, to whom it notifies each change. One server and three clients, each with a
-//! socket of its own: behind one port, ends would kill each other's exchanges.
+//! coap://127.0.0.1:PORT/sensors/0, 1 and 2. One server and three clients have a socket each: behind one port they kill
+//! each other's exchanges. The last value of a server that is gone stays; c/mirror.c has it go.
 
 use knifesilver::{fits_library, CallId, Client, Config, OutOfMemory, Report, Server, MAX_DATAGRAM};
 use std::error::Error;

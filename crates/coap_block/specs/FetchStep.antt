@@ -11,8 +11,8 @@ use Rattle.coap_block.specs.declared.fetch_judging.TheConstants.{MAX_RESTARTS as
 use Rattle.coap_types.specs.Piece.{size_of, offset_of}
 use Rattle.coap_block.specs.Sizes.{Sizes}
 
--- the client's block size and its longest body, what was gathered since the start, the block that was asked for (none at
--- the start), its tag
+-- the client's block size and its longest body, what was gathered since the start, the block that was asked for (none
+-- at the start), its tag
 pub record FetchState : Type 0 where
   pub szx : ℕ
   pub limit : ℕ

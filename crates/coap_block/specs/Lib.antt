@@ -14,3 +14,4 @@ pub mod AssemblyAnswer
 pub mod AssemblyKept
 pub mod AssemblyTrace
 pub mod PartialTimes
+pub mod RefusalNumbers

@@ -1,3 +1,4 @@
+//! A block of an upload that arrived, with its moment (RFC 7959, section 2.5).
 use crate::upload_key::UploadKey;
 use coap_types::Moment;
 use std::alloc::Allocator;

@@ -1,3 +1,4 @@
+//! The server's side of a Block1 transfer: it joins the blocks of an upload (RFC 7959, section 2.5).
 ghost use Rattle.std.specs.Prelude.{◌≡◌, ◌≤◌, ◌+◌, true, None, Some, IfOk, OnOk, OnErr, IsOk, IsSome, length, max};
 ghost use Rattle.std.specs.Prelude.{vec_len, vec_capacity};
 ghost use Rattle.coap_block.specs.Sizes.{usual_sizes};
@@ -37,7 +38,8 @@ impl<A: Allocator> Model for Assembly<A> {
 
     ghost Value = { AssemblyValue };
 
-    ghost view = { λ a. value_of (record { szx = a.szx; limit = a.limit }) a.clock.0 (partials_of a.partials.items) a.before };
+    ghost view = { λ a. value_of (record { szx = a.szx; limit = a.limit }) a.clock.0 (partials_of a.partials.items)
+        a.before };
 
     ghost invariant = { λ a. IsUndoableBefore a.before a.partials
         × AreFew a.clock.0 (partials_of a.partials.items) × AreFewBefore (partials_of a.partials.items) a.before };

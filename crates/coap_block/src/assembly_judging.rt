@@ -1,3 +1,4 @@
+//! What a block means to an assembly: whether it begins, continues or completes an upload (RFC 7959, section 2.5).
 ghost use Rattle.std.specs.Prelude.{◌≡◌};
 ghost use Rattle.coap_block.specs.AssemblyStep.{answered_szx, fills, goes_on, ruling};
 

@@ -1,3 +1,4 @@
+//! The answers of an assembly.
 ghost use Rattle.std.specs.Prelude.{◌≡◌};
 ghost use Rattle.coap_block.specs.AssemblyAnswer.{refusal_code};
 

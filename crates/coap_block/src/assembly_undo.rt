@@ -1,3 +1,4 @@
+//! What an assembly keeps so that its last input can be taken back.
 use crate::partial::Partial;
 use coap_types::Moment;
 use std::alloc::Allocator;

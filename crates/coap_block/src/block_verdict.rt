@@ -1,3 +1,4 @@
+//! The verdict on a block of an upload.
 use crate::assembly_step::AssemblyRefusal;
 use coap_types::Szx;
 

@@ -1,3 +1,4 @@
+//! The client's side of a Block2 transfer: it joins the parts of one representation (RFC 7959, section 2.4).
 ghost use Rattle.std.specs.Prelude.{◌≡◌, ◌≤◌, false, None, Some, IfOk, IfSome, OnOk, OnErr, IsOk, IsSome, length};
 ghost use Rattle.coap_block.specs.Sizes.{usual_sizes};
 ghost use Rattle.coap_block.specs.FetchStep.{start, verdict};

@@ -1,3 +1,4 @@
+//! What a part means to a fetch: the next block, a new start, the end or a refusal (RFC 7959, section 2.4).
 ghost use Rattle.std.specs.Prelude.{◌≡◌, ◌+◌, ◌<◌, ◌≤◌, List, ℕ, min};
 ghost use Rattle.coap_types.specs.Piece.{offset_of, size_of};
 ghost use Rattle.coap_block.specs.FetchStep.{changed, differs_from, fits, is_sized, lacks_tag, number_behind, same_tag};

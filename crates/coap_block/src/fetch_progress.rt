@@ -1,3 +1,4 @@
+//! How far a fetch is, and what it keeps so that its last input can be taken back.
 ghost use Rattle.std.specs.Prelude.{◌≡◌, ◌+◌, ◌≤◌, None, Some};
 
 use coap_types::{Szx, Tag};

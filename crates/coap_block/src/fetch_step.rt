@@ -1,3 +1,7 @@
+//! The answers of a fetch.
+ghost use Rattle.std.specs.Prelude.{◌≡◌};
+ghost use Rattle.coap_block.specs.RefusalNumbers.{fetch_refusal_number};
+
 use bytes::Bytes;
 use coap_types::Block;
 use std::alloc::{Allocator, Global};
@@ -14,6 +18,21 @@ pub enum FetchRefusal {
     TooLarge,
     /// The body changed, and `MAX_RESTARTS` restarts were made.
     Changed,
+}
+
+impl FetchRefusal {
+    /// The number of the refusal, 1 to 4, in the order of the variants.
+    pub fn number(self) -> u8
+        // The number of a part's refusal is its place among the four.
+        ensures { result ≡ fetch_refusal_number self }
+    {
+        match self {
+            FetchRefusal::BadBlock => 1,
+            FetchRefusal::NoTag => 2,
+            FetchRefusal::TooLarge => 3,
+            FetchRefusal::Changed => 4,
+        }
+    }
 }
 
 /// What a part led to.

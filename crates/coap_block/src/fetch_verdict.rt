@@ -1,3 +1,4 @@
+//! The verdict on a part of a representation.
 use crate::fetch_step::FetchRefusal;
 use coap_types::Szx;
 

@@ -1,3 +1,4 @@
+//! The bytes of a body that has not come whole yet.
 ghost use Rattle.std.specs.Prelude.{◌≡◌, ◌≤◌, ◌++◌, [], IfOk, OnOk, OnErr, length, take};
 
 use bytes::Bytes;

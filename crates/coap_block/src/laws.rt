@@ -1,3 +1,4 @@
+//! Laws of block-wise transfer (RFC 7959).
 ghost use Rattle.coap_block.specs.Whole.{OneBody, OneBodyAtServer};
 ghost use Rattle.coap_block.specs.Gathered.{GatheredAtStart, GatheredByPart, WholeByParts};
 ghost use Rattle.coap_block.specs.FetchTrace.{BodyIsShort, GatheredIsShort, WholeByHistory};

@@ -1,3 +1,4 @@
+//! A partial body at a server, and how long it is kept.
 ghost use Rattle.std.specs.Prelude.{◌≡◌, ◌++◌, IfOk, OnOk, OnErr, length};
 ghost use Rattle.coap_block.specs.AssemblyState.{is_live};
 ghost use Rattle.coap_block.specs.AssemblyKept.{begun, body_of, cut, grown, is_there, key_of};

@@ -1,3 +1,4 @@
+//! The list of partial bodies at a server.
 ghost use Rattle.std.specs.Prelude.{◌≡◌, ◌<◌, ◌≤◌, ◌+◌, ◌++◌, ◌∷◌, [], filter, length, set, IfOk};
 ghost use Rattle.std.specs.Prelude.{IfSome, OnOk, OnErr, vec_len, vec_capacity};
 ghost use Rattle.coap_block.specs.AssemblyState.{body_with, forgotten, is_live, put, reached, with_payload};

@@ -1,3 +1,4 @@
+//! The bytes of a body that one block carries (RFC 7959, section 2.2).
 ghost use Rattle.std.specs.Prelude.{◌≡◌, ◌↔◌, IsSome, IfSome};
 ghost use Rattle.coap_types.specs.Piece.{Begins, part_of};
 

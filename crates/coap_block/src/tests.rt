@@ -1,3 +1,4 @@
+//! Tests of block-wise transfer.
 ghost use Rattle.std.specs.Prelude.{IsSome};
 
 mod assembly;

@@ -1,3 +1,4 @@
+//! The client's side of a Block1 transfer: which block is sent next (RFC 7959, section 2.5).
 ghost use Rattle.std.specs.Prelude.{◌≡◌, ◌≤◌, ◌↔◌, false, true, None, Some, IsSome, IfSome};
 ghost use Rattle.coap_types.specs.Piece.{Piece};
 ghost use Rattle.coap_block.specs.UploadStep.{upload_start, block_to_send, at_place, continues, Continues, IsPlaceIn};

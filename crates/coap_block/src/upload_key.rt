@@ -1,3 +1,4 @@
+//! What tells the uploads at a server apart: endpoint, path and method (RFC 7959, section 2.5).
 ghost use Rattle.std.specs.Prelude.{◌≡◌, IfOk};
 ghost use Rattle.coap_block.specs.AssemblyState.{same_key};
 ghost use Rattle.coap_block.specs.AssemblyKept.{key_of};

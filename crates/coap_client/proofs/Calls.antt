@@ -1,17 +1,13 @@
 pub mod AnsweringLemmas
-pub mod AskableRequests
 pub mod DueLemmas
 pub mod FetchingLemmas
 pub mod GoodOptions
-pub mod Happening
 pub mod HeldLemmas
 pub mod IsLed
 pub mod LiveLemmas
 pub mod NoticingLemmas
-pub mod PassingLemmas
 pub mod ResponseLemmas
 pub mod TakesOut
 pub mod TickSteps
 pub mod WaitingLemmas
 pub mod Watched
-pub mod WorkFalls

@@ -1,5 +1,6 @@
 pub mod EachCall
 pub mod EachMove
-pub mod Exchanges
-pub mod Laws
-pub mod Watches
+pub mod Calls
+pub mod Places
+pub mod Turning
+pub mod Uploading

@@ -1,12 +1,1 @@
-pub mod Answered
-pub mod Gives
-pub mod GivesAll
-pub mod LiveOrGone
-pub mod Numbers
-pub mod NumberSteps
-pub mod Once
 pub mod ObservationPlaces
-pub mod PlaceEffects
-pub mod PlaceDeeds
-pub mod PlaceEvents
-pub mod PlaceLemmas

@@ -1,4 +1,1 @@
-pub mod ComesToRest
-pub mod Ending
 pub mod ExchangeTurns
-pub mod Resting

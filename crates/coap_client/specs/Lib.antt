@@ -14,8 +14,8 @@ pub mod Deeds
 pub mod Steps
 pub mod Law
 pub mod Led
-pub mod Follows
-pub mod Examples
 pub mod Object
 pub mod Turns
 pub mod RefusalNumbers
+pub mod Places
+pub mod Sendings

@@ -12,8 +12,8 @@ use Rattle.coap_block.specs.FetchStep.{FetchState, verdict}
 use Rattle.coap_types.specs.OptionValues.{value_of}
 use Rattle.coap_resource.specs.RequestOptions.{format_of}
 use Rattle.coap_types.specs.declared.option_number.TheConstants.{OBSERVE as observe, BLOCK2 as block2}
-pub use Rattle.coap_common.specs.Notifications.{said, tag_in, is_notification}
-pub use Rattle.coap_common.specs.SuccessCodes.{created, deleted, changed, content, continue}
+pub use Rattle.coap_exchange.specs.Notifications.{said, tag_in, is_notification}
+pub use Rattle.coap_exchange.specs.SuccessCodes.{created, deleted, changed, content, continue}
 
 -- what a client has is fresh (RFC 7252, section 5.9.1.3)
 abbrev pub valid : ℕ

@@ -1,4 +1,3 @@
-pub mod Closing
 pub mod Due
 pub mod Moves
 pub mod Quiet

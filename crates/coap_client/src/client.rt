@@ -22,7 +22,8 @@ mod taken_call;
 mod transfer;
 mod upload;
 
-ghost use Rattle.std.specs.Prelude.{◌≡◌, ◌≢◌, ◌≤◌, ◌<◌, ◌^◌, max, ℕ, Bool, false, true, List, ◌∷◌, [], length, Option, Result};
+ghost use Rattle.std.specs.Prelude.{◌≡◌, ◌≢◌, ◌≤◌, ◌<◌, ◌^◌, max, ℕ, Bool, false, true, List, ◌∷◌, [], length, Option};
+ghost use Rattle.std.specs.Prelude.{Result};
 ghost use Rattle.std.specs.Prelude.{Ok, Err, None, IfNone, IfOk, IfSome, IsOk, OnOk, OnErr, is_ok};
 ghost use Rattle.std.specs.Option.{option_map};
 ghost use Rattle.coap_types.specs.declared.endpoint.Endpoint.{Endpoint};
@@ -219,7 +220,8 @@ impl<A: Allocator + Copy, H: BuildHasher> Client<A, H> {
         ensures step { result ≢ Err refusals.Memory
             → Step self.old (Calls now.0 (shown_request request) (number_of result)) self.new }
         // Every history that led to the client leads on with this call, unless it was refused memory.
-        ensures led { (server : Endpoint) (sizes : Sizes) (setup : SetupSpec) (t : List Call) → Led server sizes setup t self.old
+        ensures led { (server : Endpoint) (sizes : Sizes) (setup : SetupSpec) (t : List Call)
+            → Led server sizes setup t self.old
             → result ≢ Err refusals.Memory
             → Led server sizes setup (Calls now.0 (shown_request request) (number_of result) ∷ t) self.new }
         // A call that is refused memory leaves the client as it was.
@@ -239,7 +241,8 @@ impl<A: Allocator + Copy, H: BuildHasher> Client<A, H> {
         ensures step { result ≢ Err refusals.Memory
             → Step self.old (Observes now.0 path (number_of result)) self.new }
         // Every history that led to the client leads on with this observation, unless it was refused memory.
-        ensures led { (server : Endpoint) (sizes : Sizes) (setup : SetupSpec) (t : List Call) → Led server sizes setup t self.old
+        ensures led { (server : Endpoint) (sizes : Sizes) (setup : SetupSpec) (t : List Call)
+            → Led server sizes setup t self.old
             → result ≢ Err refusals.Memory
             → Led server sizes setup (Observes now.0 path (number_of result) ∷ t) self.new }
         // An observation that is refused memory leaves the client as it was.
@@ -257,7 +260,8 @@ impl<A: Allocator + Copy, H: BuildHasher> Client<A, H> {
         // Whether a cancel is taken, and what that leaves, is a step of the client's machine.
         ensures step { Step self.old (Cancels now.0 id.0 (refusal_in result)) self.new }
         // Every history that led to the client leads on with this cancel, which is never refused memory.
-        ensures led { (server : Endpoint) (sizes : Sizes) (setup : SetupSpec) (t : List Call) → Led server sizes setup t self.old
+        ensures led { (server : Endpoint) (sizes : Sizes) (setup : SetupSpec) (t : List Call)
+            → Led server sizes setup t self.old
             → Led server sizes setup (Cancels now.0 id.0 (refusal_in result) ∷ t) self.new }
     {
         queue::cancel(&mut self.parts.held, now, id)
@@ -270,7 +274,8 @@ impl<A: Allocator + Copy, H: BuildHasher> Client<A, H> {
         // Whether there was such an observation, and what its end leaves, is a step of the client's machine.
         ensures step { (kept : Bool) × Step self.old (Forgets id.0 kept result) self.new }
         // Every history that led to the client leads on with an observation that is forgotten.
-        ensures led { (server : Endpoint) (sizes : Sizes) (setup : SetupSpec) (t : List Call) → Led server sizes setup t self.old
+        ensures led { (server : Endpoint) (sizes : Sizes) (setup : SetupSpec) (t : List Call)
+            → Led server sizes setup t self.old
             → (kept : Bool) × Led server sizes setup (Forgets id.0 kept result ∷ t) self.new }
     {
         end::forget(&mut self.parts, id)
@@ -287,7 +292,8 @@ impl<A: Allocator + Copy, H: BuildHasher> Client<A, H> {
             × (token : Result (List ℕ) AskRefusal)
             × (kept : Bool) × Step self.old (Ticks now.0 word below due sent token kept did) self.new) }
         // Every history that led to the client leads on with this tick, unless it was refused memory.
-        ensures led { (server : Endpoint) (sizes : Sizes) (setup : SetupSpec) (t : List Call) → Led server sizes setup t self.old
+        ensures led { (server : Endpoint) (sizes : Sizes) (setup : SetupSpec) (t : List Call)
+            → Led server sizes setup t self.old
             → IfOk result (λ did. (below : L.Answer) × (due : Turn) × (sent : L.Answer)
             × (token : Result (List ℕ) AskRefusal)
             × (kept : Bool) × Led server sizes setup (Ticks now.0 word below due sent token kept did ∷ t) self.new) }
@@ -307,7 +313,8 @@ impl<A: Allocator + Copy, H: BuildHasher> Client<A, H> {
         // Which request the last datagram or tick sent for the first time is told as the machine has it.
         ensures step { Step self.now (Asked (shown_asked result)) self.now }
         // Every history that led to the client leads on with this question, which changes nothing.
-        ensures led { (server : Endpoint) (sizes : Sizes) (setup : SetupSpec) (t : List Call) → Led server sizes setup t self.now
+        ensures led { (server : Endpoint) (sizes : Sizes) (setup : SetupSpec) (t : List Call)
+            → Led server sizes setup t self.now
             → Led server sizes setup (Asked (shown_asked result) ∷ t) self.now }
     {
         last_request::asked(&self.parts.held)
@@ -318,7 +325,8 @@ impl<A: Allocator + Copy, H: BuildHasher> Client<A, H> {
         // Which datagram the client gives out, and what that leaves, is a step of its machine.
         ensures step { Step self.old (NextOut result) self.new }
         // Every history that led to the client leads on with a datagram that it gives out.
-        ensures led { (server : Endpoint) (sizes : Sizes) (setup : SetupSpec) (t : List Call) → Led server sizes setup t self.old
+        ensures led { (server : Endpoint) (sizes : Sizes) (setup : SetupSpec) (t : List Call)
+            → Led server sizes setup t self.old
             → Led server sizes setup (NextOut result ∷ t) self.new }
         // The datagram that the client gives out is the first that waited.
         ensures some { IfSome result (λ datagram. self.old.layer.layer.queue ≡ datagram ∷ self.new.layer.layer.queue) }
@@ -335,7 +343,8 @@ impl<A: Allocator + Copy, H: BuildHasher> Client<A, H> {
         // Which report is taken, and what that leaves, is a step of the client's machine.
         ensures step { Step self.old (NextReport (option_map shown_reported result)) self.new }
         // Every history that led to the client leads on with a report that is taken.
-        ensures led { (server : Endpoint) (sizes : Sizes) (setup : SetupSpec) (t : List Call) → Led server sizes setup t self.old
+        ensures led { (server : Endpoint) (sizes : Sizes) (setup : SetupSpec) (t : List Call)
+            → Led server sizes setup t self.old
             → Led server sizes setup (NextReport (option_map shown_reported result) ∷ t) self.new }
         // Each report that is taken leaves one less to be taken.
         ensures some { IfSome result (λ report. self.old.own.reports ≡ shown_reported report ∷ self.new.own.reports) }

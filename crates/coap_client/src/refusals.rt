@@ -1,3 +1,4 @@
+//! Why a client does not take a call, an observation or a cancel.
 ghost use Rattle.std.specs.Prelude.{◌≡◌};
 ghost use Rattle.coap_client.specs.RefusalNumbers.{call_refusal_number, cancel_refusal_number};
 

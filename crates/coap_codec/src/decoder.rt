@@ -1,3 +1,4 @@
+//! From a datagram to the message that it spells, or to its fault (RFC 7252, section 3).
 ghost use Rattle.std.specs.Prelude.{◌≡◌, ◌≤◌, ◌⊎◌, length, IfOk, IfErr, OnErr};
 ghost use Rattle.coap_codec.specs.Faulty.{Faulty, IsFramed, place, head_of};
 ghost use Rattle.coap_codec.specs.Message.{Message, Spells};

@@ -1,3 +1,4 @@
+//! From a message to the datagram that spells it (RFC 7252, section 3).
 ghost use Rattle.std.specs.Prelude.{◌≡◌, ◌≤◌, true, length, take, drop, nat_le, IsTrue, IfSome, IfNone, IfOk, IfErr};
 ghost use Rattle.std.specs.Prelude.{OnErr, ◌↔◌};
 ghost use Rattle.std.specs.List.{list_all};

@@ -1,3 +1,4 @@
+//! Why a datagram spells no message, and where.
 ghost use Rattle.std.specs.Prelude.{◌≡◌};
 ghost use Rattle.coap_codec.specs.Faulty.{reason_number};
 

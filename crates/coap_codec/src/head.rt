@@ -1,3 +1,4 @@
+//! The four bytes of the header (RFC 7252, section 3).
 ghost use Rattle.std.specs.Prelude.{◌≡◌, ◌≤◌, ◌<◌, ◌/◌, ◌%◌, [], length};
 ghost use Rattle.coap_codec.specs.Header.{kind_of, id_of};
 ghost use Rattle.coap_codec.specs.Message.{header, kind_number, message};

@@ -1,3 +1,4 @@
+//! Laws of the message format: one reading, one spelling (RFC 7252, section 3).
 ghost use Rattle.coap_codec.specs.BoundedSpelling.{BoundedSpelling};
 ghost use Rattle.coap_codec.specs.IsSpelled.{IsTested};
 ghost use Rattle.coap_codec.specs.OfBytes.{BytesSpellBytes, SpelledInBytes};

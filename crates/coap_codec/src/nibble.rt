@@ -1,3 +1,4 @@
+//! Deltas and lengths of options, as a nibble with an extension (RFC 7252, section 3.1).
 ghost use Rattle.std.specs.Prelude.{◌≡◌, ◌≤◌, ◌<◌, ◌+◌, ◌^◌, length, IfOk};
 ghost use Rattle.coap_codec.specs.Reading.{Gives, extended};
 ghost use Rattle.coap_codec.specs.Writing.{Puts};

@@ -1,3 +1,4 @@
+//! Whether a list of options can be written, and how long it is.
 ghost use Rattle.std.specs.Prelude.{◌≡◌, ℕ, ◌<◌, ◌^◌, List, length, IsTrue, IfSome, IfNone};
 ghost use Rattle.std.specs.List.{list_all, All};
 ghost use Rattle.coap_types.specs.CoapOption.{options_of};

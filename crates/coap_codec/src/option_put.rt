@@ -1,3 +1,4 @@
+//! How options are written (RFC 7252, section 3.1).
 ghost use Rattle.std.specs.Prelude.{◌≡◌, ◌≤◌, ◌+◌, true, length};
 ghost use Rattle.std.specs.List.{list_all};
 ghost use Rattle.coap_types.specs.CoapOption.{option_of, options_of};

@@ -1,3 +1,4 @@
+//! How options are read, from left to right (RFC 7252, section 3.1).
 ghost use Rattle.std.specs.Prelude.{◌≡◌, ◌≤◌, ◌<◌, length};
 ghost use Rattle.coap_types.specs.CoapOption.{option_of};
 ghost use Rattle.coap_codec.specs.Reading.{Gives, value_at, nibbles_at, option_at, walk};

@@ -1,3 +1,4 @@
+//! The payload marker and the payload (RFC 7252, section 3).
 ghost use Rattle.std.specs.Prelude.{◌≡◌, ◌≤◌, ◌+◌, length};
 ghost use Rattle.coap_codec.specs.Message.{marked};
 ghost use Rattle.coap_codec.specs.Reading.{Gives, payload_at};

@@ -1,3 +1,4 @@
+//! Bytes at a place of a buffer.
 ghost use Rattle.std.specs.Prelude.{◌≡◌, ◌≤◌, ◌+◌, length};
 ghost use Rattle.coap_codec.specs.Writing.{Puts};
 

@@ -1,3 +1,4 @@
+//! Tests of the message format, by rows of the standard's figures.
 mod faults;
 
 use super::*;

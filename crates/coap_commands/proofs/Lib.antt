@@ -1,9 +1,7 @@
+pub mod AskedTasks
 pub mod ObservedCalls
 pub mod PairCalls
-pub mod PathWords
 pub mod RightWords
-pub mod RunEnds
-pub mod ScriptWords
 pub mod ServedCalls
 pub mod SettingUpCalls
 pub mod Statuses

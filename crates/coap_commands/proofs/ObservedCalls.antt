@@ -6,21 +6,23 @@ use Rattle.coap_layer.specs.declared.setup.Setup.{Setup}
 use Rattle.coap_block.specs.Sizes.{Sizes}
 use Rattle.coap_client.specs.Led.{Led, State, Step}
 use Rattle.coap_client.specs.Object.Shown.{number_of, shown_report}
-use Rattle.coap_client.specs.Trace.{Asked, Call, Calls, Cancels, Feeds, Forgets, NextOut, NextReport, Report, Ticks, is_value}
+use Rattle.coap_client.specs.Trace.{Asked, Call, Calls, Cancels, Feeds, Forgets, NextOut, NextReport, Report, Ticks}
+use Rattle.coap_client.specs.Trace.{is_value}
 use Rattle.coap_client.specs.Trace.{Observes as observes}
 use Rattle.coap_client.specs.declared.client.report.CallId.{CallId}
 use Rattle.coap_client.specs.declared.refusals.CallRefusal.{CallRefusal}
 use Rattle.coap_client.specs.declared.refusals.CancelRefusal.{CancelRefusal}
 use Rattle.coap_client.proofs.Facts.EachCall.{led_client}
-use Rattle.coap_words.specs.declared.orders.AskOptions.{AskOptions}
+use Rattle.coap_arguments.specs.declared.orders.AskOptions.{AskOptions}
 use Rattle.coap_commands.specs.Asked.{IsObserved, IsWord, asked_server, asked_setup}
 use Rattle.coap_commands.specs.Asks.{AsksNothing, Each, Turned, takes_report}
 use Rattle.coap_commands.specs.Ends.{client_sizes}
-use Rattle.coap_commands.specs.Observes.{AllObserving, HasAll, IsOver, ObserveBecomes, ObserveComes, Observed, Observes, Observing, value_in, values_in}
+use Rattle.coap_commands.specs.Observes.{AllObserving, HasAll, IsOver, ObserveBecomes, ObserveComes, Observed, Observes}
+use Rattle.coap_commands.specs.Observes.{Observing, value_in, values_in}
 use Rattle.coap_commands.specs.declared.calling.Outcome.{Outcome}
 use Rattle.coap_commands.specs.declared.calling.Outcome.TheVariants.{GaveUp, Refused, Reported}
-use Rattle.coap_commands.specs.declared.status.Status.{Status}
-use Rattle.coap_commands.specs.declared.status.Stop.{Stop}
+use Rattle.coap_scripts.specs.declared.status.Status.{Status}
+use Rattle.coap_scripts.specs.declared.status.Stop.{Stop}
 use Rattle.coap_commands.proofs.TurnCalls.{chain_join}
 use Rattle.coap_commands.proofs.WhatBecomes.{led_on}
 
@@ -79,7 +81,8 @@ module _ (options : AskOptions) (begin number : ℕ) where
       )
 
   -- a value is taken
-  pub observed_value : (values more : ℕ) (report : Report) (old mid new : State) → Observed options begin number old values mid
+  pub observed_value : (values more : ℕ) (report : Report) (old mid new : State)
+      → Observed options begin number old values mid
       → Step mid (takes_report number report) new → is_value report ≡ true → more ≤ values + 1
       → Observed options begin number old more new
   observed_value values more report old mid new a step is le =
@@ -105,36 +108,37 @@ module _ (options : AskOptions) (begin number : ℕ) where
 
 -- ---- from the client's beginning
 
-module _ (server : Endpoint) (sizes : Sizes) (setup : Setup) (options : AskOptions) (now : ℕ) (path : List (List ℕ)) where
-  comes_observes : (number : ℕ) (came : Outcome) (s : State)
-      → Led server sizes setup (observes now path (Ok number) ∷ []) s → ObserveComes options now number s came
-      → ObserveBecomes server sizes setup path options came
-  comes_observes number (Refused why) s led h = absurd h
-  comes_observes number (Reported report) s led h =
-      let first : List Call = observes now path (Ok number) ∷ [] in
-      let seen = h.3 in (
-        now,
-        number,
-        seen.0,
-        h.2,
-        seen.1,
-        h.5,
-        led_client server sizes setup (seen.0 ++ first) (takes_report number (shown_report report)) h.0 h.2
-            (led_on server sizes setup first seen.0 s h.0 led seen.3) h.4,
-      )
-  comes_observes number (GaveUp seconds) s led h =
-      let first : List Call = observes now path (Ok number) ∷ [] in
-      let seen = h.3 in
-      (h.0, now, number, seen.0, h.2, seen.1, led_on server sizes setup first seen.0 s h.2 led seen.3)
+module _ (server : Endpoint) (sizes : Sizes) (setup : Setup) (options : AskOptions) (now : ℕ) (path : List (List ℕ))
+  where
+    comes_observes : (number : ℕ) (came : Outcome) (s : State)
+        → Led server sizes setup (observes now path (Ok number) ∷ []) s → ObserveComes options now number s came
+        → ObserveBecomes server sizes setup path options came
+    comes_observes number (Refused why) s led h = absurd h
+    comes_observes number (Reported report) s led h =
+        let first : List Call = observes now path (Ok number) ∷ [] in
+        let seen = h.3 in (
+          now,
+          number,
+          seen.0,
+          h.2,
+          seen.1,
+          h.5,
+          led_client server sizes setup (seen.0 ++ first) (takes_report number (shown_report report)) h.0 h.2
+              (led_on server sizes setup first seen.0 s h.0 led seen.3) h.4,
+        )
+    comes_observes number (GaveUp seconds) s led h =
+        let first : List Call = observes now path (Ok number) ∷ [] in
+        let seen = h.3 in
+        (h.0, now, number, seen.0, h.2, seen.1, led_on server sizes setup first seen.0 s h.2 led seen.3)
 
-  pub refused_observes : (answer : Result CallId CallRefusal) (why : CallRefusal) (s : State) → answer ≡ Err why
-      → Led server sizes setup (observes now path (number_of answer) ∷ []) s
-      → ObserveBecomes server sizes setup path options (Refused why)
-  refused_observes answer why s is led = (
-    now,
-    s,
-    subst (λ (a : Result CallId CallRefusal). Led server sizes setup (observes now path (number_of a) ∷ []) s) is led,
-  )
+    pub refused_observes : (answer : Result CallId CallRefusal) (why : CallRefusal) (s : State) → answer ≡ Err why
+        → Led server sizes setup (observes now path (number_of answer) ∷ []) s
+        → ObserveBecomes server sizes setup path options (Refused why)
+    refused_observes answer why s is led = (
+      now,
+      s,
+      subst (λ (a : Result CallId CallRefusal). Led server sizes setup (observes now path (number_of a) ∷ []) s) is led,
+    )
 
 pub taken_observes : (Leads : Endpoint → Sizes → Setup → Type 0) (options : AskOptions) (now : ℕ) (path : List (List ℕ))
     (answer : Result CallId CallRefusal) (id : CallId) (s : State) (ended : Result Outcome Stop) → answer ≡ Ok id
@@ -154,6 +158,10 @@ pub observed_by : (port : ℕ) (server : Endpoint) (word : ℕ) (path : List (Li
     (ended : Result Status Stop) → server ≡ asked_server port options → IsWord options.word word
     → IfOk ended (Observes server (client_sizes options.size options.limit) (asked_setup word options) path options)
     → IfOk ended (IsObserved port path options)
-observed_by port server word path options (Ok s) there is_word is =
-    (word, is_word, subst (λ (e : Endpoint). Observes e (client_sizes options.size options.limit) (asked_setup word options) path options s) there is)
+observed_by port server word path options (Ok s) there is_word is = (
+  word,
+  is_word,
+  subst (λ (e : Endpoint). Observes e (client_sizes options.size options.limit)
+      (asked_setup word options) path options s) there is,
+)
 observed_by port server word path options (Err stop) there is_word is = tt

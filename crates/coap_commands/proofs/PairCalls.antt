@@ -13,28 +13,30 @@ use Rattle.coap_client.specs.declared.client.report.Report as R
 use Rattle.coap_client.specs.declared.refusals.CallRefusal.{CallRefusal}
 use Rattle.coap_client.proofs.Facts.EachCall.{led_client}
 use Rattle.std.specs.declared.alloc.Global.{Global}
-use Rattle.coap_words.specs.declared.orders.WordChoice.{WordChoice}
+use Rattle.coap_arguments.specs.declared.orders.WordChoice.{WordChoice}
 use Rattle.coap_commands.specs.Asked.{IsWord}
 use Rattle.coap_commands.specs.Asks.{AsksNothing, Turned, changed_status, takes_report}
 use Rattle.coap_commands.specs.Ends.{client_sizes}
 use Rattle.coap_commands.specs.Pairs.{CameBack, IsHanded, IsPaired, Pairs, got, not_got, not_put, paired_setup}
-use Rattle.coap_commands.specs.Script.{plain_request}
+use Rattle.coap_scripts.specs.Script.{plain_request}
 use Rattle.coap_commands.specs.Statuses.{IsCarriedOut}
 use Rattle.coap_commands.specs.declared.calling.Outcome.{Outcome}
 use Rattle.coap_commands.specs.declared.calling.Outcome.TheVariants.{Refused, Reported}
-use Rattle.coap_commands.specs.declared.status.Status.{Status}
-use Rattle.coap_commands.specs.declared.status.Status.TheVariants as status
-use Rattle.coap_commands.specs.declared.status.Stop.{Stop}
+use Rattle.coap_scripts.specs.declared.status.Status.{Status}
+use Rattle.coap_scripts.specs.declared.status.Status.TheVariants as status
+use Rattle.coap_scripts.specs.declared.status.Stop.{Stop}
 use Rattle.coap_commands.proofs.WhatBecomes.{led_on}
 
 -- what is said of each server, sizes and setup of a client: these calls led to it before, and those, the request among
 -- them, lead to it now
 abbrev pub Handed : State → Request → State → Outcome → Type 0
-Handed old request new outcome = (server : Endpoint) (sizes : Sizes) (w : Setup) (t : List Call) → Led server sizes w t old
+Handed old request new outcome = (server : Endpoint) (sizes : Sizes) (w : Setup) (t : List Call)
+    → Led server sizes w t old
     → (after : List Call) × IsHanded t request outcome after × Led server sizes w after new
 
 -- a request that was taken, and of which this was reported
-pub taken_handed : (now : ℕ) (request : Request) (answer : Result CallId CallRefusal) (id : CallId) (old mid new : State)
+pub taken_handed : (now : ℕ) (request : Request) (answer : Result CallId CallRefusal) (id : CallId)
+    (old mid new : State)
     (report : R.Report Global) → answer ≡ Ok id
     → ((server : Endpoint) (sizes : Sizes) (w : Setup) (t : List Call) → Led server sizes w t old
     → Led server sizes w (Calls now request (number_of answer) ∷ t) mid)
@@ -47,12 +49,14 @@ taken_handed now request answer id old mid new report is led h = λ server sizes
     (led server sizes w t before) in (
       takes_report id.0 (shown_report report) ∷ calls ++ Calls now request (Ok id.0) ∷ t,
       (now, id.0, calls, h.1.1, refl),
-      led_client server sizes w (calls ++ Calls now request (Ok id.0) ∷ t) (takes_report id.0 (shown_report report)) h.0 new
+      led_client server sizes w (calls ++ Calls now request (Ok id.0) ∷ t) (takes_report id.0 (shown_report report)) h.0
+          new
           (led_on server sizes w (Calls now request (Ok id.0) ∷ t) calls mid h.0 first h.1.2) h.2,
     )
 
 -- a request that was refused
-pub refused_handed : (now : ℕ) (request : Request) (answer : Result CallId CallRefusal) (why : CallRefusal) (old new : State)
+pub refused_handed : (now : ℕ) (request : Request) (answer : Result CallId CallRefusal) (why : CallRefusal)
+    (old new : State)
     → answer ≡ Err why
     → ((server : Endpoint) (sizes : Sizes) (w : Setup) (t : List Call) → Led server sizes w t old
     → Led server sizes w (Calls now request (number_of answer) ∷ t) new)
@@ -111,7 +115,8 @@ carried Is (Err stop) is h = tt
 
 pub pair_began : (own server : Endpoint) (szx limit word remembered : ℕ) (path : List (List ℕ)) (body : List ℕ)
     (client : State) (ended : Result Status Stop) → server ≡ own → szx ≡ max_szx
-    → Led server (client_sizes szx limit) (paired_setup word remembered) [] client → IfOk ended (PairsFrom client path body)
+    → Led server (client_sizes szx limit) (paired_setup word remembered) [] client
+    → IfOk ended (PairsFrom client path body)
     → IfOk ended (Pairs own (client_sizes max_szx limit) (paired_setup word remembered) path body)
 pair_began own server szx limit word remembered path body client (Ok s) there largest led pairs =
     subst (λ (e : Endpoint). Pairs e (client_sizes max_szx limit) (paired_setup word remembered) path body s) there
@@ -121,10 +126,12 @@ pair_began own server szx limit word remembered path body client (Err stop) ther
 
 pub pair_ends : (own server : Endpoint) (szx limit word remembered : ℕ) (path : List (List ℕ)) (body : List ℕ)
     (client : State) (ended : Result Status Stop) → server ≡ own → szx ≡ max_szx
-    → Led server (client_sizes szx limit) (paired_setup word remembered) [] client → IfOk ended (PairsFrom client path body)
+    → Led server (client_sizes szx limit) (paired_setup word remembered) [] client
+    → IfOk ended (PairsFrom client path body)
     → IfOk ended IsCarriedOut
 pair_ends own server szx limit word remembered path body client ended there largest led pairs =
-    carried (Pairs own (client_sizes max_szx limit) (paired_setup word remembered) path body) ended (λ s h. paired_carried h)
+    carried (Pairs own (client_sizes max_szx limit) (paired_setup word remembered) path body) ended
+    (λ s h. paired_carried h)
     (pair_began own server szx limit word remembered path body client ended there largest led pairs)
 
 -- of the words

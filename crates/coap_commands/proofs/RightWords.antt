@@ -4,42 +4,44 @@ use Rattle.std.proofs.Common.{◌<◌, length, slice_get, suc, zero, slice_index
 use Rattle.std.specs.Str.{bytes_eq}
 use Rattle.clap.specs.Words.{Row, Text, first_of}
 use Rattle.coap_types.specs.Path.{HoldsAtMost}
-use Rattle.coap_words.specs.Addresses.{HasAddress, HasNoAddress, address_argument_of}
-use Rattle.coap_words.specs.Asking.{HasContent, HasNoContent, HasNoTags, HasOptionalNumber, HasTags, IsAsk}
-use Rattle.coap_words.specs.Asking.{IsTagText, IsWhat, SendsBody, tags_argument_of}
-use Rattle.coap_words.specs.Numbers.{SaysNumber, argument_of, least_of, most_of}
-use Rattle.coap_words.specs.Plains.{HasPlains}
-use Rattle.coap_words.specs.Serving.{HasNoSetting, HasServeOptions, IsDelay, IsHold, serving_word}
-use Rattle.coap_words.specs.Sizes.{HasNoSize, HasSize, sizes}
-use Rattle.coap_words.specs.Taking.{TakesNumber, TakesPath, TakesPlains}
-use Rattle.coap_words.specs.Texts.{AreTexts, SomeSaysNone, texts_of}
-use Rattle.coap_words.specs.Values.{HasBytes, HasCount, HasLimit, HasRemembered, HasNoNumber, HasNoStore}
-use Rattle.coap_words.specs.Values.{HasNoWord, HasNumber, HasPath, HasStore, HasWord, IsChoice, store_name}
-use Rattle.coap_words.specs.Words.{AsksFor, AsksForIn, EntersWrong, IsPathFine, IsWrongIn}
-use Rattle.coap_words.proofs.Facts.NamedPaths.{each_is_one, not_too_many}
-use Rattle.coap_words.proofs.Facts.SaidTexts.{same_length}
-use Rattle.coap_words.specs.declared.orders.Order.{Order}
-use Rattle.coap_words.specs.declared.orders.Order.TheVariants.{Show, Dump, Answer, Pair, Serve, Ask, Sim}
-use Rattle.coap_words.specs.declared.orders.ServeOptions.{ServeOptions}
-use Rattle.coap_words.specs.declared.refusals.SettingRefusal.{SettingRefusal}
-use Rattle.coap_words.specs.declared.refusals.SettingRefusal.TheVariants as setting
-use Rattle.coap_words.specs.declared.orders.StoreKind.{StoreKind}
+use Rattle.coap_arguments.specs.Addresses.{HasAddress, HasNoAddress, address_argument_of}
+use Rattle.coap_arguments.specs.Asking.{HasContent, HasNoContent, HasNoTags, HasOptionalNumber, HasTags, IsAsk}
+use Rattle.coap_arguments.specs.Asking.{IsTagText, IsWhat, SendsBody, tags_argument_of}
+use Rattle.coap_arguments.specs.Numbers.{SaysNumber, argument_of, least_of, most_of}
+use Rattle.coap_arguments.specs.Plains.{HasPlains}
+use Rattle.coap_arguments.specs.Serving.{HasNoSetting, HasServeOptions, IsDelay, IsHold, serving_word}
+use Rattle.coap_arguments.specs.Sizes.{HasNoSize, HasSize, sizes}
+use Rattle.coap_arguments.specs.Taking.{TakesNumber, TakesPath, TakesPlains}
+use Rattle.coap_arguments.specs.Texts.{AreTexts, SomeSaysNone, texts_of}
+use Rattle.coap_arguments.specs.Values.{HasBytes, HasCount, HasLimit, HasRemembered, HasNoNumber, HasNoStore}
+use Rattle.coap_arguments.specs.Values.{HasNoWord, HasNumber, HasPath, HasStore, HasWord, IsChoice, store_name}
+use Rattle.coap_arguments.specs.Words.{AsksFor, AsksForIn, EntersWrong, IsPathFine, IsWrongIn}
+use Rattle.coap_arguments.proofs.Facts.NamedPaths.{each_is_one, not_too_many}
+use Rattle.coap_arguments.proofs.Facts.SaidTexts.{same_length}
+use Rattle.coap_arguments.specs.declared.orders.Order.{Order}
+use Rattle.coap_arguments.specs.declared.orders.Order.TheVariants.{Show, Dump, Answer, Pair, Serve, Ask, Sim}
+use Rattle.coap_arguments.specs.declared.orders.ServeOptions.{ServeOptions}
+use Rattle.coap_arguments.specs.declared.refusals.SettingRefusal.{SettingRefusal}
+use Rattle.coap_arguments.specs.declared.refusals.SettingRefusal.TheVariants as setting
+use Rattle.coap_arguments.specs.declared.orders.StoreKind.{StoreKind}
 use Rattle.std.specs.declared.net.ipv4_addr.Ipv4Addr.{Ipv4Addr}
 use Rattle.std.specs.Net.Grammar.{IsIpv4Text}
-use Rattle.coap_words.specs.declared.refusals.AddressRefusal.{AddressRefusal}
-use Rattle.coap_words.specs.declared.refusals.AddressRefusal.TheVariants.{Host, Address as Own}
-use Rattle.coap_words.specs.declared.orders.Content.{Content}
-use Rattle.coap_words.specs.declared.orders.Content.TheVariants as contents
-use Rattle.coap_words.specs.declared.refusals.NumberRefusal.{NumberRefusal}
-use Rattle.coap_words.specs.declared.refusals.NumberRefusal.TheVariants.{Port, Count, Limit, Remember, Format, Accept, Times, Seconds, GiveUp}
-use Rattle.coap_words.specs.declared.refusals.TagsRefusal.{TagsRefusal}
-use Rattle.coap_words.specs.declared.refusals.TagsRefusal.TheVariants.{Etag, IfMatch}
-use Rattle.coap_words.specs.declared.orders.What.{What}
-use Rattle.coap_words.specs.declared.orders.What.TheVariants.{Get, Put, Post, Delete, Observe}
-use Rattle.coap_words.specs.declared.orders.WordChoice.{WordChoice}
-use Rattle.coap_words.specs.declared.orders.Wrong.{Wrong}
-use Rattle.coap_words.specs.declared.orders.Wrong.TheVariants.{Path, Number, Word, Address, Size, Tags, Setting, Body, Store, Plains}
-use Rattle.coap_words.specs.declared.orders.Wrong.TheVariants.{Hex}
+use Rattle.coap_arguments.specs.declared.refusals.AddressRefusal.{AddressRefusal}
+use Rattle.coap_arguments.specs.declared.refusals.AddressRefusal.TheVariants.{Host, Address as Own}
+use Rattle.coap_arguments.specs.declared.orders.Content.{Content}
+use Rattle.coap_arguments.specs.declared.orders.Content.TheVariants as contents
+use Rattle.coap_arguments.specs.declared.refusals.NumberRefusal.{NumberRefusal}
+use Rattle.coap_arguments.specs.declared.refusals.NumberRefusal.TheVariants.{Port, Count, Limit, Remember, Format}
+use Rattle.coap_arguments.specs.declared.refusals.NumberRefusal.TheVariants.{Accept, Times, Seconds, GiveUp}
+use Rattle.coap_arguments.specs.declared.refusals.TagsRefusal.{TagsRefusal}
+use Rattle.coap_arguments.specs.declared.refusals.TagsRefusal.TheVariants.{Etag, IfMatch}
+use Rattle.coap_arguments.specs.declared.orders.What.{What}
+use Rattle.coap_arguments.specs.declared.orders.What.TheVariants.{Get, Put, Post, Delete, Observe}
+use Rattle.coap_arguments.specs.declared.orders.WordChoice.{WordChoice}
+use Rattle.coap_arguments.specs.declared.orders.Wrong.{Wrong}
+use Rattle.coap_arguments.specs.declared.orders.Wrong.TheVariants.{Path, Number, Word, Address, Size, Tags, Setting}
+use Rattle.coap_arguments.specs.declared.orders.Wrong.TheVariants.{Body, Store, Plains}
+use Rattle.coap_arguments.specs.declared.orders.Wrong.TheVariants.{Hex}
 use Rattle.coap_types.specs.declared.path.PathRefusal.{PathRefusal}
 use Rattle.coap_types.specs.declared.path.TheConstants.{MAX_SEGMENT_LEN as max_segment_len}
 use Rattle.coap_types.specs.declared.path.TheConstants.{MAX_SEGMENTS as max_segments}
@@ -71,7 +73,8 @@ has_path name v (Pair path body word limit remembered) takes h = (path, h.1, h.2
 has_path name v (Serve port count options) takes h =
     absurd (takes_none (codes "serve") name serve_asks_none refl refl h.0 takes)
 has_path name v (Ask port path what options) takes h = (path, h.2, h.3)
-has_path name v (Sim file store plains remembered chart) takes h = absurd (takes_none (codes "sim") name sim_asks_none refl refl h.0 takes)
+has_path name v (Sim file store plains remembered chart) takes h = absurd
+    (takes_none (codes "sim") name sim_asks_none refl refl h.0 takes)
 
 -- who takes no plain paths
 pub plain_none : (known name : Text) → bytes_eq known (codes "sim") ≡ false → bytes_eq known (codes "serve") ≡ false
@@ -89,7 +92,8 @@ pub has_plains : (name : Text) (v : List Row) (order : Order) → TakesPlains na
 has_plains name v (Show datagram) takes h = absurd (plain_none (codes "show") name refl refl h.0 takes)
 has_plains name v Dump takes h = absurd (plain_none (codes "dump") name refl refl h takes)
 has_plains name v (Answer path body datagram) takes h = absurd (plain_none (codes "answer") name refl refl h.0 takes)
-has_plains name v (Pair path body word limit remembered) takes h = absurd (plain_none (codes "pair") name refl refl h.0 takes)
+has_plains name v (Pair path body word limit remembered) takes h = absurd
+    (plain_none (codes "pair") name refl refl h.0 takes)
 has_plains name v (Serve port count options) takes h = (options.plains.items, h.3.plains)
 has_plains name v (Ask port path what options) takes h = absurd (asks_no_plain name (what_asks name v what h.0) takes)
 has_plains name v (Sim file store plains remembered chart) takes h = (plains.items, h.3)
@@ -132,24 +136,28 @@ pub has_number : (name : Text) (v : List Row) (order : Order) (why : NumberRefus
     → AsksForIn name v order → MayHave why v
 has_number name v (Show datagram) why takes h =
     absurd (counts_none (codes "show") name why show_asks_none refl refl (λ e. refl) h.0 takes)
-has_number name v Dump why takes h = absurd (counts_none (codes "dump") name why dump_asks_none refl refl (λ e. refl) h takes)
+has_number name v Dump why takes h = absurd (counts_none (codes "dump") name why dump_asks_none refl refl (λ e. refl) h
+    takes)
 has_number name v (Answer path body datagram) why takes h =
     absurd (counts_none (codes "answer") name why answer_asks_none refl refl (λ e. refl) h.0 takes)
 has_number name v (Pair path body word limit remembered) Port (inl e) h =
     absurd (differ (codes "pair") (codes "serve") name refl h.0 e)
 has_number name v (Pair path body word limit remembered) Port (inr e) h =
     absurd (asks_none (codes "pair") name pair_asks_none h.0 e)
-has_number name v (Pair path body word limit remembered) Count e h = absurd (differ (codes "pair") (codes "serve") name refl h.0 e)
+has_number name v (Pair path body word limit remembered) Count e h = absurd
+    (differ (codes "pair") (codes "serve") name refl h.0 e)
 has_number name v (Pair path body word limit remembered) Limit takes h = of_limit v limit h.5
 has_number name v (Pair path body word limit remembered) Remember takes h = of_remembered v remembered h.6
 has_number name v (Pair path body word limit remembered) Format takes h =
     absurd (sends_none (codes "pair") name refl refl h.0 takes)
-has_number name v (Pair path body word limit remembered) Accept e h = absurd (differ (codes "pair") (codes "get") name refl h.0 e)
+has_number name v (Pair path body word limit remembered) Accept e h = absurd
+    (differ (codes "pair") (codes "get") name refl h.0 e)
 has_number name v (Pair path body word limit remembered) Times e h =
     absurd (differ (codes "pair") (codes "observe") name refl h.0 e)
 has_number name v (Pair path body word limit remembered) Seconds e h =
     absurd (differ (codes "pair") (codes "observe") name refl h.0 e)
-has_number name v (Pair path body word limit remembered) GiveUp e h = absurd (asks_none (codes "pair") name pair_asks_none h.0 e)
+has_number name v (Pair path body word limit remembered) GiveUp e h = absurd
+    (asks_none (codes "pair") name pair_asks_none h.0 e)
 has_number name v (Serve port count options) Port takes h = inr (port, h.1)
 has_number name v (Serve port count options) Count takes h = of_count v count h.2
 has_number name v (Serve port count options) Limit takes h = of_limit v options.limit h.3.limit
@@ -262,11 +270,13 @@ not_size (Show datagram) name v h (asks, none) = absurd (asks_none (codes "show"
 not_size Dump name v h (asks, none) = absurd (asks_none (codes "dump") name dump_asks_none h asks)
 not_size (Answer path body datagram) name v h (asks, none) =
     absurd (asks_none (codes "answer") name answer_asks_none h.0 asks)
-not_size (Pair path body word limit remembered) name v h (asks, none) = absurd (asks_none (codes "pair") name pair_asks_none h.0 asks)
+not_size (Pair path body word limit remembered) name v h (asks, none) = absurd
+    (asks_none (codes "pair") name pair_asks_none h.0 asks)
 not_size (Serve port count options) name v h (asks, none) =
     absurd (asks_none (codes "serve") name serve_asks_none h.0 asks)
 not_size (Ask port path what options) name v h (asks, none) = size_or_not v options.size h.4.size none
-not_size (Sim file store plains remembered chart) name v h (asks, none) = absurd (asks_none (codes "sim") name sim_asks_none h.0 asks)
+not_size (Sim file store plains remembered chart) name v h (asks, none) = absurd
+    (asks_none (codes "sim") name sim_asks_none h.0 asks)
 
 -- each text says something
 module _ {V : Type 0} (Says : Text → V → Type 0) where
@@ -326,7 +336,8 @@ has_settings name v (Pair path body word limit remembered) serves h =
 has_settings name v (Serve port count options) serves h = (serving_word count, options, h.3)
 has_settings name v (Ask port path what options) serves h =
     absurd (asks_none (codes "serve") name serve_asks_none serves (what_asks name v what h.0))
-has_settings name v (Sim file store plains remembered chart) serves h = absurd (differ (codes "sim") (codes "serve") name refl h.0 serves)
+has_settings name v (Sim file store plains remembered chart) serves h = absurd
+    (differ (codes "sim") (codes "serve") name refl h.0 serves)
 
 pub not_setting : (order : Order) (why : SettingRefusal) (name : Text) (v : List Row) → AsksForIn name v order
     → IsWrongIn name v (Setting why) → ⊥
@@ -351,10 +362,12 @@ pub not_body : (order : Order) (name : Text) (v : List Row) → AsksForIn name v
 not_body (Show datagram) name v h (sends, none) = sends_none (codes "show") name refl refl h.0 sends
 not_body Dump name v h (sends, none) = sends_none (codes "dump") name refl refl h sends
 not_body (Answer path body datagram) name v h (sends, none) = sends_none (codes "answer") name refl refl h.0 sends
-not_body (Pair path body word limit remembered) name v h (sends, none) = sends_none (codes "pair") name refl refl h.0 sends
+not_body (Pair path body word limit remembered) name v h (sends, none) = sends_none (codes "pair") name refl refl h.0
+    sends
 not_body (Serve port count options) name v h (sends, none) = sends_none (codes "serve") name refl refl h.0 sends
 not_body (Ask port path what options) name v h (sends, none) = body_of_what v what name h.0 sends none
-not_body (Sim file store plains remembered chart) name v h (sends, none) = sends_none (codes "sim") name refl refl h.0 sends
+not_body (Sim file store plains remembered chart) name v h (sends, none) = sends_none (codes "sim") name refl refl h.0
+    sends
 
 pub store_or_not : (v : List Row) (store : StoreKind) → HasStore v store → HasNoStore v → ⊥
 store_or_not v store (inl none) q = absurd (cc (sym none.0 ∙ q.1))
@@ -365,7 +378,8 @@ pub has_store : (name : Text) (v : List Row) (order : Order) → name ≡ codes 
 has_store name v (Show datagram) sim h = absurd (differ (codes "show") (codes "sim") name refl h.0 sim)
 has_store name v Dump sim h = absurd (differ (codes "dump") (codes "sim") name refl h sim)
 has_store name v (Answer path body datagram) sim h = absurd (differ (codes "answer") (codes "sim") name refl h.0 sim)
-has_store name v (Pair path body word limit remembered) sim h = absurd (differ (codes "pair") (codes "sim") name refl h.0 sim)
+has_store name v (Pair path body word limit remembered) sim h = absurd
+    (differ (codes "pair") (codes "sim") name refl h.0 sim)
 has_store name v (Serve port count options) sim h = absurd (differ (codes "serve") (codes "sim") name refl h.0 sim)
 has_store name v (Ask port path what options) sim h =
     absurd (asks_none (codes "sim") name sim_asks_none sim (what_asks name v what h.0))
@@ -381,10 +395,12 @@ pub has_bytes : (name : Text) (v : List Row) (order : Order) → AsksForIn name 
 has_bytes name v (Show datagram) h fine = (datagram.items, h.1)
 has_bytes name v Dump h fine = absurd (hexless (codes "dump") name v refl refl h fine)
 has_bytes name v (Answer path body datagram) h fine = (datagram.items, h.4)
-has_bytes name v (Pair path body word limit remembered) h fine = absurd (hexless (codes "pair") name v refl refl h.0 fine)
+has_bytes name v (Pair path body word limit remembered) h fine = absurd
+    (hexless (codes "pair") name v refl refl h.0 fine)
 has_bytes name v (Serve port count options) h fine = absurd (hexless (codes "serve") name v refl refl h.0 fine)
 has_bytes name v (Ask port path what options) h fine = absurd (asks_hexless name v (what_asks name v what h.0) fine)
-has_bytes name v (Sim file store plains remembered chart) h fine = absurd (hexless (codes "sim") name v refl refl h.0 fine)
+has_bytes name v (Sim file store plains remembered chart) h fine = absurd
+    (hexless (codes "sim") name v refl refl h.0 fine)
 
 pub not_hex : (order : Order) (name : Text) (v : List Row) → AsksForIn name v order → IsWrongIn name v Hex → ⊥
 not_hex order name v asks (fine, none) =

@@ -1,6 +1,7 @@
--- The turns of a server are made of calls of these kinds alone: datagrams are fed, time passes, and what is out is taken; of
--- its tally, no more is fed than these calls feed.
-use Rattle.std.proofs.Common.{◌≡◌, ◌≤◌, ◌+◌, ℕ, Bool, true, false, List, [], ◌∷◌, ◌++◌, Option, Some, None, Result, Ok, Err, IfOk}
+-- The turns of a server are made of calls of these kinds alone: datagrams are fed, time passes, and what is out is
+-- taken; of its tally, no more is fed than these calls feed.
+use Rattle.std.proofs.Common.{◌≡◌, ◌≤◌, ◌+◌, ℕ, Bool, true, false, List, [], ◌∷◌, ◌++◌, Option, Some, None, Result, Ok}
+use Rattle.std.proofs.Common.{Err, IfOk}
 use Rattle.std.proofs.Common.{inl, inr, refl, sym, subst, arith, if◌then◌else◌, nat_lt, ◌^◌, ◌-◌}
 use Rattle.coap_types.specs.declared.endpoint.Endpoint.{Endpoint}
 use Rattle.coap_layer.specs.Trace as layer
@@ -17,15 +18,15 @@ use Rattle.coap_links.specs.declared.tally.Tally.{Tally}
 use Rattle.coap_server.specs.Led.{State, Step}
 use Rattle.coap_server.specs.Trace.{Call, Handling, NextOut, Ticks}
 use Rattle.coap_server.specs.Trace.{Feeds as FedIn}
-use Rattle.coap_words.specs.declared.orders.ServeOptions.{ServeOptions}
+use Rattle.coap_arguments.specs.declared.orders.ServeOptions.{ServeOptions}
 use Rattle.coap_commands.specs.Asked.{IsWord}
 use Rattle.coap_commands.specs.Served.{AllTurning, FedFrom, IsServed, IsTurning, Leads, fed_by, fed_in}
 use Rattle.coap_commands.specs.Serves.{Serves, Turning, nothing_fed}
 use Rattle.coap_commands.specs.Serves.{further as more, none as no_turn}
 use Rattle.coap_commands.specs.SettingUp.{IsServer}
-use Rattle.coap_commands.specs.declared.status.Status.{Status}
-use Rattle.coap_commands.specs.declared.status.Status.TheVariants as status
-use Rattle.coap_commands.specs.declared.status.Stop.{Stop}
+use Rattle.coap_scripts.specs.declared.status.Status.{Status}
+use Rattle.coap_scripts.specs.declared.status.Status.TheVariants as status
+use Rattle.coap_scripts.specs.declared.status.Stop.{Stop}
 
 -- ---- chains of calls
 
@@ -132,7 +133,8 @@ module _ {L : Type 0} (waiting : State → List layer.Packet) (gives : State →
 
     -- a turn
     turn_fed : (e : State) (l : L) (now : ℕ) (t : Tally) (f : State) (m : L) (u : Tally)
-        → Turns waiting gives sends receives faults quiet_feed feeds quiet_tick ticks e l now t f m u → FedMost t.fed u.fed e f
+        → Turns waiting gives sends receives faults quiet_feed feeds quiet_tick ticks e l now t f m u
+        → FedMost t.fed u.fed e f
     unfolding Turns
     turn_fed e l now t f m u h =
         let g = h.0 in
@@ -140,7 +142,8 @@ module _ {L : Type 0} (waiting : State → List layer.Packet) (gives : State →
         let out = h.3 in
         let v : Tally = pumped h.1 t in
         let came : FedMost t.fed v.fed pump.0 g = came_fed pump.0 now pump.2 (next_word t) g h.1 t pump.6 in
-        let sent : FedMost t.fed t.fed e pump.0 = most_same t.fed t.fed e pump.0 refl (sent_fed e l (waiting e) pump.0 pump.1 pump.3) in
+        let sent : FedMost t.fed t.fed e pump.0 = most_same t.fed t.fed e pump.0 refl
+        (sent_fed e l (waiting e) pump.0 pump.1 pump.3) in
         let did : FedMost v.fed out.1.fed g out.0 = stepped g now v out.2 in
         most_on t.fed v.fed u.fed e g f (most_on t.fed t.fed v.fed e pump.0 g sent came)
         (most_on v.fed out.1.fed u.fed g out.0 f did (rested out.0 now out.1 f u out.3))
@@ -191,7 +194,8 @@ module _ {L : Type 0} (waiting : State → List layer.Packet) (sends : L → End
     server_fed count word e l f m h =
         serves_fed waiting server_gives sends receives faults quiet_feed server_feeds quiet_tick server_ticks
         (λ old p new k. fed_call 0 old new (NextOut (Some p)) tt (omega arith) k)
-        (λ old now from bytes word new k. fed_call 1 old new (FedIn now from bytes word k.0 k.1 k.2 k.3) tt (omega arith) k.4)
+        (λ old now from bytes word new k. fed_call 1 old new (FedIn now from bytes word k.0 k.1 k.2 k.3) tt
+        (omega arith) k.4)
         (λ old now word did new k. fed_call 0 old new (Ticks now word k.0 k.1 k.2 k.3 k.4 k.5 did) tt (omega arith) k.6)
         count word e l f m h
 
@@ -208,7 +212,8 @@ module _ {L : Type 0} (waiting : State → List layer.Packet) (sends : L → End
 -- it serves as its words say
 pub served_by : (count : ℕ) (options : ServeOptions) (word : ℕ) (first : State) (ended : Result Status Stop)
     → IsWord options.word word → IsServer word options first
-    → IfOk ended (λ s. (s ≡ status.Done) × (end : State) × FedFrom count first end) → IfOk ended (IsServed count options)
+    → IfOk ended (λ s. (s ≡ status.Done) × (end : State) × FedFrom count first end)
+    → IfOk ended (IsServed count options)
 served_by count options word first (Ok s) is_word set_up h = inr (h.0, word, is_word, first, set_up, h.1, h.2)
 served_by count options word first (Err stop) is_word set_up h = tt
 

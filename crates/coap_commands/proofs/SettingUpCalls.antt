@@ -1,10 +1,9 @@
 -- The calls by which a server is set up, one after the other.
 use Rattle.std.proofs.Common.{◌≡◌, ◌<◌, ◌+◌, ◌++◌, ◌∷◌, [], ℕ, List, Option, Some, None, IfNone, Result, Ok, Err, IfOk}
-use Rattle.std.proofs.Common.{◌∙◌, ap, get_or, length, take, fold, refl, subst, sym}
+use Rattle.std.proofs.Common.{◌∙◌, ap, get_or, length, take, refl, subst, sym}
 use Rattle.std.proofs.lemmas.List.{take_more}
-use Rattle.std.proofs.lemmas.List.Sums.{fold_more}
 use Rattle.coap_server.specs.Trace.{Call}
-use Rattle.coap_words.specs.declared.orders.Hold.{Hold}
+use Rattle.coap_arguments.specs.declared.orders.Hold.{Hold}
 use Rattle.coap_commands.specs.SettingUp.{Holding, Holds}
 
 holds_more : (holds : List Hold) (hold : Hold) (before between after : List Call) → Holds holds before between
@@ -22,11 +21,6 @@ one_hold holds i x is lt before between after so one =
     subst (λ (hs : List Hold). Holds hs before after)
     (sym (take_more holds i x lt ∙ ap (λ y. take i holds ++ y ∷ []) (sym is)))
     (holds_more (take i holds) x before between after so one)
-
--- one item more is folded in
-pub fold_item : {A B : Type 0} (f : B → A → B) (t : B) (xs : List A) (i : ℕ) (x : A) → x ≡ get_or xs i x
-    → i < length xs → f (fold f t (take i xs)) x ≡ fold f t (take (i + 1) xs)
-fold_item f t xs i x is lt = ap (f (fold f t (take i xs))) is ∙ sym (fold_more f t xs i x lt)
 
 -- what holds where nothing is refused leads on
 pub where_none : {X E : Type 0} (r : Result (Option X) E) (P Q : Type 0) → (P → Q) → IfOk r (λ o. IfNone o P)

@@ -15,22 +15,24 @@ use Rattle.coap_commands.specs.Served.{IsServed}
 use Rattle.coap_commands.specs.declared.calling.Outcome.{Outcome}
 use Rattle.coap_commands.specs.declared.calling.Outcome.TheVariants as outcome
 use Rattle.coap_commands.specs.Statuses.{CarriesOut, Ends, IsAnswered, IsCarriedOut, IsCarriedTo, IsTold, ReadsText}
-use Rattle.coap_commands.specs.Statuses.{status_number, status_of}
-use Rattle.coap_words.specs.Words.{AsksFor, EntersWrong, IsWrong, IsWrongIn}
-use Rattle.coap_commands.specs.declared.status.Status.{Status}
-use Rattle.coap_commands.specs.declared.status.Status.TheVariants as status
-use Rattle.coap_commands.specs.declared.status.Stop.{Stop}
-use Rattle.coap_commands.specs.declared.status.Stop.TheVariants as stop
-use Rattle.coap_words.specs.declared.orders.Order.{Order}
-use Rattle.coap_words.specs.declared.orders.Order.TheVariants.{Show, Dump, Answer, Pair, Serve, Ask, Sim}
-use Rattle.coap_words.specs.declared.orders.AskOptions.{AskOptions}
-use Rattle.coap_words.specs.declared.orders.ServeOptions.{ServeOptions}
-use Rattle.coap_words.specs.declared.orders.WordChoice.{WordChoice}
-use Rattle.coap_words.specs.declared.orders.What.{What}
-use Rattle.coap_words.specs.declared.orders.What.TheVariants.{Get, Put, Post, Delete, Observe}
-use Rattle.coap_words.specs.declared.orders.Wrong.{Wrong}
-use Rattle.coap_words.specs.declared.orders.Wrong.TheVariants.{Words, Path, Number, Word, Address, Size, Tags, Setting, Body, Store, Plains}
-use Rattle.coap_words.specs.declared.orders.Wrong.TheVariants.{Hex, Memory}
+use Rattle.coap_commands.specs.Statuses.{status_of}
+use Rattle.coap_scripts.specs.StatusNumbers.{status_number}
+use Rattle.coap_arguments.specs.Words.{AsksFor, EntersWrong, IsWrong, IsWrongIn}
+use Rattle.coap_scripts.specs.declared.status.Status.{Status}
+use Rattle.coap_scripts.specs.declared.status.Status.TheVariants as status
+use Rattle.coap_scripts.specs.declared.status.Stop.{Stop}
+use Rattle.coap_scripts.specs.declared.status.Stop.TheVariants as stop
+use Rattle.coap_arguments.specs.declared.orders.Order.{Order}
+use Rattle.coap_arguments.specs.declared.orders.Order.TheVariants.{Show, Dump, Answer, Pair, Serve, Ask, Sim}
+use Rattle.coap_arguments.specs.declared.orders.AskOptions.{AskOptions}
+use Rattle.coap_arguments.specs.declared.orders.ServeOptions.{ServeOptions}
+use Rattle.coap_arguments.specs.declared.orders.WordChoice.{WordChoice}
+use Rattle.coap_arguments.specs.declared.orders.What.{What}
+use Rattle.coap_arguments.specs.declared.orders.What.TheVariants.{Get, Put, Post, Delete, Observe}
+use Rattle.coap_arguments.specs.declared.orders.Wrong.{Wrong}
+use Rattle.coap_arguments.specs.declared.orders.Wrong.TheVariants.{Words, Path, Number, Word, Address, Size, Tags}
+use Rattle.coap_arguments.specs.declared.orders.Wrong.TheVariants.{Setting, Body, Store, Plains}
+use Rattle.coap_arguments.specs.declared.orders.Wrong.TheVariants.{Hex, Memory}
 use Rattle.coap_commands.proofs.PairCalls.{paired_carried}
 use Rattle.coap_commands.proofs.RightWords.{none_wrong, not_plains, not_path, not_number, not_word, not_address}
 use Rattle.coap_commands.proofs.RightWords.{not_size, not_tags, not_setting, not_body, not_store, not_hex}
@@ -66,7 +68,8 @@ not_both (Tags why) name v (fine, none) (takes, other) = elim fine [
   | inl shows ↦ absurd (tags_none (codes "show") name why show_asks_none shows takes)
   | inr h ↦ absurd (tags_none (codes "answer") name why answer_asks_none h.0 takes)
 ]
-not_both (Setting why) name v (fine, none) (serves, other) = absurd (hexless (codes "serve") name v refl refl serves fine)
+not_both (Setting why) name v (fine, none) (serves, other) = absurd (hexless (codes "serve") name v refl refl serves
+    fine)
 not_both Body name v (fine, none) (sends, other) = elim fine [
   | inl shows ↦ absurd (sends_none (codes "show") name refl refl shows sends)
   | inr h ↦ absurd (sends_none (codes "answer") name refl refl h.0 sends)
@@ -156,14 +159,16 @@ with_3 words Memory n bad is three = tt
 order_answered : (words : List Text) (order : Order) (wrong : Wrong) (n : ℕ) → AsksFor words order → IsWrong words wrong
     → IsAnswered wrong n
 order_answered words order (Words error) n (name, v, e, asks) is = absurd (not_refused words error e.taken is)
-order_answered words order (Path why) n asks is = absurd (none_wrong words order (Path why) (not_path order why) asks is)
+order_answered words order (Path why) n asks is = absurd (none_wrong words order (Path why) (not_path order why) asks
+    is)
 order_answered words order (Number why) n asks is =
     absurd (none_wrong words order (Number why) (not_number order why) asks is)
 order_answered words order Word n asks is = absurd (none_wrong words order Word (not_word order) asks is)
 order_answered words order (Address why) n asks is =
     absurd (none_wrong words order (Address why) (not_address order why) asks is)
 order_answered words order Size n asks is = absurd (none_wrong words order Size (not_size order) asks is)
-order_answered words order (Tags why) n asks is = absurd (none_wrong words order (Tags why) (not_tags order why) asks is)
+order_answered words order (Tags why) n asks is = absurd (none_wrong words order (Tags why) (not_tags order why) asks
+    is)
 order_answered words order (Setting why) n asks is =
     absurd (none_wrong words order (Setting why) (not_setting order why) asks is)
 order_answered words order Body n asks is = absurd (none_wrong words order Body (not_body order) asks is)
@@ -258,12 +263,12 @@ requested_carried s port path what options h =
 
 asked_done : (s : Status) (port : ℕ) (path : List (List ℕ)) (what : What) (options : AskOptions)
     → IsAsked port path what options s → IsCarriedOut s
-asked_done s port path Get options h = requested_carried s port path Get options h
-asked_done s port path (Put content) options h = requested_carried s port path (Put content) options h
-asked_done s port path (Post content) options h = requested_carried s port path (Post content) options h
-asked_done s port path Delete options h = requested_carried s port path Delete options h
+asked_done s port path Get options h = requested_carried s port path Get options (h.1 refl)
+asked_done s port path (Put content) options h = requested_carried s port path (Put content) options (h.1 refl)
+asked_done s port path (Post content) options h = requested_carried s port path (Post content) options (h.1 refl)
+asked_done s port path Delete options h = requested_carried s port path Delete options (h.1 refl)
 asked_done s port path Observe options h =
-    let observes = h.2 in
+    let observes = (h.0 refl).2 in
     subst IsCarriedOut (sym observes.2) (observed_ends observes.0)
 
 asked_carried : (ended : Result Status Stop) (port : ℕ) (path : List (List ℕ)) (what : What) (options : AskOptions)
@@ -271,7 +276,8 @@ asked_carried : (ended : Result Status Stop) (port : ℕ) (path : List (List ℕ
 asked_carried (Ok s) port path what options h = asked_done s port path what options h
 asked_carried (Err stop) port path what options h = tt
 
-paired_done : (ended : Result Status Stop) (path : List (List ℕ)) (body : List ℕ) (word : WordChoice) (limit remembered : ℕ)
+paired_done : (ended : Result Status Stop) (path : List (List ℕ)) (body : List ℕ) (word : WordChoice)
+    (limit remembered : ℕ)
     → IfOk ended (IsPaired path body word limit remembered) → IfOk ended IsCarriedOut
 paired_done (Ok s) path body word limit remembered h = paired_carried h.3
 paired_done (Err stop) path body word limit remembered h = tt
@@ -294,7 +300,8 @@ text_only (Answer path body datagram) ended c h = absurd (carried_out ended c h)
 text_only (Pair path body word limit remembered) ended c h =
     absurd (carried_out ended (paired_done ended path body.now word limit remembered c) h)
 text_only (Serve port count options) ended c h = absurd (carried_out ended (served_done ended count options c) h)
-text_only (Ask port path what options) ended c h = absurd (carried_out ended (asked_carried ended port path what options c) h)
+text_only (Ask port path what options) ended c h = absurd (carried_out ended
+    (asked_carried ended port path what options c) h)
 text_only (Sim file store plains remembered chart) ended c h = tt
 
 -- 2 says that something is wrong in the words, or that they have a text read

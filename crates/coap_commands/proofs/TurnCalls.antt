@@ -1,6 +1,7 @@
--- A turn of a client over a link is made of calls of these kinds alone: what is out is taken, datagrams are fed, and time
--- passes.
-use Rattle.std.proofs.Common.{◌≡◌, ℕ, Bool, true, List, [], ◌∷◌, ◌++◌, Option, Some, None, Result, Ok, Err, refl, sym, subst}
+-- A turn of a client over a link is made of calls of these kinds alone: what is out is taken, datagrams are fed, and
+-- time passes.
+use Rattle.std.proofs.Common.{◌≡◌, ℕ, Bool, true, List, [], ◌∷◌, ◌++◌, Option, Some, None, Result, Ok, Err, refl, sym}
+use Rattle.std.proofs.Common.{subst}
 use Rattle.std.proofs.Common.{inl, inr, false}
 use Rattle.coap_types.specs.declared.endpoint.Endpoint.{Endpoint}
 use Rattle.coap_layer.specs.Trace as layer
@@ -38,7 +39,8 @@ turned_here like old new is = ([], tt, is)
 pub turned_by : (like : Call → Type 0) (old new : State) (c : Call) → like c → Step old c new → Turned like old new
 turned_by like old new c is step = (c ∷ [], (is, tt), (old, refl, step))
 
-module _ {L : Type 0} (like : Call → Type 0) (waiting : State → List layer.Packet) (gives : State → layer.Packet → State → Type 0)
+module _ {L : Type 0} (like : Call → Type 0) (waiting : State → List layer.Packet) (gives : State → layer.Packet → State
+    → Type 0)
     (sends : L → Endpoint → List ℕ → L → Type 0) (receives : L → Option Packet → L → Type 0) (faults : L → ℕ)
     (quiet_feed : State → ℕ → Endpoint → List ℕ → Type 0)
     (feeds : State → ℕ → Endpoint → List ℕ → ℕ → State → Type 0)
@@ -46,7 +48,8 @@ module _ {L : Type 0} (like : Call → Type 0) (waiting : State → List layer.P
     (given : (old : State) (p : layer.Packet) (new : State) → gives old p new → Turned like old new)
     (fed : (old : State) (now : ℕ) (from : Endpoint) (bytes : List ℕ) (word : ℕ) (new : State)
     → feeds old now from bytes word new → Turned like old new)
-    (ticked : (old : State) (now word : ℕ) (did : Bool) (new : State) → ticks old now word did new → Turned like old new)
+    (ticked : (old : State) (now word : ℕ) (did : Bool) (new : State) → ticks old now word did new
+    → Turned like old new)
   where
     sent_turned : (e : State) (l : L) (ps : List layer.Packet) (f : State) (m : L) → SendsAll gives sends e l ps f m
         → Turned like e f
@@ -66,7 +69,8 @@ module _ {L : Type 0} (like : Call → Type 0) (waiting : State → List layer.P
     stepped e now t (further g v f steps tick) =
         turned_on like e g f (stepped e now t steps) (ticked g now (next_word v) true f tick)
 
-    rested : (e : State) (now : ℕ) (t : Tally) (f : State) (u : Tally) → Rests quiet_tick ticks e now t f u → Turned like e f
+    rested : (e : State) (now : ℕ) (t : Tally) (f : State) (u : Tally) → Rests quiet_tick ticks e now t f u
+        → Turned like e f
     rested e now t f u h = elim h [
       | inl last ↦ ticked e now (next_word t) false f last.0
       | inr lost ↦ turned_here like e f lost.1

@@ -9,15 +9,15 @@ use Rattle.coap_client.specs.Trace.{Call, Calls, Request}
 use Rattle.coap_client.specs.declared.client.report.CallId.{CallId}
 use Rattle.coap_client.specs.declared.refusals.CallRefusal.{CallRefusal}
 use Rattle.coap_client.proofs.Facts.EachCall.{led_client}
-use Rattle.coap_words.specs.declared.orders.AskOptions.{AskOptions}
-use Rattle.coap_words.specs.declared.orders.What.{What}
+use Rattle.coap_arguments.specs.declared.orders.AskOptions.{AskOptions}
+use Rattle.coap_arguments.specs.declared.orders.What.{What}
 use Rattle.coap_commands.specs.Asked.{IsBody, IsRequested, IsWord, asked_request, asked_setup, asked_server}
 use Rattle.coap_commands.specs.Asks.{Asks, AsksNothing, Becomes, Chain, Comes, takes_report}
 use Rattle.coap_commands.specs.Ends.{client_sizes}
 use Rattle.coap_commands.specs.declared.calling.Outcome.{Outcome}
 use Rattle.coap_commands.specs.declared.calling.Outcome.TheVariants.{GaveUp, Refused, Reported}
-use Rattle.coap_commands.specs.declared.status.Status.{Status}
-use Rattle.coap_commands.specs.declared.status.Stop.{Stop}
+use Rattle.coap_scripts.specs.declared.status.Status.{Status}
+use Rattle.coap_scripts.specs.declared.status.Stop.{Stop}
 
 module _ (server : Endpoint) (sizes : Sizes) (setup : Setup) where
   -- calls behind others that led to a state
@@ -39,7 +39,8 @@ module _ (server : Endpoint) (sizes : Sizes) (setup : Setup) where
     h.1,
     h.2.1,
     led_client server sizes setup (h.2.0 ++ Calls now request (Ok number) ∷ [])
-        (takes_report number (shown_report report)) h.0 h.1 (led_on (Calls now request (Ok number) ∷ []) h.2.0 s h.0 led h.2.2) h.3,
+        (takes_report number (shown_report report)) h.0 h.1 (led_on (Calls now request (Ok number) ∷ []) h.2.0 s h.0 led
+        h.2.2) h.3,
   )
   comes_becomes now request give_up number (GaveUp seconds) s led h =
       (h.0, now, number, h.2.0, h.1, h.2.1, led_on (Calls now request (Ok number) ∷ []) h.2.0 s h.1 led h.2.2)
@@ -93,14 +94,17 @@ pub asked_by : (port : ℕ) (server : Endpoint) (word : ℕ) (path : List (List 
     (body : List ℕ) (request : Request) (ended : Result Status Stop)
     → server ≡ asked_server port options → IsWord options.word word → IsBody what body
     → request ≡ asked_request what path options body
-    → IfOk ended (Asks server (client_sizes options.size options.limit) (asked_setup word options) options.give_up request)
+    → IfOk ended (Asks server (client_sizes options.size options.limit) (asked_setup word options) options.give_up
+    request)
     → IfOk ended (IsRequested port path what options)
 asked_by port server word path what options body request (Ok s) there is_word is_body same asks = (
   word,
   is_word,
   body,
   is_body,
-  subst (λ (e : Endpoint). Asks e (client_sizes options.size options.limit) (asked_setup word options) options.give_up (asked_request what path options body) s)
-      there (subst (λ (r : Request). Asks server (client_sizes options.size options.limit) (asked_setup word options) options.give_up r s) same asks),
+  subst (λ (e : Endpoint). Asks e (client_sizes options.size options.limit) (asked_setup word options) options.give_up
+      (asked_request what path options body) s)
+      there (subst (λ (r : Request). Asks server (client_sizes options.size options.limit) (asked_setup word options)
+      options.give_up r s) same asks),
 )
 asked_by port server word path what options body request (Err stop) there is_word is_body same asks = tt

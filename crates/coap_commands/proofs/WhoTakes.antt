@@ -6,21 +6,22 @@ use Rattle.std.proofs.lemmas.Slice.Eq.{bytes_eq-Decides}
 use Rattle.clap.specs.Words.{Row, Text, IsAmong, fault_of}
 use Rattle.coap_types.specs.Path.{HoldsAtMost}
 use Rattle.hex.specs.Hex.{decode_of}
-use Rattle.coap_words.specs.CommandLine.{coap_app}
-use Rattle.coap_words.specs.Asking.{AsksChange, IsAsk}
-use Rattle.coap_words.specs.Asking.{IsWhat, SendsBody}
-use Rattle.coap_words.specs.Taking.{MakesEnd, TakesAddress, TakesNumber, TakesPath, TakesPlains, TakesTags}
-use Rattle.coap_words.specs.Values.{Enters, HasBytes, HasNoBytes, HasNoPath}
-use Rattle.coap_words.specs.Values.{HasPath, IsValue}
-use Rattle.coap_words.specs.Words.{IsPathFine, IsRefusedBy}
-use Rattle.coap_words.specs.declared.refusals.AddressRefusal.{AddressRefusal}
-use Rattle.coap_words.specs.declared.refusals.AddressRefusal.TheVariants.{Host, Address as Own}
-use Rattle.coap_words.specs.declared.refusals.NumberRefusal.{NumberRefusal}
-use Rattle.coap_words.specs.declared.refusals.NumberRefusal.TheVariants.{Port, Count, Limit, Remember, Format, Accept, Times, Seconds, GiveUp}
-use Rattle.coap_words.specs.declared.refusals.TagsRefusal.{TagsRefusal}
-use Rattle.coap_words.specs.declared.refusals.TagsRefusal.TheVariants.{Etag, IfMatch}
-use Rattle.coap_words.specs.declared.orders.What.{What}
-use Rattle.coap_words.specs.declared.orders.What.TheVariants.{Get, Put, Post, Delete, Observe}
+use Rattle.coap_arguments.specs.CommandLine.{coap_app}
+use Rattle.coap_arguments.specs.Asking.{AsksChange, IsAsk}
+use Rattle.coap_arguments.specs.Asking.{IsWhat, SendsBody}
+use Rattle.coap_arguments.specs.Taking.{MakesEnd, TakesAddress, TakesNumber, TakesPath, TakesPlains, TakesTags}
+use Rattle.coap_arguments.specs.Values.{Enters, HasBytes, HasNoBytes, HasNoPath}
+use Rattle.coap_arguments.specs.Values.{HasPath, IsValue}
+use Rattle.coap_arguments.specs.Words.{IsPathFine, IsRefusedBy}
+use Rattle.coap_arguments.specs.declared.refusals.AddressRefusal.{AddressRefusal}
+use Rattle.coap_arguments.specs.declared.refusals.AddressRefusal.TheVariants.{Host, Address as Own}
+use Rattle.coap_arguments.specs.declared.refusals.NumberRefusal.{NumberRefusal}
+use Rattle.coap_arguments.specs.declared.refusals.NumberRefusal.TheVariants.{Port, Count, Limit, Remember, Format}
+use Rattle.coap_arguments.specs.declared.refusals.NumberRefusal.TheVariants.{Accept, Times, Seconds, GiveUp}
+use Rattle.coap_arguments.specs.declared.refusals.TagsRefusal.{TagsRefusal}
+use Rattle.coap_arguments.specs.declared.refusals.TagsRefusal.TheVariants.{Etag, IfMatch}
+use Rattle.coap_arguments.specs.declared.orders.What.{What}
+use Rattle.coap_arguments.specs.declared.orders.What.TheVariants.{Get, Put, Post, Delete, Observe}
 use Rattle.coap_types.specs.declared.path.PathRefusal.{PathRefusal}
 use Rattle.coap_types.specs.declared.path.TheConstants.{MAX_SEGMENT_LEN as max_segment_len}
 use Rattle.coap_types.specs.declared.path.TheConstants.{MAX_SEGMENTS as max_segments}
@@ -35,7 +36,8 @@ same_pair a b v u h =
       ap (λ (o : Option (Text × List Row)). (unwrap_or o none).1) h,
     )
 
-pub enters_one : (words : List Text) (a b : Text) (v u : List Row) → Enters words a v → Enters words b u → (a ≡ b) × (v ≡ u)
+pub enters_one : (words : List Text) (a b : Text) (v u : List Row) → Enters words a v → Enters words b u → (a ≡ b)
+    × (v ≡ u)
 enters_one words a b v u e f = same_pair a b v u (sym e.entered ∙ f.entered)
 
 pub value_one : (name : Text) (v : List Row) (a b : Text) → IsValue name v a → IsValue name v b → a ≡ b
@@ -55,7 +57,7 @@ pub path_or_not : (v : List Row) (path : List (List ℕ)) (why : PathRefusal) �
     → HoldsAtMost max_segments max_segment_len path → HasNoPath v why → ⊥
 path_or_not v path why p holds q =
     let same = value_one (codes "PATH") v p.0 q.0 p.1 q.1 in
-    q.2 path (subst (λ (t : Text). Rattle.coap_words.specs.PathText.IsPathText t path) same p.2) holds
+    q.2 path (subst (λ (t : Text). Rattle.coap_arguments.specs.PathText.IsPathText t path) same p.2) holds
 
 -- ---- words that ask for an order
 
@@ -64,7 +66,8 @@ pub none_refused : (kind : Rattle.clap.specs.declared.error.kind.ErrorKind.Error
 none_refused kind [] is h = h
 none_refused kind (x ∷ xs) is h = absurd (cc is)
 
-pub not_refused : (words : List Text) (error : Rattle.clap.specs.declared.error.Error.Error) → fault_of coap_app words ≡ []
+pub not_refused : (words : List Text) (error : Rattle.clap.specs.declared.error.Error.Error) → fault_of coap_app words
+    ≡ []
     → IsRefusedBy error words → ⊥
 not_refused words error taken h = none_refused _ (fault_of coap_app words) taken h
 
@@ -148,7 +151,8 @@ counts_none known name Times n p s m is e = differ known (codes "observe") name 
 counts_none known name Seconds n p s m is e = differ known (codes "observe") name n.observe is e
 counts_none known name GiveUp n p s m is e = asks_none known name n is e
 
-pub addresses_none : (known name : Text) (why : AddressRefusal) → AsksNone known → bytes_eq known (codes "serve") ≡ false
+pub addresses_none : (known name : Text) (why : AddressRefusal) → AsksNone known → bytes_eq known (codes "serve")
+    ≡ false
     → name ≡ known → TakesAddress why name → ⊥
 addresses_none known name Host n s is e = asks_none known name n is e
 addresses_none known name Own n s is e = differ known (codes "serve") name s is e

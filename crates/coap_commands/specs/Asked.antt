@@ -1,22 +1,22 @@
 -- What the words of a subcommand have a client ask.
-use Rattle.std.specs.Prelude.{◌≡◌, ⊤, ℕ, List, []}
+use Rattle.std.specs.Prelude.{◌≡◌, ⊤, ℕ, Bool, true, false, List, []}
 use Rattle.std.specs.Net.Addr.{ipv4_octets}
 use Rattle.coap_types.specs.declared.endpoint.Endpoint.{Endpoint}
 use Rattle.coap_types.specs.declared.request.Method.{Method}
 use Rattle.coap_types.specs.declared.request.Method.TheVariants as method
 use Rattle.coap_layer.specs.declared.setup.Setup.{Setup}
 use Rattle.coap_client.specs.Trace.{Request}
-use Rattle.coap_words.specs.declared.orders.AskOptions.{AskOptions}
-use Rattle.coap_words.specs.declared.orders.Content.{Content}
-use Rattle.coap_words.specs.declared.orders.Content.TheVariants as content
-use Rattle.coap_words.specs.declared.orders.What.{What}
-use Rattle.coap_words.specs.declared.orders.What.TheVariants.{Get, Put, Post, Delete, Observe}
-use Rattle.coap_words.specs.declared.orders.WordChoice.{WordChoice}
-use Rattle.coap_words.specs.declared.orders.WordChoice.TheVariants.{Given, Random}
+use Rattle.coap_arguments.specs.declared.orders.AskOptions.{AskOptions}
+use Rattle.coap_arguments.specs.declared.orders.Content.{Content}
+use Rattle.coap_arguments.specs.declared.orders.Content.TheVariants as content
+use Rattle.coap_arguments.specs.declared.orders.What.{What}
+use Rattle.coap_arguments.specs.declared.orders.What.TheVariants.{Get, Put, Post, Delete, Observe}
+use Rattle.coap_arguments.specs.declared.orders.WordChoice.{WordChoice}
+use Rattle.coap_arguments.specs.declared.orders.WordChoice.TheVariants.{Given, Random}
 use Rattle.coap_commands.specs.Asks.{Asks}
 use Rattle.coap_commands.specs.Ends.{client_sizes}
 use Rattle.coap_commands.specs.Observes.{Observes}
-use Rattle.coap_commands.specs.declared.status.Status.{Status}
+use Rattle.coap_scripts.specs.declared.status.Status.{Status}
 
 -- the word that is chosen; a random one may be any
 abbrev pub IsWord : WordChoice → ℕ → Type 0
@@ -65,8 +65,8 @@ asked_server port options = record { ip = ipv4_octets options.host; port = port 
 abbrev pub asked_setup : ℕ → AskOptions → Setup
 asked_setup word options = record { word = word; remembered = options.remembered }
 
--- a client hands the server at this port of the host a request for it, with the word, the number of remembered messages,
--- the size and the limit of the options
+-- a client hands the server at this port of the host a request for it, with the word, the number of remembered
+-- messages, the size and the limit of the options
 abbrev pub IsRequested : ℕ → List (List ℕ) → What → AskOptions → Status → Type 0
 IsRequested port path what options status =
     (word : ℕ) × IsWord options.word word × (body : List ℕ) × IsBody what body
@@ -80,10 +80,16 @@ IsObserved port path options status =
     × Observes (asked_server port options) (client_sizes options.size options.limit)
     (asked_setup word options) path options status
 
--- a client asks the server for it
+-- an observation is asked for (RFC 7641)
+abbrev pub is_observe : What → Bool
+is_observe Get = false
+is_observe (Put content) = false
+is_observe (Post content) = false
+is_observe Delete = false
+is_observe Observe = true
+
+-- a client asks the server for it: it observes, or hands it a request
 abbrev pub IsAsked : ℕ → List (List ℕ) → What → AskOptions → Status → Type 0
-IsAsked port path Get options status = IsRequested port path Get options status
-IsAsked port path (Put content) options status = IsRequested port path (Put content) options status
-IsAsked port path (Post content) options status = IsRequested port path (Post content) options status
-IsAsked port path Delete options status = IsRequested port path Delete options status
-IsAsked port path Observe options status = IsObserved port path options status
+IsAsked port path what options status =
+    (is_observe what ≡ true → IsObserved port path options status)
+    × (is_observe what ≡ false → IsRequested port path what options status)

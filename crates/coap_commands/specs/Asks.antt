@@ -1,5 +1,5 @@
--- What becomes of a request that a client is handed, and with which status a program ends that asks it (RFC 7252, section
--- 5.2).
+-- What becomes of a request that a client is handed, and with which status a program ends that asks it (RFC 7252,
+-- section 5.2).
 use Rattle.std.specs.Prelude.{◌≡◌, ⊤, ℕ, Option, List, [], ◌∷◌, ◌++◌, Some, Ok, Err}
 use Rattle.std.specs.declared.alloc.Global.{Global}
 use Rattle.coap_types.specs.declared.endpoint.Endpoint.{Endpoint}
@@ -14,8 +14,8 @@ use Rattle.coap_client.specs.declared.client.report.Report as R
 use Rattle.coap_client.specs.declared.client.report.Report.TheVariants as report
 use Rattle.coap_commands.specs.declared.calling.Outcome.{Outcome}
 use Rattle.coap_commands.specs.declared.calling.Outcome.TheVariants.{GaveUp, Refused, Reported}
-use Rattle.coap_commands.specs.declared.status.Status.{Status}
-use Rattle.coap_commands.specs.declared.status.Status.TheVariants as status
+use Rattle.coap_scripts.specs.declared.status.Status.{Status}
+use Rattle.coap_scripts.specs.declared.status.Status.TheVariants as status
 
 -- the call asks the client for nothing: a datagram is fed, time passes, or what is out or reported is taken
 abbrev pub AsksNothing : Call → Type 0
@@ -53,9 +53,9 @@ Comes like give_up old number (Refused why) = ⊥
 Comes like give_up old number (Reported report) = Reports like old number (shown_report report)
 Comes like give_up old number (GaveUp seconds) = (give_up ≡ Some seconds) × (turned : State) × Turned like old turned
 
--- A client of this server began with this setup and these sizes. It was handed the request, and nothing else: it refused
--- it; or it took it under a number, and then this was reported of that number; or nothing was, and it was given up, where
--- so many seconds may pass.
+-- A client of this server began with this setup and these sizes. It was handed the request, and nothing else: it
+-- refused it; or it took it under a number, and then this was reported of that number; or nothing was, and it was given
+-- up, where so many seconds may pass.
 abbrev pub Becomes : Endpoint → (sizes : Sizes) → Setup → Option ℕ → Request → Outcome → Type 0
 Becomes server sizes setup give_up request (Refused why) =
     (now : ℕ) × (s : State) × Led server sizes setup (Calls now request (Err why) ∷ []) s
@@ -95,4 +95,5 @@ status_after Delete outcome = changed_status outcome
 -- a client is asked this, and the status is that of what becomes of it
 abbrev pub Asks : Endpoint → (sizes : Sizes) → Setup → Option ℕ → Request → Status → Type 0
 Asks server sizes setup give_up request status =
-    (outcome : Outcome) × Becomes server sizes setup give_up request outcome × (status ≡ status_after request.method outcome)
+    (outcome : Outcome) × Becomes server sizes setup give_up request outcome
+    × (status ≡ status_after request.method outcome)

@@ -1,10 +1,10 @@
 -- How much a program of turns bears, before it gives up.
 use Rattle.std.specs.Prelude.{ℕ, ◌==◌, nat_le, if◌then◌else◌, Result, Ok, Err}
-use Rattle.coap_commands.specs.declared.status.Stop.{Stop}
-use Rattle.coap_commands.specs.declared.status.Stop.TheVariants as stop
+use Rattle.coap_scripts.specs.declared.status.Stop.{Stop}
+use Rattle.coap_scripts.specs.declared.status.Stop.TheVariants as stop
 use Rattle.coap_commands.specs.declared.bearing.TheConstants.{MAX_FAILURES as max_failures}
 use Rattle.coap_links.specs.declared.tally.Tally.{Tally}
-use Rattle.coap_words.specs.declared.orders.TheConstants.{FOREVER as forever}
+use Rattle.coap_arguments.specs.declared.orders.TheConstants.{FOREVER as forever}
 
 -- so many feeds and ticks that were refused memory end it; then, so many calls of the link that failed
 abbrev pub borne : ℕ → Tally → Result (Unit {0}) Stop

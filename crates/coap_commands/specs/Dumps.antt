@@ -2,8 +2,8 @@
 use Rattle.std.specs.Prelude.{◌≡◌, ◌≢◌, ℕ, List, Ok}
 use Rattle.coap_codec.specs.Message.{Message, Spells}
 use Rattle.hex.specs.Hex.{decode_of}
-use Rattle.coap_commands.specs.declared.status.Status.{Status}
-use Rattle.coap_commands.specs.declared.status.Status.TheVariants.{Done, Refused, Words, Failed, Memory}
+use Rattle.coap_scripts.specs.declared.status.Status.{Status}
+use Rattle.coap_scripts.specs.declared.status.Status.TheVariants.{Done, Refused, Words, Failed, Memory}
 
 -- done is a datagram that spells a message
 abbrev pub IsShown : List ℕ → Status → Type 0

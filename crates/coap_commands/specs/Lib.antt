@@ -6,13 +6,11 @@ pub mod Ends
 pub mod Observes
 pub mod Pairs
 pub mod Progress
-pub mod Script
-pub mod ScriptRefusals
-pub mod ScriptWords
 pub mod Served
 pub mod Serves
 pub mod SettingUp
-pub mod Sims
 pub mod Statuses
+pub mod Tasks
+pub mod Terms
 pub mod ToldChanges
 pub mod Waiting

@@ -12,12 +12,12 @@ use Rattle.coap_client.specs.Trace.{Call, Cancels, Feeds, NextOut, NextReport, R
 use Rattle.coap_client.specs.Trace.{Observes as observes}
 use Rattle.coap_client.specs.declared.client.report.Report as R
 use Rattle.coap_client.specs.declared.client.report.Report.TheVariants as report
-use Rattle.coap_words.specs.declared.orders.AskOptions.{AskOptions}
+use Rattle.coap_arguments.specs.declared.orders.AskOptions.{AskOptions}
 use Rattle.coap_commands.specs.Asks.{Chain, takes_report}
 use Rattle.coap_commands.specs.declared.calling.Outcome.{Outcome}
 use Rattle.coap_commands.specs.declared.calling.Outcome.TheVariants as outcome
-use Rattle.coap_commands.specs.declared.status.Status.{Status}
-use Rattle.coap_commands.specs.declared.status.Status.TheVariants as status
+use Rattle.coap_scripts.specs.declared.status.Status.{Status}
+use Rattle.coap_scripts.specs.declared.status.Status.TheVariants as status
 use Rattle.coap_commands.specs.Waiting.{HasPassed}
 
 -- so many values are as many as are wanted
@@ -30,8 +30,8 @@ abbrev pub IsLate : Option ℕ → ℕ → ℕ → Type 0
 IsLate None begin now = ⊥
 IsLate (Some seconds) begin now = HasPassed seconds begin now
 
--- An observation that began at this moment is over, by the options, at that one: so many values of it were taken, or its
--- time has passed.
+-- An observation that began at this moment is over, by the options, at that one: so many values of it were taken, or
+-- its time has passed.
 abbrev pub IsOver : AskOptions → ℕ → ℕ → ℕ → Type 0
 IsOver options begin values now = HasAll options.times values ⊎ IsLate options.seconds begin now
 
@@ -69,8 +69,8 @@ abbrev pub Observed : AskOptions → ℕ → ℕ → State → ℕ → State →
 Observed options begin number old values new =
     (calls : List Call) × AllObserving options begin number calls × (values ≤ values_in calls) × Chain old calls new
 
--- such calls lead to this: the last report of this number, which is taken; or that is given up, where so many seconds may
--- pass
+-- such calls lead to this: the last report of this number, which is taken; or that is given up, where so many seconds
+-- may pass
 abbrev pub ObserveComes : AskOptions → ℕ → ℕ → State → Outcome → Type 0
 ObserveComes options begin number old (outcome.Refused why) = ⊥
 ObserveComes options begin number old (outcome.Reported report) =

@@ -11,18 +11,18 @@ use Rattle.coap_client.specs.Object.Shown.{shown_report}
 use Rattle.coap_client.specs.Trace.{Call, Calls, Request}
 use Rattle.coap_client.specs.declared.client.report.Report as R
 use Rattle.coap_client.specs.declared.client.report.Report.TheVariants as report
-use Rattle.coap_words.specs.declared.orders.WordChoice.{WordChoice}
+use Rattle.coap_arguments.specs.declared.orders.WordChoice.{WordChoice}
 use Rattle.coap_commands.specs.Asked.{IsWord}
 use Rattle.coap_commands.specs.Asks.{AsksNothing, Each, changed_status, takes_report}
 use Rattle.coap_commands.specs.Ends.{client_sizes}
-use Rattle.coap_commands.specs.Script.{plain_request}
+use Rattle.coap_scripts.specs.Script.{plain_request}
 use Rattle.coap_commands.specs.declared.calling.Outcome.{Outcome}
 use Rattle.coap_commands.specs.declared.calling.Outcome.TheVariants.{GaveUp, Refused, Reported}
-use Rattle.coap_commands.specs.declared.status.Status.{Status}
-use Rattle.coap_commands.specs.declared.status.Status.TheVariants as status
+use Rattle.coap_scripts.specs.declared.status.Status.{Status}
+use Rattle.coap_scripts.specs.declared.status.Status.TheVariants as status
 
--- A client to which these calls had led, the newest first, was handed the request, and nothing else: it refused it; or it
--- took it, and then this was reported of it. Then these calls have led to it, the second ones.
+-- A client to which these calls had led, the newest first, was handed the request, and nothing else: it refused it; or
+-- it took it, and then this was reported of it. Then these calls have led to it, the second ones.
 abbrev pub IsHanded : List Call → Request → Outcome → List Call → Type 0
 IsHanded before request (Refused why) after = (now : ℕ) × (after ≡ Calls now request (Err why) ∷ before)
 IsHanded before request (Reported report) after =
@@ -41,15 +41,18 @@ CameBack body (Refused why) = ⊥
 CameBack body (Reported report) = Brings body report
 CameBack body (GaveUp seconds) = ⊥
 
--- A client of this server began with this setup and these sizes. It was handed a PUT of the body at the path; where success
--- is reported of it, a GET of the path; and nothing else. Done is a pair to which the body came back.
-pub data Pairs (server : Endpoint) (sizes : Sizes) (setup : Setup) (path : List (List ℕ)) (body : List ℕ) : Status → Type 0
+-- A client of this server began with this setup and these sizes. It was handed a PUT of the body at the path; where
+-- success is reported of it, a GET of the path; and nothing else. Done is a pair to which the body came back.
+pub data Pairs (server : Endpoint) (sizes : Sizes) (setup : Setup) (path : List (List ℕ)) (body : List ℕ) : Status
+    → Type 0
   where
     not_put : (put : Outcome) (calls : List Call) (s : State) → IsHanded [] (plain_request Put path body) put calls
         → changed_status put ≡ status.Refused → Led server sizes setup calls s
         → Pairs server sizes setup path body status.Refused
-    not_got : (put got : Outcome) (puts calls : List Call) (s : State) → IsHanded [] (plain_request Put path body) put puts
-        → changed_status put ≡ status.Done → IsHanded puts (plain_request Get path []) got calls → (CameBack body got → ⊥)
+    not_got : (put got : Outcome) (puts calls : List Call) (s : State)
+        → IsHanded [] (plain_request Put path body) put puts
+        → changed_status put ≡ status.Done → IsHanded puts (plain_request Get path []) got calls
+        → (CameBack body got → ⊥)
         → Led server sizes setup calls s → Pairs server sizes setup path body status.Refused
     got : (put got : Outcome) (puts calls : List Call) (s : State) → IsHanded [] (plain_request Put path body) put puts
         → changed_status put ≡ status.Done → IsHanded puts (plain_request Get path []) got calls → CameBack body got

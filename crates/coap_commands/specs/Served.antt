@@ -2,11 +2,11 @@
 use Rattle.std.specs.Prelude.{◌≡◌, ◌⊎◌, ◌≤◌, ◌+◌, ⊤, ℕ, List, [], ◌∷◌}
 use Rattle.coap_server.specs.Led.{State, Step}
 use Rattle.coap_server.specs.Trace.{Call, Feeds, NextOut, Ticks}
-use Rattle.coap_words.specs.declared.orders.ServeOptions.{ServeOptions}
+use Rattle.coap_arguments.specs.declared.orders.ServeOptions.{ServeOptions}
 use Rattle.coap_commands.specs.Asked.{IsWord}
 use Rattle.coap_commands.specs.SettingUp.{IsServer}
-use Rattle.coap_commands.specs.declared.status.Status.{Status}
-use Rattle.coap_commands.specs.declared.status.Status.TheVariants as status
+use Rattle.coap_scripts.specs.declared.status.Status.{Status}
+use Rattle.coap_scripts.specs.declared.status.Status.TheVariants as status
 
 -- a call of a server that is turned: a datagram is fed, time passes, or what is out is taken
 abbrev pub IsTurning : Call → Type 0

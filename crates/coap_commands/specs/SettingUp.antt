@@ -5,12 +5,12 @@ use Rattle.coap_layer.specs.declared.setup.Setup.{Setup}
 use Rattle.coap_resource.specs.Content.{Content}
 use Rattle.coap_server.specs.Led.{Led, State}
 use Rattle.coap_server.specs.Trace.{Call, Delays, Plains, Sets}
-use Rattle.coap_words.specs.PathText.{IsPathText}
-use Rattle.coap_words.specs.declared.orders.Delay.{Delay}
-use Rattle.coap_words.specs.declared.orders.Hold.{Hold}
-use Rattle.coap_words.specs.declared.orders.ServeOptions.{ServeOptions}
+use Rattle.coap_arguments.specs.PathText.{IsPathText}
+use Rattle.coap_arguments.specs.declared.orders.Delay.{Delay}
+use Rattle.coap_arguments.specs.declared.orders.Hold.{Hold}
+use Rattle.coap_arguments.specs.declared.orders.ServeOptions.{ServeOptions}
 use Rattle.coap_commands.specs.Ends.{server_limits}
-use Rattle.coap_commands.specs.declared.ends.TheConstants.{TEXT_PLAIN as text_plain}
+use Rattle.coap_scripts.specs.declared.usual.TheConstants.{TEXT_PLAIN as text_plain}
 
 -- at the moment 0 this text is set at this path
 abbrev pub Holding : List (List ℕ) → List ℕ → List Call → List Call → Type 0

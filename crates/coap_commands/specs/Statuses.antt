@@ -1,28 +1,23 @@
 -- How a run of the program ends: its exit status, and which status answers what is wrong in the words.
 use Rattle.std.specs.Prelude.{◌≡◌, ◌⊎◌, ⊤, ℕ, List, Result, Ok, Err, IfOk}
 use Rattle.clap.specs.Words.{Text}
-use Rattle.coap_words.specs.Words.{AsksFor, IsWrong}
-use Rattle.coap_world.specs.Events.{Event}
+use Rattle.coap_arguments.specs.Words.{AsksFor, IsWrong}
+use Rattle.coap_record.specs.Events.{Event}
 use Rattle.coap_commands.specs.Asked.{IsAsked}
 use Rattle.coap_commands.specs.Pairs.{IsPaired}
 use Rattle.coap_commands.specs.Served.{IsServed}
-use Rattle.coap_commands.specs.Sims.{IsSim, sim_config}
-use Rattle.coap_commands.specs.declared.status.Status.{Status}
-use Rattle.coap_commands.specs.declared.status.Status.TheVariants as status
-use Rattle.coap_commands.specs.declared.status.Stop.{Stop}
-use Rattle.coap_commands.specs.declared.status.Stop.TheVariants as stop
-use Rattle.coap_words.specs.declared.orders.Order.{Order}
-use Rattle.coap_words.specs.declared.orders.Order.TheVariants.{Ask, Dump, Pair, Serve, Sim}
-use Rattle.coap_words.specs.declared.orders.Wrong.{Wrong}
-use Rattle.coap_words.specs.declared.orders.Wrong.TheVariants.{Words, Path, Number, Word, Address, Size, Tags, Setting, Body, Store, Plains}
-use Rattle.coap_words.specs.declared.orders.Wrong.TheVariants.{Hex, Memory}
-
-abbrev pub status_number : Status → ℕ
-status_number status.Done = 0
-status_number status.Refused = 1
-status_number status.Words = 2
-status_number status.Failed = 3
-status_number status.Memory = 4
+use Rattle.coap_scripts.specs.StatusNumbers.{status_number}
+use Rattle.coap_scripts.specs.Sims.{IsSim, sim_config}
+use Rattle.coap_scripts.specs.declared.status.Status.{Status}
+use Rattle.coap_scripts.specs.declared.status.Status.TheVariants as status
+use Rattle.coap_scripts.specs.declared.status.Stop.{Stop}
+use Rattle.coap_scripts.specs.declared.status.Stop.TheVariants as stop
+use Rattle.coap_arguments.specs.declared.orders.Order.{Order}
+use Rattle.coap_arguments.specs.declared.orders.Order.TheVariants.{Ask, Dump, Pair, Serve, Sim}
+use Rattle.coap_arguments.specs.declared.orders.Wrong.{Wrong}
+use Rattle.coap_arguments.specs.declared.orders.Wrong.TheVariants.{Words, Path, Number, Word, Address, Size, Tags}
+use Rattle.coap_arguments.specs.declared.orders.Wrong.TheVariants.{Setting, Body, Store, Plains}
+use Rattle.coap_arguments.specs.declared.orders.Wrong.TheVariants.{Hex, Memory}
 
 -- the status of a run that came to its end, or stopped
 abbrev pub status_of : Result Status Stop → Status

@@ -1,14 +1,15 @@
+//! `answer`: one datagram is fed to a server, and what that gives out is printed.
 ghost use Rattle.std.specs.Prelude.{◌≡◌, IfOk};
 ghost use Rattle.coap_commands.specs.Statuses.{IsCarriedOut};
 
 use crate::ends::{fresh_server, hold, tell_refusal};
 use crate::put_away::put_away;
-use crate::status::{Status, Stop};
 use coap_ends::{End, Server};
 use coap_layer::Setup;
 use coap_resource::MapStore;
+use coap_run::CLIENT_END;
+use coap_scripts::{Status, Stop};
 use coap_types::{BodyLimit, Moment, Path};
-use coap_world::CLIENT_END;
 use std::alloc::Global;
 use std::hash::{BuildHasherDefault, FoldHasher};
 use std::io::Write;

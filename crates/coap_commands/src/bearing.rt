@@ -2,9 +2,9 @@
 ghost use Rattle.std.specs.Prelude.{◌≡◌};
 ghost use Rattle.coap_commands.specs.Bearing.{borne, borne_in_a_row, borne_in_all, borne_serving};
 
-use crate::status::Stop;
+use coap_arguments::FOREVER;
 use coap_links::{Link, Tally};
-use coap_words::FOREVER;
+use coap_scripts::Stop;
 
 /// The failed call of a link, and the input that was refused memory, that end the program.
 pub const MAX_FAILURES: u64 = 100;

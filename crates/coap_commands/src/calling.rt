@@ -8,13 +8,13 @@ ghost use Rattle.coap_client.specs.Led.{Led};
 ghost use Rattle.coap_client.specs.Object.CallShown.{shown_request};
 ghost use Rattle.coap_client.specs.Object.Shown.{number_of};
 ghost use Rattle.coap_client.specs.Trace.{Call, Calls};
-ghost use Rattle.coap_commands.specs.Script.{plain_request};
+ghost use Rattle.coap_scripts.specs.Script.{plain_request};
 
-use crate::status::Stop;
 use bytes::Bytes;
 use coap_ends::{CallId, CallRefusal, Client, Report};
-use coap_text::report_text;
-use coap_types::{Method, Moment, Path, Request, Tags};
+use coap_print::report_text;
+use coap_scripts::{Stop, plain};
+use coap_types::{Method, Moment, Path, Request};
 use std::alloc::{AllocError, Allocator, Global};
 use std::hash::BuildHasher;
 
@@ -27,22 +27,6 @@ pub enum Outcome {
     Reported(Report),
     /// The client gave up after so many seconds.
     GaveUp(u64),
-}
-
-/// A request whose only option is its path.
-pub(crate) fn plain<A: Allocator>(method: Method, path: Path<A>, body: Bytes<A>) -> Request<A>
-    ensures { shown_request result ≡ plain_request method path body }
-{
-    Request {
-        method,
-        path,
-        format: None,
-        body,
-        etags: Tags::new(),
-        if_match: Tags::new(),
-        if_none_match: false,
-        accept: None,
-    }
 }
 
 /// A PUT of a body at a path (RFC 7252, section 5.8.3).

@@ -8,8 +8,8 @@ ghost use Rattle.coap_commands.specs.ToldChanges.{IsToldOnce, IsToldWhere};
 use crate::tracing::SharedWriter;
 use coap_ends::{Applied, End, Server};
 use coap_layer::Datagram;
+use coap_print::{PathWords, code_name};
 use coap_resource::Store;
-use coap_text::{PathWords, code_name};
 use coap_types::{Endpoint, Method, Moment, Path};
 use std::alloc::{AllocError, Allocator};
 use std::cell::RefCell;
@@ -216,7 +216,8 @@ fn tell_once<A: Allocator + Copy, T: ChangeTeller<A>>(
     applied: &Applied<A>,
     body: &[u8],
 )
-    ensures { IsToldOnce (λ t told u. T.tells_change t at.0 applied.now.method applied.now.path applied.now.version body.now told u)
+    ensures { IsToldOnce (λ t told u. T.tells_change t at.0 applied.now.method applied.now.path applied.now.version
+        body.now told u)
         teller.old untold.old teller.new untold.new }
 {
     let ended = teller.tell_change(at, applied.method, &applied.path, applied.version, body);

@@ -1,23 +1,22 @@
 //! One run of the program, over the writers that it is handed.
 ghost use Rattle.std.specs.Prelude.{◌≡◌, ◌≢◌, ◌≤◌, ◌⊎◌, IfOk, map, string_bytes};
 ghost use Rattle.coap_commands.specs.Statuses.{CarriesOut, Ends, IsAnswered, IsCarriedTo, IsTold, ReadsText};
-ghost use Rattle.coap_commands.specs.Statuses.{status_number};
+ghost use Rattle.coap_scripts.specs.StatusNumbers.{status_number};
 ghost use Rattle.coap_commands.specs.Statuses.{status_of};
-ghost use Rattle.coap_words.specs.Words.{AsksFor, IsWrong};
-ghost use Rattle.coap_words.specs.declared.orders.Order.{Order};
-ghost use Rattle.coap_words.specs.declared.orders.Wrong.{Wrong};
-ghost use Rattle.coap_words.specs.declared.orders.Wrong.TheVariants as wrongs;
+ghost use Rattle.coap_arguments.specs.Words.{AsksFor, IsWrong};
+ghost use Rattle.coap_arguments.specs.declared.orders.Order.{Order};
+ghost use Rattle.coap_arguments.specs.declared.orders.Wrong.{Wrong};
+ghost use Rattle.coap_arguments.specs.declared.orders.Wrong.TheVariants as wrongs;
 
 use crate::answer::answer;
-use crate::ask::ask;
+use crate::asking::ask;
 use crate::dump::dump;
 use crate::pair::pair;
 use crate::put_away::put_away;
 use crate::serve::serve;
 use crate::show::show;
-use crate::sim::sim;
-use crate::status::{Status, Stop};
-use coap_words::{Order, Wrong, order};
+use coap_arguments::{Order, Wrong, order};
+use coap_scripts::{Status, Stop, sim_file};
 use std::io;
 use std::io::{ErrorKind, Write};
 use std::net::Net;
@@ -69,7 +68,7 @@ fn perform<R: AllocGlobal + Files + Net + Clock + RandomSource, O: Write, E: Wri
             chart,
         } => {
             let plains = plains.as_slice();
-            sim(rt, file, *store, plains, *remembered, *chart, out)
+            sim_file(rt, file, *store, plains, *remembered, *chart, out)
         }
     }
 }
@@ -162,8 +161,8 @@ pub fn command<R: AllocGlobal + Files + Net + Clock + RandomSource, O: Write, E:
     command_on(rt, words, false, out, err)
 }
 
-/// The same where standard error may be a terminal, on which a person reads it at once: there it says, too, where nothing
-/// comes for long. That changes nothing of what is printed, nor the exit status.
+/// The same where standard error may be a terminal, on which a person reads it at once: there it says, too, where
+/// nothing comes for long. That changes nothing of what is printed, nor the exit status.
 pub fn command_on<R: AllocGlobal + Files + Net + Clock + RandomSource, O: Write, E: Write>(
     rt: &R,
     words: &[String],
@@ -178,7 +177,8 @@ pub fn command_on<R: AllocGlobal + Files + Net + Clock + RandomSource, O: Write,
     // .. and on one, too, only these are, and a script that can't be read, or a line of standard input that is no hex.
     ensures words { result ≡ 2 → ((wrong : Wrong) × IsWrong (map string_bytes words.now) wrong
         × (wrong ≢ wrongs.Memory)) ⊎ ((order : Order) × AsksFor (map string_bytes words.now) order × ReadsText order) }
-    // Whether standard error is a terminal counts for no order: one is carried out only where the words ask for it, and to that end.
+    // Whether standard error is a terminal counts for no order: one is carried out only where the words ask for it, and
+    // to that end.
     ensures done { result ≤ 1 → (order : Order) × AsksFor (map string_bytes words.now) order
         × IsCarriedTo order result }
 {

@@ -1,11 +1,12 @@
 //! Showing the datagrams that a reader has in hex, one a line.
 ghost use Rattle.std.specs.Prelude.{◌≡◌, ◌⊎◌, IfOk, max};
 ghost use Rattle.coap_commands.specs.Dumps.{IsLineStatus, IsShown};
-ghost use Rattle.coap_commands.specs.Statuses.{IsOfScript, status_number};
+ghost use Rattle.coap_commands.specs.Statuses.{IsOfScript};
+ghost use Rattle.coap_scripts.specs.StatusNumbers.{status_number};
 
 use crate::request::STANDARD_INPUT_FILE;
 use crate::show::show;
-use crate::status::{Status, Stop, stop_of};
+use coap_scripts::{Status, Stop, stop_of};
 use hex::FromHexError;
 use std::alloc::Global;
 use std::fs;
@@ -60,7 +61,8 @@ pub fn dump_line<W: Write>(
     line: &[u8],
     out: &mut W,
 ) -> Result<Status, Stop>
-    // A line of a dump comes to 0 where it is the hex of a message, to 1 where it is that of a datagram at fault, and to 2 where it is none.
+    // A line of a dump comes to 0 where it is the hex of a message, to 1 where it is that of a datagram at fault, and
+    // to 2 where it is none.
     ensures { IfOk result (IsLineStatus line.now) }
 {
     match hex::decode(alloc, line) {

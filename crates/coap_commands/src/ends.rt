@@ -9,32 +9,16 @@ ghost use Rattle.coap_server.specs.Led.{Led};
 ghost use Rattle.coap_layer.specs.declared.setup.Setup.{Setup as SetupSpec};
 ghost use Rattle.coap_server.specs.Trace.{Call, Sets};
 ghost use Rattle.coap_commands.specs.Ends.{client_sizes, server_limits};
-ghost use Rattle.coap_commands.specs.declared.status.Status.TheVariants.{Refused};
+ghost use Rattle.coap_scripts.specs.declared.status.Status.TheVariants.{Refused};
 
-use crate::status::{Status, Stop};
 use coap_ends::{Client, Server};
 use coap_layer::Setup;
 use coap_resource::{MAX_CHANGES_PER_WINDOW, MapStore, Store, StoreRefusal};
+use coap_scripts::{Status, Stop, TEXT_PLAIN, largest_szx};
 use coap_types::{BodyLimit, Endpoint, MAX_SZX, Moment, Path, Szx};
 use std::alloc::Global;
 use std::hash::BuildHasher;
 use std::io::Write;
-
-/// The format of what the server's own side sets: text/plain (RFC 7252, section 12.3).
-pub(crate) const TEXT_PLAIN: u16 = 0;
-
-const _: () = prove!(TEXT_PLAIN == 0);
-
-/// The largest size of blocks (RFC 7959, section 2.2).
-pub fn largest_szx() -> Szx
-    // The size exponent is the greatest, 6.
-    ensures { result ≡ MAX_SZX }
-{
-    match Szx::new(MAX_SZX) {
-        Some(szx) => szx,
-        None => unreachable!(),
-    }
-}
 
 /// A server that holds nothing, and then bodies up to this limit. It begins with this word, and remembers so
 /// many messages.
@@ -44,7 +28,8 @@ pub fn fresh_server<H: BuildHasher + Drop>(
     limit: BodyLimit,
     hasher: H,
 ) -> Server<MapStore, Global, H>
-    // To the server that a command begins with no call has led, with that limit and as many remembered messages as were chosen.
+    // To the server that a command begins with no call has led, with that limit and as many remembered messages as were
+    // chosen.
     ensures { Led (server_limits limit) MAX_SZX setup [] (state_of content_of result) }
 {
     let Some(store) = MapStore::new_sized(alloc, MAX_CHANGES_PER_WINDOW, limit) else {
@@ -63,7 +48,8 @@ pub fn fresh_client<H: BuildHasher + Drop>(
     limit: BodyLimit,
     hasher: H,
 ) -> Client<Global, H>
-    // To the client that a command begins with no call has led, with that size and limit, and as many remembered messages as were chosen.
+    // To the client that a command begins with no call has led, with that size and limit, and as many remembered
+    // messages as were chosen.
     ensures { ClientLed server (client_sizes size limit) setup [] result }
 {
     Client::with_setup(alloc, server, size, limit, setup, hasher)
@@ -75,8 +61,10 @@ pub fn hold<H: BuildHasher + Drop>(
     path: &Path,
     body: &[u8],
 ) -> Result<Option<StoreRefusal>, Stop>
-    // What led to the server before it was to hold something leads, with the one call that set it, to the server that holds it.
-    ensures holds { (limits : Limits) (setup : SetupSpec) (t : List Call) → Led limits MAX_SZX setup t (state_of content_of server.old)
+    // What led to the server before it was to hold something leads, with the one call that set it, to the server that
+    // holds it.
+    ensures holds { (limits : Limits) (setup : SetupSpec) (t : List Call)
+        → Led limits MAX_SZX setup t (state_of content_of server.old)
         → IfOk result (λ refusal. IfNone refusal ((version : ℕ) × (store : Content)
         × Led limits MAX_SZX setup (Sets 0 path.now (Some TEXT_PLAIN) body.now (Ok version) store ∷ t)
         (state_of content_of server.new))) }

@@ -7,9 +7,12 @@
 
 mod answer;
 mod ask;
+mod asking;
 mod bearing;
 mod calling;
 mod changes;
+mod closed_port;
+mod connection;
 mod driver;
 mod dump;
 mod ends;
@@ -20,13 +23,10 @@ mod progress;
 mod put_away;
 mod request;
 mod screen;
-mod script;
 mod serve;
 mod setting_up;
 mod show;
 mod side;
-mod sim;
-mod status;
 mod timekeeper;
 mod tracing;
 mod waiting;
@@ -37,9 +37,12 @@ pub use calling::{Outcome, call, get_request, put_request};
 pub use changes::{
     Applies, ChangeLines, ChangeTeller, ChangeWords, MAX_TOLD_LEN, TellingEnd, changes_on,
 };
+pub use closed_port::{ClosedPort, ClosedPortLink, closed_port_link_law};
+pub use coap_scripts::{ScriptRefusal, Status, Stop, events_of, largest_szx, sim_to, sim_with};
+pub use connection::{Connection, Terms};
 pub use driver::{close, command, command_on, refuse, without_words};
 pub use dump::{dump_line, dump_to};
-pub use ends::{fresh_client, fresh_server, hold, largest_szx};
+pub use ends::{fresh_client, fresh_server, hold};
 pub use observe::observe_over;
 pub use pair::pair_over;
 pub use patience::{
@@ -48,10 +51,7 @@ pub use patience::{
 pub use progress::{Progress, ProgressTeller, SHOWN_MS, progress_of, progress_on};
 pub use request::{body_of, request_of};
 pub use screen::{BesideScreen, Screen, erase};
-pub use script::{ScriptRefusal, events_of};
 pub use serve::serve_over;
 pub use setting_up::{hold_resource, server_by, set_up};
-pub use sim::{sim_to, sim_with};
-pub use status::{Status, Stop};
 pub use timekeeper::{ProgramTime, Timekeeper};
 pub use tracing::{LineTeller, SharedWriter, teller_on};

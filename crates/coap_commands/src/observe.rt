@@ -7,41 +7,30 @@ ghost use Rattle.coap_client.specs.Led.{Led, State, Step};
 ghost use Rattle.coap_client.specs.Object.Shown.{number_of, shown_report};
 ghost use Rattle.coap_client.specs.Trace.{Call, is_value};
 ghost use Rattle.coap_client.specs.Trace.{Observes as observes};
-ghost use Rattle.coap_words.specs.declared.orders.AskOptions.{AskOptions as OptionsSpec};
-ghost use Rattle.coap_commands.specs.Asked.{IsObserved, asked_setup};
+ghost use Rattle.coap_arguments.specs.declared.orders.AskOptions.{AskOptions as OptionsSpec};
 ghost use Rattle.coap_commands.specs.Asks.{takes_report};
-ghost use Rattle.coap_commands.specs.Ends.{client_sizes};
 ghost use Rattle.coap_commands.specs.Observes.{HasAll, IsLate, IsOver, ObserveBecomes, ObserveComes, Observed};
 ghost use Rattle.coap_commands.specs.Observes.{Observes};
 ghost use Rattle.coap_commands.specs.Observes.{observed_status};
+ghost use Rattle.coap_commands.specs.Terms.{asked_terms, setup_of, sizes_of};
 
 use crate::ask::next_report_of;
 use crate::bearing::bear_in_a_row;
 use crate::calling::{Outcome, outcome_text};
+use crate::connection::{Connection, Terms};
 use crate::ends::fresh_client;
-use crate::patience::{Patience, PatientLink, patience_on};
-use crate::progress::progress_on;
 use crate::put_away::put_away;
-use crate::request::server_of;
-use crate::screen::{BesideScreen, Screen, erase};
-use crate::status::{Status, Stop};
-use crate::timekeeper::{ProgramTime, Timekeeper};
-use crate::tracing::{SharedWriter, teller_on};
+use crate::timekeeper::Timekeeper;
 use crate::waiting::{MS_PER_SECOND, passed};
-use crate::word::word_of;
+use coap_arguments::AskOptions;
 use coap_ends::{CallId, CallRefusal, Client, Report};
-use coap_layer::Setup;
-use coap_links::{Link, Teller, Trace, UdpLink, fresh_tally, get_turn, send_all};
-use coap_text::hex_or_dash;
+use coap_links::{Link, fresh_tally, get_turn, send_all};
+use coap_print::hex_or_dash;
+use coap_scripts::{Status, Stop};
 use coap_types::{Endpoint, Moment, Path};
-use coap_words::AskOptions;
 use std::alloc::Global;
-use std::cell::RefCell;
-use std::hash::{BuildHasher, RandomState};
+use std::hash::BuildHasher;
 use std::io::Write;
-use std::net::Net;
-use std::random::RandomSource;
-use std::rt::Clock;
 
 // Whether so many values are as many as are wanted.
 fn has_all(times: Option<u64>, values: u64) -> bool
@@ -165,11 +154,10 @@ fn given_up(options: &AskOptions, begin: Moment, values: u64, now: Moment) -> Op
 
 // Turns the client until it reports for the last time of this observation, which began at this moment,
 // and sends what is out then; or until so many seconds have passed without a value.
-fn awaited<H: BuildHasher, L: Link, T: Timekeeper, W: Write>(
+fn awaited<H: BuildHasher, L: Link, T: Timekeeper, E: Write, W: Write>(
     alloc: Global,
     client: &mut Client<Global, H>,
-    link: &mut L,
-    time: &mut T,
+    connection: &mut Connection<'_, '_, '_, L, T, E>,
     id: CallId,
     begin: Moment,
     options: &AskOptions,
@@ -182,8 +170,8 @@ fn awaited<H: BuildHasher, L: Link, T: Timekeeper, W: Write>(
     let mut values = 0;
     // More turns than a program lives.
     for _turn in 0..u64::MAX {
-        let now = time.now()?;
-        get_turn(client, link, now, &mut tally);
+        let now = connection.time.now()?;
+        get_turn(client, connection.link, now, &mut tally);
         let is_over = is_over(options, begin, values, now);
         if let Some(report) = last_report(
             alloc,
@@ -194,7 +182,7 @@ fn awaited<H: BuildHasher, L: Link, T: Timekeeper, W: Write>(
             options.hex,
             out,
         )? {
-            send_all(client, link);
+            send_all(client, connection.link);
             return Ok(Outcome::Reported(report));
         }
         if let Some(seconds) = given_up(options, begin, values, now) {
@@ -224,11 +212,10 @@ fn register<H: BuildHasher>(
 }
 
 // What becomes of an observation, where the client was asked for nothing before.
-fn outcome_of<H: BuildHasher, L: Link, T: Timekeeper, W: Write>(
+fn outcome_of<H: BuildHasher, L: Link, T: Timekeeper, E: Write, W: Write>(
     alloc: Global,
     client: &mut Client<Global, H>,
-    link: &mut L,
-    time: &mut T,
+    connection: &mut Connection<'_, '_, '_, L, T, E>,
     path: &Path,
     options: &AskOptions,
     word: u64,
@@ -237,9 +224,9 @@ fn outcome_of<H: BuildHasher, L: Link, T: Timekeeper, W: Write>(
     ensures { IfOk result (λ outcome. (server : EndpointSpec) (sizes : Sizes) (w : SetupSpec)
         → Led server sizes w [] client.old → ObserveBecomes server sizes w path.now options.now outcome) }
 {
-    let begin = time.now()?;
+    let begin = connection.time.now()?;
     match register(client, begin, path)? {
-        Ok(id) => awaited(alloc, client, link, time, id, begin, options, word, out),
+        Ok(id) => awaited(alloc, client, connection, id, begin, options, word, out),
         Err(refusal) => Ok(Outcome::Refused(refusal)),
     }
 }
@@ -260,137 +247,48 @@ fn tell<E: Write>(alloc: Global, outcome: &Outcome, err: &mut E) -> Result<Statu
 fn observe_and_tell<H: BuildHasher, L: Link, T: Timekeeper, O: Write, E: Write>(
     alloc: Global,
     client: &mut Client<Global, H>,
-    link: &mut L,
-    time: &mut T,
+    connection: &mut Connection<'_, '_, '_, L, T, E>,
     path: &Path,
     options: &AskOptions,
     word: u64,
-    writers: (&mut O, &mut E),
+    out: &mut O,
 ) -> Result<Status, Stop>
     ensures { IfOk result (λ status. (server : EndpointSpec) (sizes : Sizes) (w : SetupSpec)
         → Led server sizes w [] client.old → Observes server sizes w path.now options.now status) }
 {
-    let (out, err) = writers;
-    let outcome = outcome_of(alloc, client, link, time, path, options, word, out)?;
-    tell(alloc, &outcome, err)
+    let outcome = outcome_of(alloc, client, connection, path, options, word, out)?;
+    tell(alloc, &outcome, connection.err)
 }
 
-/// Observes what a server holds at a path, and prints each value on a line of `out`, and on `err` how it
+/// Observes what a server holds at a path, and prints each value on a line of `out`, and on standard error how it
 /// ended. It ends after as many values, or seconds, as the options say, and with neither when the server
-/// ends it. The client begins with this word, remembers as many messages, has blocks of the size and takes bodies
-/// up to the limit that the options say.
+/// ends it. The client begins with this word, and by the terms of the options.
 pub fn observe_over<L: Link, T: Timekeeper, H: BuildHasher + Drop, O: Write, E: Write>(
     alloc: Global,
-    link: &mut L,
+    connection: &mut Connection<'_, '_, '_, L, T, E>,
     server: Endpoint,
-    time: &mut T,
     hasher: H,
     path: &Path,
     options: &AskOptions,
     word: u64,
-    writers: (&mut O, &mut E),
+    out: &mut O,
 ) -> Result<Status, Stop>
-    // A client of this server, which remembers as many messages as the options say, was called to observe the path, and then
-    // only to cancel that, once it was over by the options; the status is 0 where it was reported last that it is cancelled, and else 1.
-    ensures { IfOk result (Observes server (client_sizes options.now.size options.now.limit)
-        (asked_setup word options.now) path.now options.now) }
+    // A client of this server, which remembers as many messages as the options say, was called to observe the path, and
+    // then only to cancel that, once it was over by the options; the status is 0 where it was reported last that it is
+    // cancelled, and else 1.
+    ensures { IfOk result (Observes server (sizes_of (asked_terms word options.now))
+        (setup_of (asked_terms word options.now)) path.now options.now) }
 {
-    let setup = Setup {
-        word,
-        remembered: options.remembered,
-    };
-    let mut client = fresh_client(alloc, server, setup, options.size, options.limit, hasher);
-    let ended = observe_and_tell(alloc, &mut client, link, time, path, options, word, writers);
+    let terms = Terms::of(options, word);
+    let mut client = fresh_client(
+        alloc,
+        server,
+        terms.setup(),
+        terms.size,
+        terms.limit,
+        hasher,
+    );
+    let ended = observe_and_tell(alloc, &mut client, connection, path, options, word, out);
     put_away(client);
     ended
-}
-
-// The same, beside a screen, over a link of its own: how far a body is, and a long wait, are told of.
-fn observe_on<
-    L: Link + Drop,
-    T: Timekeeper,
-    H: BuildHasher + Drop,
-    O: Write,
-    W: Write,
-    P: Teller + Drop,
-    U: Timekeeper + Drop,
-    V: Write + Drop,
->(
-    alloc: Global,
-    link: L,
-    progress: P,
-    patience: Option<Patience<U, V>>,
-    server: Endpoint,
-    time: &mut T,
-    hasher: H,
-    path: &Path,
-    options: &AskOptions,
-    word: u64,
-    out: &mut O,
-    screen: &RefCell<Screen<W>>,
-) -> Result<Status, Stop>
-    ensures { IfOk result (Observes server (client_sizes options.now.size options.now.limit)
-        (asked_setup word options.now) path.now options.now) }
-{
-    let link = Trace::new(link, progress);
-    let mut link = PatientLink::new(link, patience);
-    let mut out = BesideScreen::new(out, screen);
-    let mut err = SharedWriter::new(screen);
-    let ended = observe_over(
-        alloc,
-        &mut link,
-        server,
-        time,
-        hasher,
-        path,
-        options,
-        word,
-        (&mut out, &mut err),
-    );
-    erase(screen);
-    ended
-}
-
-/// Observes what the server at this port of the host holds at a path; whether standard error is a terminal counts for
-/// what is said there of a long wait and of a body in blocks.
-pub(crate) fn observe<R: AllocGlobal + Net + Clock + RandomSource, O: Write, E: Write>(
-    rt: &R,
-    port: u16,
-    path: &Path,
-    options: &AskOptions,
-    is_terminal: bool,
-    out: &mut O,
-    err: &mut E,
-) -> Result<Status, Stop>
-    ensures { IfOk result (IsObserved port path.now options.now) }
-{
-    let word = word_of(rt, options.word)?;
-    let mut time = ProgramTime::begin(rt)?;
-    let server = server_of(port, options);
-    let link = UdpLink::client(rt, server)?;
-    let hasher = RandomState::new(rt)?;
-    let screen = RefCell::new(Screen::new(&mut *err));
-    let teller = teller_on(rt.alloc(), time.again(), &screen, options.trace);
-    let link = Trace::new(link, teller);
-    let progress = progress_on(time.again(), &screen, server, 0, is_terminal);
-    let patience = patience_on(
-        time.again(),
-        SharedWriter::new(&screen),
-        options.give_up,
-        is_terminal || options.trace,
-    );
-    observe_on(
-        rt.alloc(),
-        link,
-        progress,
-        patience,
-        server,
-        &mut time,
-        hasher,
-        path,
-        options,
-        word,
-        out,
-        &screen,
-    )
 }

@@ -1,3 +1,4 @@
+//! `pair`: a client and a server in one process, a PUT and a GET.
 ghost use Rattle.std.specs.Prelude.{◌≡◌, List, [], true, false, IfOk};
 ghost use Rattle.coap_types.specs.declared.endpoint.Endpoint.{Endpoint as EndpointSpec};
 ghost use Rattle.coap_types.specs.declared.szx.TheConstants.{MAX_SZX as max_szx};
@@ -11,22 +12,22 @@ ghost use Rattle.coap_commands.specs.Asks.{AsksNothing, Turned, changed_status, 
 ghost use Rattle.coap_commands.specs.Ends.{client_sizes};
 ghost use Rattle.coap_commands.specs.Pairs.{CameBack, IsHanded, IsPaired, Pairs, paired_setup};
 ghost use Rattle.coap_commands.specs.Statuses.{IsCarriedOut};
-ghost use Rattle.coap_commands.specs.declared.status.Status.TheVariants as status;
+ghost use Rattle.coap_scripts.specs.declared.status.Status.TheVariants as status;
 
 use crate::ask::next_report_of;
 use crate::bearing::bear_in_all;
 use crate::calling::{Outcome, call, get_request, outcome_text, put_request};
-use crate::ends::{fresh_client, fresh_server, largest_szx};
+use crate::ends::{fresh_client, fresh_server};
 use crate::put_away::put_away;
 use crate::side::Side;
-use crate::status::{Status, Stop};
 use crate::timekeeper::{ProgramTime, Timekeeper};
 use crate::word::word_of;
+use coap_arguments::WordChoice;
 use coap_ends::{CallId, Client, End, Report};
 use coap_layer::Setup;
 use coap_links::{ANY_PORT, LOOPBACK, Link, Tally, UdpLink, fresh_tally, send_all, turn};
+use coap_scripts::{Status, Stop, largest_szx};
 use coap_types::{BodyLimit, Code, Endpoint, Moment, Path, Remembered, Request};
-use coap_words::WordChoice;
 use std::alloc::Global;
 use std::hash::{BuildHasher, RandomState};
 use std::io::Write;
@@ -183,8 +184,9 @@ pub fn pair_over<
 ) -> Result<Status, Stop>
     // A `pair` over any links is carried out with status 0 or 1, or stops.
     ensures ends { IfOk result IsCarriedOut }
-    // A client of the server at that link, with as many remembered messages as were chosen, was handed a PUT of the body at the path, where success was
-    // reported of it a GET of the path, and nothing else; the status is 0 where the body came back, and else 1.
+    // A client of the server at that link, with as many remembered messages as were chosen, was handed a PUT of the
+    // body at the path, where success was reported of it a GET of the path, and nothing else; the status is 0 where the
+    // body came back, and else 1.
     ensures pairs { IfOk result (Pairs (S.own_address server_link.old) (client_sizes max_szx limit)
         (paired_setup word remembered) path.now body.now) }
 {

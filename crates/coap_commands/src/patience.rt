@@ -137,6 +137,8 @@ impl<L: Link + Drop, T: Timekeeper + Drop, W: Write + Drop> Link for PatientLink
 
     ghost own_address = { λ patient. L.own_address patient.link };
 
+    ghost hears_refusal = { λ patient. L.hears_refusal patient.link };
+
     fn send(&mut self, to: Endpoint, bytes: &[u8]) {
         if let Some(patience) = &mut self.patience {
             patience.begin();
@@ -159,10 +161,14 @@ impl<L: Link + Drop, T: Timekeeper + Drop, W: Write + Drop> Link for PatientLink
     fn address(&self) -> Endpoint {
         self.link.address()
     }
+
+    fn is_refused(&self) -> bool {
+        self.link.is_refused()
+    }
 }
 
-/// What passes a patient link passes the link that it is around, unchanged; the faults and the address are those of that
-/// link.
+/// What passes a patient link passes the link that it is around, unchanged; the faults and the address are those of
+/// that link.
 pub fn patient_link_law<L: Link + Drop, T: Timekeeper + Drop, W: Write + Drop>()
     // What a patient link sends its link sends, the same bytes to the same endpoint.
     ensures sends { (t u : _) (to : EndpointSpec) (bytes : List ℕ)
@@ -174,4 +180,6 @@ pub fn patient_link_law<L: Link + Drop, T: Timekeeper + Drop, W: Write + Drop>()
     ensures faults { (t : _) → ⟦<PatientLink<L, T, W> as Link>⟧.fault_count t ≡ L.fault_count t.link }
     // A patient link is where its link is.
     ensures address { (t : _) → ⟦<PatientLink<L, T, W> as Link>⟧.own_address t ≡ L.own_address t.link }
+    // A patient link hears that nobody listens where its link does.
+    ensures refusal { (t : _) → ⟦<PatientLink<L, T, W> as Link>⟧.hears_refusal t ≡ L.hears_refusal t.link }
 {}

@@ -3,10 +3,10 @@ ghost use Rattle.std.specs.Prelude.{◌≡◌, IfOk};
 ghost use Rattle.coap_client.specs.Object.CallShown.{shown_request};
 ghost use Rattle.coap_commands.specs.Asked.{IsBody, IsContent, asked_method, asked_request, asked_server};
 
-use crate::status::{Stop, stop_of};
 use bytes::Bytes;
+use coap_arguments::{AskOptions, Content, What};
+use coap_scripts::{Stop, stop_of};
 use coap_types::{BodyLimit, Endpoint, Method, Path, Request, Tags};
-use coap_words::{AskOptions, Content, What};
 use std::alloc::{AllocError, Global};
 use std::fs;
 use std::io::Read;

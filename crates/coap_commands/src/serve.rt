@@ -1,3 +1,4 @@
+//! `serve`: a server over a socket.
 ghost use Rattle.std.specs.Prelude.{◌≡◌, IfOk};
 ghost use Rattle.coap_links.specs.Pumping.{SendsAll};
 ghost use Rattle.coap_links.specs.Turning.{Turns};
@@ -6,22 +7,22 @@ ghost use Rattle.coap_server.specs.Led.{State};
 ghost use Rattle.coap_server.specs.Object.Shown.{state_of};
 ghost use Rattle.coap_commands.specs.Serves.{Feeds, Serves};
 ghost use Rattle.coap_commands.specs.Served.{FedFrom, IsServed};
-ghost use Rattle.coap_commands.specs.declared.status.Status.TheVariants.{Done};
+ghost use Rattle.coap_scripts.specs.declared.status.Status.TheVariants.{Done};
 
 use crate::bearing::bear_serving;
 use crate::changes::{ChangeTeller, TellingEnd, changes_on};
 use crate::ends::tell_refusal;
 use crate::put_away::put_away;
 use crate::setting_up::server_by;
-use crate::status::{Status, Stop};
 use crate::timekeeper::{ProgramTime, Timekeeper};
 use crate::tracing::teller_on;
 use crate::word::word_of;
+use coap_arguments::ServeOptions;
 use coap_ends::{End, Server};
 use coap_links::{Link, Trace, UdpLink, fresh_tally, send_all, serve_turn};
 use coap_resource::MapStore;
+use coap_scripts::{Status, Stop};
 use coap_types::Endpoint;
-use coap_words::ServeOptions;
 use std::alloc::{Allocator, Global};
 use std::cell::RefCell;
 use std::hash::{BuildHasher, RandomState};
@@ -64,8 +65,8 @@ pub fn serve_over<A: Allocator + Copy, E: End<A>, L: Link, T: Timekeeper, W: Wri
     word: u64,
     out: &mut W,
 ) -> Result<Status, Stop>
-    // A `serve` over any link ends with status 0, or stops: it ends after turns alone, once so many datagrams were fed and no later, and
-    // has sent what was out then.
+    // A `serve` over any link ends with status 0, or stops: it ends after turns alone, once so many datagrams were fed
+    // and no later, and has sent what was out then.
     ensures { IfOk result (λ status. (status ≡ Done) × Serves
         (Turns E.waiting E.gives L.sends L.receives L.fault_count E.quiet_feed E.feeds E.quiet_tick E.ticks)
         (λ g k f m. SendsAll E.gives L.sends g k (E.waiting g) f m) count word

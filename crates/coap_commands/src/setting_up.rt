@@ -12,12 +12,12 @@ ghost use Rattle.coap_commands.specs.SettingUp.{Holds, HoldsResource, IsServer, 
 
 use crate::ends::{fresh_server, hold};
 use crate::put_away::put_away;
-use crate::status::Stop;
+use coap_arguments::{Delay, Hold, ServeOptions, path_of_text};
 use coap_ends::{DelayRefusal, PlainRefusal, Server};
 use coap_layer::Setup;
 use coap_resource::{MapStore, StoreRefusal};
+use coap_scripts::Stop;
 use coap_types::Path;
-use coap_words::{Delay, Hold, ServeOptions, path_of_text};
 use std::alloc::Global;
 use std::hash::BuildHasher;
 
@@ -32,8 +32,10 @@ pub fn hold_resource<H: BuildHasher + Drop>(
     alloc: Global,
     server: &mut Server<MapStore, Global, H>,
 ) -> Result<Option<StoreRefusal>, Stop>
-    // What led to the server before it was to hold the temperature leads, with the one call that set it, to the server that holds it.
-    ensures { (limits : Limits) (setup : SetupSpec) (t : List Call) → Led limits max_szx setup t (state_of content_of server.old)
+    // What led to the server before it was to hold the temperature leads, with the one call that set it, to the server
+    // that holds it.
+    ensures { (limits : Limits) (setup : SetupSpec) (t : List Call)
+        → Led limits max_szx setup t (state_of content_of server.old)
         → IfOk result (λ refusal. IfNone refusal ((after : List Call) × HoldsResource t after
         × Led limits max_szx setup after (state_of content_of server.new))) }
 {
@@ -48,7 +50,8 @@ fn hold_all<H: BuildHasher + Drop>(
     server: &mut Server<MapStore, Global, H>,
     holds: &[Hold],
 ) -> Result<Option<StoreRefusal>, Stop>
-    ensures { (limits : Limits) (setup : SetupSpec) (t : List Call) → Led limits max_szx setup t (state_of content_of server.old)
+    ensures { (limits : Limits) (setup : SetupSpec) (t : List Call)
+        → Led limits max_szx setup t (state_of content_of server.old)
         → IfOk result (λ refusal. IfNone refusal ((after : List Call) × Holds holds.now t after
         × Led limits max_szx setup after (state_of content_of server.new))) }
 {
@@ -65,7 +68,8 @@ fn delay_all<H: BuildHasher + Drop>(
     server: &mut Server<MapStore, Global, H>,
     delays: &[Delay],
 ) -> Result<(), Stop>
-    ensures { (limits : Limits) (setup : SetupSpec) (t : List Call) → Led limits max_szx setup t (state_of content_of server.old)
+    ensures { (limits : Limits) (setup : SetupSpec) (t : List Call)
+        → Led limits max_szx setup t (state_of content_of server.old)
         → IfOk result (λ _. Led limits max_szx setup (fold with_delay t delays.now) (state_of content_of server.new)) }
 {
     for delay in delays {
@@ -84,7 +88,8 @@ fn make_plain<H: BuildHasher + Drop>(
     server: &mut Server<MapStore, Global, H>,
     paths: &[Path],
 ) -> Result<(), Stop>
-    ensures { (limits : Limits) (setup : SetupSpec) (t : List Call) → Led limits max_szx setup t (state_of content_of server.old)
+    ensures { (limits : Limits) (setup : SetupSpec) (t : List Call)
+        → Led limits max_szx setup t (state_of content_of server.old)
         → IfOk result (λ _. Led limits max_szx setup (fold with_plain t paths.now) (state_of content_of server.new)) }
 {
     for path in paths {
@@ -105,9 +110,10 @@ pub fn set_up<H: BuildHasher + Drop>(
     server: &mut Server<MapStore, Global, H>,
     options: &ServeOptions,
 ) -> Result<Option<StoreRefusal>, Stop>
-    // What led to the server before leads to the one that is set up, with these calls and no other: its resource and what the words name
-    // is set, in order, and so are their delays and their plain paths.
-    ensures { (limits : Limits) (setup : SetupSpec) (t : List Call) → Led limits max_szx setup t (state_of content_of server.old)
+    // What led to the server before leads to the one that is set up, with these calls and no other: its resource and
+    // what the words name is set, in order, and so are their delays and their plain paths.
+    ensures { (limits : Limits) (setup : SetupSpec) (t : List Call)
+        → Led limits max_szx setup t (state_of content_of server.old)
         → IfOk result (λ refusal. IfNone refusal ((after : List Call) × SetsUp options.now t after
         × Led limits max_szx setup after (state_of content_of server.new))) }
 {
@@ -130,8 +136,8 @@ pub fn server_by<H: BuildHasher + Drop>(
     options: &ServeOptions,
     hasher: H,
 ) -> Result<Result<Server<MapStore, Global, H>, StoreRefusal>, Stop>
-    // The server of `serve` remembers as many messages, and takes bodies up to the limit, as its words say; the calls that set it up
-    // have led to it, and no other.
+    // The server of `serve` remembers as many messages, and takes bodies up to the limit, as its words say; the calls
+    // that set it up have led to it, and no other.
     ensures { IfOk result (λ made. IfOk made (λ server. IsServer word options.now (state_of content_of server))) }
 {
     let setup = Setup {

@@ -1,11 +1,12 @@
+//! `show`: a datagram in words.
 ghost use Rattle.std.specs.Prelude.{◌≡◌, IfOk};
 ghost use Rattle.coap_commands.specs.Dumps.{IsShown};
 ghost use Rattle.coap_commands.specs.Statuses.{IsCarriedOut};
-ghost use Rattle.coap_commands.specs.declared.status.Status.TheVariants as statuses;
+ghost use Rattle.coap_scripts.specs.declared.status.Status.TheVariants as statuses;
 
-use crate::status::{Status, Stop};
 use coap_codec::{Fault, View, decode};
-use coap_text::{FaultWords, hex_or_dash};
+use coap_print::{FaultWords, hex_or_dash};
+use coap_scripts::{Status, Stop};
 use std::alloc::Global;
 use std::io::Write;
 

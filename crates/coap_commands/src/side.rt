@@ -1,9 +1,9 @@
 //! An end over a link.
 
 use crate::bearing::bear_in_all;
-use crate::status::Stop;
 use coap_ends::End;
 use coap_links::{Link, Tally, fresh_tally, send_all, turn};
+use coap_scripts::Stop;
 use coap_types::Moment;
 use std::alloc::Global;
 

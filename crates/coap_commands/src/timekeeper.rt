@@ -1,15 +1,10 @@
 //! The clock that a program's turns read.
 
+pub use coap_links::Timekeeper;
 use coap_types::Moment;
 use std::io;
 use std::rt::Clock;
 use std::time::Instant;
-
-/// A clock that tells moments, in milliseconds since one of its own.
-pub trait Timekeeper {
-    /// The moment that it is.
-    fn now(&mut self) -> io::Result<Moment>;
-}
 
 /// The milliseconds since the program began.
 #[derive(Drop)]

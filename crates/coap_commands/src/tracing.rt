@@ -3,7 +3,7 @@ ghost use Rattle.std.specs.Prelude.{◌≡◌, is_some};
 
 use crate::timekeeper::Timekeeper;
 use coap_links::{Teller, Way};
-use coap_text::{DatagramWords, EndpointWords};
+use coap_print::{DatagramWords, EndpointWords};
 use coap_types::{Endpoint, Moment};
 use std::alloc::{AllocError, Allocator};
 use std::cell::RefCell;

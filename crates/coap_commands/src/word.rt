@@ -2,8 +2,8 @@
 ghost use Rattle.std.specs.Prelude.{IfOk};
 ghost use Rattle.coap_commands.specs.Asked.{IsWord};
 
-use crate::status::Stop;
-use coap_words::WordChoice;
+use coap_arguments::WordChoice;
+use coap_scripts::Stop;
 use std::random::RandomSource;
 
 /// The word that is chosen; a random one is drawn.

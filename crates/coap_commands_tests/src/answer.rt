@@ -1,3 +1,4 @@
+//! Tests of `answer`.
 use crate::rows::{Row, check_row, repeated};
 use std::alloc::AllocError;
 use std::net::Net;

@@ -1,10 +1,10 @@
+//! Tests of what a client of the program asks, over a link in memory.
 use crate::clock::Clock;
 use crate::rows::{check_row, repeated, words_of};
-use coap_commands::{ask_over, body_of, close, request_of};
-use coap_layer::Setup;
+use coap_arguments::{Content, Order, What, WordChoice, order};
+use coap_commands::{Connection, Terms, ask_over, body_of, close, request_of};
 use coap_links::MemoryLink;
 use coap_types::Endpoint;
-use coap_words::{Content, Order, What, WordChoice, order};
 use std::alloc::{AllocError, Global};
 use std::fs;
 use std::hash::{BuildHasherDefault, FoldHasher};
@@ -278,22 +278,9 @@ pub(super) fn ask_in_memory<R: AllocGlobal + Files>(
     }
     let hasher = BuildHasherDefault::<FoldHasher>::new();
     let mut time = Clock { now: 0 };
-    let ended = ask_over(
-        alloc,
-        &mut link,
-        FAR,
-        &mut time,
-        hasher,
-        request,
-        options.give_up,
-        Setup {
-            word: 0,
-            remembered: options.remembered,
-        },
-        options.size,
-        options.limit,
-        (told, said),
-    );
+    let mut connection = Connection::new(&mut link, &mut time, &mut *said);
+    let terms = Terms::of(&options, 0);
+    let ended = ask_over(alloc, &mut connection, FAR, hasher, request, &terms, told);
     if let Some(datagram) = link.next_handed() {
         sent.extend_from_slice(datagram.bytes())?;
     }

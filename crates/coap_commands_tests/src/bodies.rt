@@ -1,3 +1,4 @@
+//! Tests of bodies that come from words, from a file and from standard input.
 use crate::rows::{check_row, repeated};
 use std::alloc::AllocError;
 use std::net::Net;

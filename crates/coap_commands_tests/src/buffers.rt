@@ -1,7 +1,7 @@
 //! A link in memory with buffers for what it is handed.
 use coap_links::{Link, MAX_DATAGRAM_LEN, MemoryLink};
 use coap_types::Endpoint;
-use failing::Failing;
+use failing_allocator::Failing;
 use std::alloc::{AllocError, Global};
 use std::test::Fail;
 

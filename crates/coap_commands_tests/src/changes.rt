@@ -1,11 +1,12 @@
+//! Tests of what `serve --changes` tells.
 use crate::clock::Clock;
 use crate::rows::{Broken, words_of};
+use coap_arguments::{Order, order, path_of_text};
 use coap_commands::{
     ChangeWords, SharedWriter, TellingEnd, changes_on, close, serve_over, server_by,
 };
 use coap_links::MemoryLink;
 use coap_types::{Endpoint, Method, Moment};
-use coap_words::{Order, order, path_of_text};
 use std::alloc::{AllocError, Global};
 use std::cell::RefCell;
 use std::hash::{BuildHasherDefault, FoldHasher};

@@ -1,3 +1,4 @@
+//! Tests of `dump`.
 use crate::asking::check_said;
 use coap_commands::{close, dump_line, dump_to};
 use std::alloc::{AllocError, Global};

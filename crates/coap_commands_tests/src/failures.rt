@@ -1,8 +1,9 @@
+//! Tests of links that fail.
 use crate::faulty_link::{Fails, FaultyLink};
+use coap_arguments::FOREVER;
 use coap_commands::{Timekeeper, close, fresh_server, serve_over};
 use coap_layer::Setup;
 use coap_types::{BodyLimit, Moment};
-use coap_words::FOREVER;
 use std::alloc::{AllocError, Global};
 use std::hash::{BuildHasherDefault, FoldHasher};
 use std::io;

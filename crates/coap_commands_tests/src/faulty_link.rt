@@ -1,5 +1,5 @@
 //! For tests: a link of which some calls fail, and on which a ping comes where a receive doesn't fail.
-ghost use Rattle.std.specs.Prelude.{◌≡◌};
+ghost use Rattle.std.specs.Prelude.{◌≡◌, false};
 ghost use Rattle.coap_links.specs.Faults.{MayRaise, raised};
 
 use coap_links::Link;
@@ -70,6 +70,8 @@ impl Link for FaultyLink {
 
     ghost own_address = { λ link. link.address };
 
+    ghost hears_refusal = { λ _. false };
+
     fn send(&mut self, _to: Endpoint, _bytes: &[u8]) {
         self.sends = self.sends.wrapping_add(1);
         let failed = match self.fails {
@@ -99,5 +101,9 @@ impl Link for FaultyLink {
 
     fn address(&self) -> Endpoint {
         self.address
+    }
+
+    fn is_refused(&self) -> bool {
+        false
     }
 }

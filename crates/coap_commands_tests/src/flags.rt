@@ -1,6 +1,7 @@
+//! Tests of flags.
 use crate::asking::check_said;
 use crate::rows::words_of;
-use coap_words::{Order, order};
+use coap_arguments::{Order, order};
 use std::alloc::{AllocError, Global};
 use std::test::Fail;
 

@@ -1,3 +1,4 @@
+//! Tests of content formats by name and by number.
 use crate::asking::{check_ask, check_said};
 use std::test::Fail;
 

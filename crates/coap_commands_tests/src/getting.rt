@@ -1,3 +1,4 @@
+//! Tests of what `get` prints.
 use crate::asking::{check_ask, check_said};
 use std::test::Fail;
 

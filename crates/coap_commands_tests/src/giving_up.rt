@@ -1,3 +1,4 @@
+//! Tests of `--give-up`.
 use crate::asking::{ask_in_memory, check_said};
 use std::test::Fail;
 

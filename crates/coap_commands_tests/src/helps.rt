@@ -1,7 +1,7 @@
 //! What help says.
 use crate::rows::words_of;
+use coap_arguments::order;
 use coap_commands::command;
-use coap_words::order;
 use std::alloc::AllocError;
 use std::net::Net;
 use std::process::Abort;

@@ -1,6 +1,7 @@
+//! Tests of `--host` and `--address`.
 use crate::asking::check_said;
 use crate::rows::{check_row, repeated, words_of};
-use coap_words::{Order, order};
+use coap_arguments::{Order, order};
 use std::alloc::{AllocError, Global};
 use std::test::Fail;
 

@@ -1,5 +1,5 @@
-//! Tests of what the program does, by the public calls of `coap_commands`: its words, and one end over a link in memory. Those of
-//! both ends, and of what is shown while one waits, stand in `coap_runs_tests`.
+//! Tests of what the program does, by the public calls of `coap_commands`: its words, and one end over a link in
+//! memory. Those of both ends, and of what is shown while one waits, stand in `coap_runs_tests`.
 #![tactic(auto)]
 
 #[cfg(test)]

@@ -1,10 +1,11 @@
+//! Tests of `observe`.
 use crate::asking::check_said;
 use crate::clock::Clock;
 use crate::rows::words_of;
-use coap_commands::{close, observe_over};
+use coap_arguments::{Order, order};
+use coap_commands::{Connection, close, observe_over};
 use coap_links::MemoryLink;
 use coap_types::Endpoint;
-use coap_words::{Order, order};
 use std::alloc::{AllocError, Global};
 use std::hash::{BuildHasherDefault, FoldHasher};
 use std::test::Fail;
@@ -47,16 +48,16 @@ fn observe_in_memory(alloc: Global, words: &[&str], replies: &[&[u8]]) -> Result
     let mut time = Clock { now: 0 };
     let mut printed = Vec::new(alloc);
     let mut said = Vec::new(alloc);
+    let mut connection = Connection::new(&mut link, &mut time, &mut said);
     let ended = observe_over(
         alloc,
-        &mut link,
+        &mut connection,
         FAR,
-        &mut time,
         hasher,
         &path,
         &options,
         0,
-        (&mut printed, &mut said),
+        &mut printed,
     );
     let status = close(ended, &mut said).number();
     let sent = sent_by(alloc, &mut link)?;
@@ -148,8 +149,8 @@ fn words_that_observe(rt: HostRuntime) -> Result<(), Fail> {
     Ok(())
 }
 
-// The answer to the registration, Observe 1 and ETag 1, with `a`; a notification, Observe 2 and ETag 2, with `b`; the answer to
-// the cancel; and a Reset of the registration.
+// The answer to the registration, Observe 1 and ETag 1, with `a`; a notification, Observe 2 and ETag 2, with `b`; the
+// answer to the cancel; and a Reset of the registration.
 const FIRST: &[u8] = b"\x68\x45\0\0\0\0\0\0\0\0\0\0\x48\0\0\0\0\0\0\0\x01\x21\x01\x60\xffa";
 
 const SECOND: &[u8] = b"\x48\x45\0\x07\0\0\0\0\0\0\0\0\x48\0\0\0\0\0\0\0\x02\x21\x02\x60\xffb";
@@ -168,7 +169,8 @@ const CANCELLED: &str = "480100000000000000000000605174 480100010000000000000000
 const ACKNOWLEDGED: &str = "480100000000000000000000605174 60000007 \
                             48010001000000000000000061015174 ";
 
-// What is observed, what comes, the exit status, what is printed, what is said, and what is sent, where that is looked at.
+// What is observed, what comes, the exit status, what is printed, what is said, and what is sent, where that is looked
+// at.
 type Row<'a> = (&'a [&'a str], &'a [&'a [u8]], u8, &'a str, &'a str, &'a str);
 
 #[test]

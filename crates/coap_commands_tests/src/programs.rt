@@ -1,14 +1,15 @@
+//! Tests of whole runs of the program, each over its words.
 use crate::clock::Clock;
 use crate::refusing_end::RefusingEnd;
-use crate::rows::{Row, check_row, repeated, words_of};
+use crate::rows::{Row, check_row, repeated, terms_with, words_of};
+use coap_arguments::path_of_text;
 use coap_commands::{
-    Stop, ask_over, close, command, fresh_server, get_request, hold_resource, largest_szx,
+    Connection, Stop, ask_over, close, command, fresh_server, get_request, hold_resource,
     serve_over,
 };
 use coap_layer::Setup;
 use coap_links::{ANY_PORT, LOOPBACK, Link, MemoryLink, UdpLink};
 use coap_types::{BodyLimit, Endpoint, Path};
-use coap_words::path_of_text;
 use std::alloc::{AllocError, Global};
 use std::hash::{BuildHasherDefault, FoldHasher};
 use std::net::Net;
@@ -159,20 +160,9 @@ fn get_in_memory(
     let mut time = Clock { now: 0 };
     let request = get_request(path)?;
     let mut said = Vec::new(alloc);
-    let writers = (told, &mut said);
-    let ended = ask_over(
-        alloc,
-        &mut link,
-        FAR,
-        &mut time,
-        hasher,
-        request,
-        None,
-        Setup::new(0),
-        largest_szx(),
-        limit,
-        writers,
-    );
+    let terms = terms_with(limit);
+    let mut connection = Connection::new(&mut link, &mut time, &mut said);
+    let ended = ask_over(alloc, &mut connection, FAR, hasher, request, &terms, told);
     drop(link);
     Ok(close(ended, &mut said).number())
 }

@@ -1,5 +1,7 @@
-use coap_commands::{Stop, command, refuse, without_words};
-use coap_words::Wrong;
+//! Tests of words: which are wrong, and with which status the program ends.
+use coap_arguments::Wrong;
+use coap_commands::{Stop, Terms, command, largest_szx, refuse, without_words};
+use coap_types::{BodyLimit, Remembered};
 use std::alloc::{AllocError, Global};
 use std::io;
 use std::io::{ErrorKind, Write};
@@ -16,6 +18,17 @@ pub(super) fn words_of(alloc: Global, words: &[&str]) -> Result<Vec<String>, All
         list.push(String::from_str(alloc, word)?)?;
     }
     Ok(list)
+}
+
+/// The terms of a client of word 0 with the largest blocks, which takes bodies up to this limit.
+pub(super) fn terms_with(limit: BodyLimit) -> Terms {
+    Terms {
+        word: 0,
+        remembered: Remembered::default(),
+        size: largest_szx(),
+        limit,
+        give_up: None,
+    }
 }
 
 /// A text, many times.

@@ -1,10 +1,11 @@
+//! Tests of `serve`.
 use crate::asking::check_said;
 use crate::clock::Clock;
 use crate::rows::{check_row, repeated, words_of};
+use coap_arguments::{FOREVER, Order, order};
 use coap_commands::{close, serve_over, server_by};
 use coap_links::MemoryLink;
 use coap_types::Endpoint;
-use coap_words::{FOREVER, Order, order};
 use std::alloc::{AllocError, Global};
 use std::hash::{BuildHasherDefault, FoldHasher};
 use std::test::Fail;
@@ -22,7 +23,8 @@ const SERVER: Endpoint = Endpoint {
 const NO_HOLD: &str = "--hold is not PATH=BODY, where PATH is a path";
 
 const NO_DELAY: &str =
-    "--delay is not PATH=MS, where PATH is a path and MS a number from 0 to 18446744073709551615, or is given more than 16 times";
+    "--delay is not PATH=MS, where PATH is a path and MS a number from 0 to 18446744073709551615, or is given more \
+        than 16 times";
 
 const NO_COUNT: &str = "COUNT is neither forever nor a number from 0 to 18446744073709551615";
 

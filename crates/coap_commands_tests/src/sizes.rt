@@ -1,3 +1,4 @@
+//! Tests of block sizes and limits of bodies.
 use crate::asking::{check_ask, check_said};
 use crate::rows::repeated;
 use std::alloc::{AllocError, AllocGlobal, Global};
@@ -32,8 +33,8 @@ fn words_of_a_size(rt: HostRuntime) -> Result<(), Fail> {
     Ok(())
 }
 
-// What a PUT of one byte more than a block sends first: Block1 stands behind Uri-Path `t`, with NUM 0, M 1 and SZX from 0
-// (RFC 7959, section 2.2).
+// What a PUT of one byte more than a block sends first: Block1 stands behind Uri-Path `t`, with NUM 0, M 1 and SZX from
+// 0 (RFC 7959, section 2.2).
 fn first_block(alloc: Global, len: usize, block1: &str) -> Result<String, AllocError> {
     let mut sent = String::from_str(alloc, "480300000000000000000000b174d103")?;
     sent.push_str(block1)?;

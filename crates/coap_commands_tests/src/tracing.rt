@@ -1,11 +1,11 @@
+//! Tests of `--trace`.
 use crate::clock::Clock;
-use crate::rows::Broken;
-use coap_commands::{SharedWriter, ask_over, close, get_request, largest_szx, teller_on};
-use coap_layer::Setup;
+use crate::rows::{Broken, terms_with};
+use coap_arguments::path_of_text;
+use coap_commands::{Connection, SharedWriter, ask_over, close, get_request, teller_on};
 use coap_links::{Link, MemoryLink, Trace};
-use coap_text::DatagramWords;
+use coap_print::DatagramWords;
 use coap_types::{BodyLimit, Endpoint, Path};
-use coap_words::path_of_text;
 use std::alloc::{AllocError, Global};
 use std::cell::RefCell;
 use std::hash::{BuildHasherDefault, FoldHasher};
@@ -118,20 +118,9 @@ fn get_traced<O: Write, E: Write>(
     let request = get_request(path)?;
     let limit = BodyLimit::default();
     let mut said = SharedWriter(err);
-    let writers = (out, &mut said);
-    let ended = ask_over(
-        alloc,
-        &mut trace,
-        FAR,
-        &mut time,
-        hasher,
-        request,
-        None,
-        Setup::new(0),
-        largest_szx(),
-        limit,
-        writers,
-    );
+    let terms = terms_with(limit);
+    let mut connection = Connection::new(&mut trace, &mut time, &mut said);
+    let ended = ask_over(alloc, &mut connection, FAR, hasher, request, &terms, out);
     let (untold, faults) = (trace.untold(), trace.faults());
     drop(trace);
     Ok((close(ended, &mut said).number(), untold, faults))
@@ -141,7 +130,8 @@ fn get_traced<O: Write, E: Write>(
 fn a_traced_get(rt: HostRuntime) -> Result<(), Fail> {
     let path = path_of_text(rt.alloc(), "t")?;
     let lines =
-        "10 > 192.0.2.200:5683 CON 0.01 0000 [0000000000000000] GET t\n20 < 192.0.2.200:5683 ACK 2.05 0000 [0000000000000000] Content, ETag 0000000000000001, Content-Format 0, 6 B\n";
+        "10 > 192.0.2.200:5683 CON 0.01 0000 [0000000000000000] GET t\n20 < 192.0.2.200:5683 ACK 2.05 0000 \
+            [0000000000000000] Content, ETag 0000000000000001, Content-Format 0, 6 B\n";
     for (is_traced, wanted) in [(false, ""), (true, lines)] {
         let mut out = Vec::new(rt.alloc());
         let err = RefCell::new(Vec::new(rt.alloc()));

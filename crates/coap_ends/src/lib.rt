@@ -7,11 +7,10 @@ mod server_end;
 
 pub use coap_client::{
     CallId, CallRefusal, CancelRefusal, Client, Fetched, MAX_OBSERVATIONS, MAX_OPTIONS_LEN,
-    MAX_WAITING_CALLS, Report, client_follows_law, client_law, client_rests_law, client_values_law,
-    client_witness,
+    MAX_WAITING_CALLS, Report,
 };
 pub use coap_server::{
-    Applied, Delay, DelayRefusal, MAX_DELAYS, MAX_PLAINS, PlainRefusal, Server, give_delay,
-    give_plain, server_law, server_must_law, server_runs,
+    Applied, CON_NOTIFICATION_MS, Delay, DelayRefusal, MAX_DELAYS, MAX_PLAIN_AGE_MS, MAX_PLAINS,
+    PlainRefusal, Server, give_delay, give_plain,
 };
 pub use end::End;

@@ -10,6 +10,8 @@ mod hashers;
 #[cfg(test)]
 mod pair;
 #[cfg(test)]
+mod refusal_numbers;
+#[cfg(test)]
 mod refused_growths;
 #[cfg(test)]
 mod remembering;

@@ -4,7 +4,7 @@ use crate::client::fetches;
 use crate::pair::{deliveries, transfers, waits};
 use crate::script::{End, find, run_script};
 use crate::server::{replies, storing};
-use failing::Failing;
+use failing_allocator::Failing;
 use std::alloc::Global;
 use std::test::Fail;
 

@@ -7,3 +7,12 @@ pub mod SameToken
 pub mod ServerSide
 pub mod Verdicts
 pub mod Requests
+pub mod Adds
+pub mod AskerGoing
+pub mod AskerReplies
+pub mod ComesUp
+pub mod Comparisons
+pub mod Ending
+pub mod FirstOut
+pub mod LastStep
+pub mod StepsDue

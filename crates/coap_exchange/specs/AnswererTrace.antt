@@ -23,8 +23,8 @@ pub record Sending : Type 0 where
   pub id : ℕ
 
 -- the latest moment, the request that may be answered or deferred now, those that are deferred and the separate
--- responses and notifications that are outstanding, in order, and that of them which the last input ended; what the last
--- datagram rejected of what isn't outstanding, as a NON
+-- responses and notifications that are outstanding, in order, and that of them which the last input ended; what the
+-- last datagram rejected of what isn't outstanding, as a NON
 pub record Own : Type 0 where
   pub clock : ℕ
   pub pending : Option Asked

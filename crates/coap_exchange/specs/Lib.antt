@@ -31,3 +31,9 @@ pub mod ShortAnswers
 pub mod ShortRequests
 pub mod ClientExample
 pub mod ServerExample
+pub mod RefusalNumbers
+pub mod Adds
+pub mod Endings
+pub mod Notifications
+pub mod StepsDue
+pub mod SuccessCodes

@@ -1,3 +1,4 @@
+//! What a client's side makes of a message that its message layer hands up (RFC 7252, section 5.3.2).
 ghost use Rattle.std.specs.Prelude.{◌≡◌, ℕ, Bool, true, ◌++◌, is_some, if◌then◌else◌};
 ghost use Rattle.std.specs.Option.{option_map};
 ghost use Rattle.coap_types.specs.Recognised as options;

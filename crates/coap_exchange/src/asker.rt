@@ -1,3 +1,4 @@
+//! The client's side of request and response: one exchange at a time (RFC 7252, sections 4.7 and 5).
 ghost use Rattle.std.specs.Prelude.{◌≡◌, ◌≢◌, ◌≤◌, ◌<◌, ◌^◌, length, IfSome, Bool, false, [], None, Some, Err, IsOk};
 ghost use Rattle.std.specs.Prelude.{IfOk, OnOk, OnErr, IsSome, IfNone, max, ℕ, List};
 ghost use Rattle.coap_types.specs.declared.endpoint.Endpoint.{Endpoint as EndpointSpec};
@@ -15,6 +16,7 @@ ghost use Rattle.coap_exchange.specs.AskerLaw.{Led, Step, fresh_state};
 ghost use Rattle.coap_exchange.specs.AskerRequests.{opening_of};
 ghost use Rattle.coap_exchange.specs.Machine.AskerShown.{IsAskable};
 ghost use Rattle.coap_exchange.specs.AskerTrace.{Call, Ask as Asks, Receive, Ticks, Keep, Release, Take};
+ghost use Rattle.coap_exchange.specs.RefusalNumbers.{ask_refusal_number};
 
 use crate::arrivals::{
     act, id_in, send_refusal, spent_refusal, token_for, told, turn_of, unless_ended, verdict,
@@ -66,6 +68,21 @@ pub enum AskRefusal {
     Memory,
     /// 4: each token was given once (section 5.3.1).
     TokensSpent,
+}
+
+impl AskRefusal {
+    /// The number of the refusal, 1 to 4, in the order of the variants.
+    pub fn number(self) -> u8
+        // The number of a request's refusal is its place among the four.
+        ensures { result ≡ ask_refusal_number self }
+    {
+        match self {
+            AskRefusal::Running => 1,
+            AskRefusal::NoIds => 2,
+            AskRefusal::Memory => 3,
+            AskRefusal::TokensSpent => 4,
+        }
+    }
 }
 
 /// The exchange that runs (RFC 7252, section 5).

@@ -1,3 +1,4 @@
+//! What a client's side keeps beside its message layer.
 ghost use Rattle.std.specs.Prelude.{◌≡◌, ◌<◌, ◌+◌, ◌-◌, ◌^◌, None, Some, [], false, if◌then◌else◌};
 ghost use Rattle.coap_types.specs.FirstMoment.{IsFirstMoment};
 ghost use Rattle.coap_exchange.specs.AskerArrivals.{has_token, has_id, is_cancel, running_after, acked_in, has_waited};

@@ -1,3 +1,4 @@
+//! The tokens of observations, which a client's side keeps (RFC 7641, section 3.2).
 ghost use Rattle.std.specs.Prelude.{◌≡◌, ◌≤◌, [], length};
 ghost use Rattle.coap_exchange.specs.Tokens.{max_kept, is_kept, may_keep, kept_with, kept_without};
 

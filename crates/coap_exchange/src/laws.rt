@@ -1,3 +1,4 @@
+//! The laws of both sides of request and response.
 ghost use Rattle.std.specs.Prelude.{ℕ, List, [], ◌∷◌, ◌++◌};
 ghost use Rattle.coap_types.specs.declared.endpoint.Endpoint.{Endpoint};
 ghost use Rattle.coap_layer.specs.Rows.{LayerLaw};
@@ -36,7 +37,8 @@ pub fn asker_law()
     // No call at all leads to the first state of an asker.
     ensures start { (server : Endpoint) (setup : Setup) → Led server setup [] (fresh_state server setup) }
     // A step of an asker lengthens the calls that led to the state before it.
-    ensures step { (server : Endpoint) (setup : Setup) (t : List Call) (c : Call) (old new : State) → Led server setup t old
+    ensures step { (server : Endpoint) (setup : Setup) (t : List Call) (c : Call) (old new : State)
+        → Led server setup t old
         → Step old c new → Led server setup (c ∷ t) new }
     // What several steps lengthen leads to the asker's state behind them.
     ensures steps { (server : Endpoint) (setup : Setup) (t calls : List Call) (old new : State) → Led server setup t old
@@ -51,11 +53,13 @@ pub fn asker_law()
     ensures exact { (server : Endpoint) (setup : Setup) (past : List Call) → IsExact server setup past }
     // Exchanges don't overlap, each ends at most once, and an answer has the token of the one that is open
     // (RFC 7252, sections 4.7 and 5.3.2); a notification has a kept token (RFC 7641, section 3.2).
-    ensures exchanges { (server : Endpoint) (setup : Setup) (t : List Call) → ExchangeLaw server setup t → AreExchanges t }
+    ensures exchanges { (server : Endpoint) (setup : Setup) (t : List Call) → ExchangeLaw server setup t
+        → AreExchanges t }
     // A request is refused as Running exactly where an exchange runs (RFC 7252, section 4.7).
     ensures refused { (server : Endpoint) (setup : Setup) (t : List Call) → ExchangeLaw server setup t → AreRefused t }
     // No token serves two requests but an observation and its cancel (RFC 7252, section 5.3.1; RFC 7641, section 3.6).
-    ensures tokens { (server : Endpoint) (setup : Setup) (t : List Call) → ExchangeLaw server setup t → AreTokens setup.word t }
+    ensures tokens { (server : Endpoint) (setup : Setup) (t : List Call) → ExchangeLaw server setup t
+        → AreTokens setup.word t }
     // A Timeout and NoResponse come in time (RFC 7252, sections 4.2 and 5.2.2).
     ensures in_time { (server : Endpoint) (setup : Setup) (t : List Call) → ExchangeLaw server setup t
         → EndInTime server setup t }
@@ -87,7 +91,8 @@ pub fn asker_law()
         → AreRejected server setup t }
     // Each Message ID and each fresh token is given to the request of an exchange that ended, or of the one that runs
     // (RFC 7252, sections 4.4 and 5.3.1) ..
-    ensures ids { (server : Endpoint) (setup : Setup) (t : List Call) → ExchangeLaw server setup t → IdsCounted server setup t }
+    ensures ids { (server : Endpoint) (setup : Setup) (t : List Call) → ExchangeLaw server setup t
+        → IdsCounted server setup t }
     // .. so where fewer exchanges end in each EXCHANGE_LIFETIME than a quarter of the Message IDs, one is free ..
     ensures id_free { (server : Endpoint) (setup : Setup) (t : List Call) → ExchangeLaw server setup t
         → IdIsFree server setup t }
@@ -109,9 +114,11 @@ pub fn answerer_law()
     ensures steps { (setup : Setup) (t calls : List trace.Call) (old new : answerer.State) → answerer.Led setup t old
         → answerer.Exchanged old calls new → answerer.Led setup (calls ++ t) new }
     // A history that leads to an answerer stands in the law of its responses.
-    ensures law { (setup : Setup) (t : List trace.Call) (s : answerer.State) → answerer.Led setup t s → ResponseLaw setup t }
+    ensures law { (setup : Setup) (t : List trace.Call) (s : answerer.State) → answerer.Led setup t s
+        → ResponseLaw setup t }
     // The calls of the layer beneath an answerer stand in its law (RFC 7252, section 4).
-    ensures layer { (setup : Setup) (t : List trace.Call) → ResponseLaw setup t → LayerLaw setup (answerer.below_of setup t) }
+    ensures layer { (setup : Setup) (t : List trace.Call) → ResponseLaw setup t
+        → LayerLaw setup (answerer.below_of setup t) }
     // The law of an answerer leaves each call one answer.
     ensures exact { (setup : Setup) (past : List trace.Call) → exactly.IsExact setup past }
     // A request that is handed up has at most one response (RFC 7252, section 5.2).
@@ -125,7 +132,8 @@ pub fn answerer_law()
     // .. and it is said where it ends (RFC 7252, section 5.2.2; RFC 7641, sections 3.6 and 4.5).
     ensures told { (setup : Setup) (t : List trace.Call) → ResponseLaw setup t → EndsTold t }
     // A deferred request waits for the CON that is outstanding to its endpoint (RFC 7252, section 4.7).
-    ensures waits { (setup : Setup) (t : List trace.Call) (law : ResponseLaw setup t) → WaitsForOutstanding setup t law }
+    ensures waits { (setup : Setup) (t : List trace.Call) (law : ResponseLaw setup t)
+        → WaitsForOutstanding setup t law }
     // A deferred request has its response no earlier than its delay says (RFC 7252, section 5.2.2).
     ensures long_enough { (setup : Setup) (t : List trace.Call) → ResponseLaw setup t → DeferredLongEnough t }
     // .. and is ready once that has passed.

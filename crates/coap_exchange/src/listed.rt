@@ -1,3 +1,4 @@
+//! A list whose last input can be taken back.
 ghost use Rattle.std.specs.Prelude.{◌≡◌, ◌≤◌, ◌<◌, ◌++◌, [], ◌∷◌, map, filter};
 ghost use Rattle.std.specs.Vec.{vec_len, vec_capacity};
 ghost use Rattle.coap_exchange.specs.Machine.Listed.{listed, listed_before, noted, reverted as reverted_lem};

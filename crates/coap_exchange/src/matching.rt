@@ -1,3 +1,4 @@
+//! Which response belongs to which request (RFC 7252, section 5.3.2).
 ghost use Rattle.std.specs.Prelude.{◌≡◌};
 ghost use Rattle.coap_exchange.specs.Matching.{judged, request_judged, in_row, row};
 ghost use Rattle.coap_exchange.specs.AskerRequests.{opening};

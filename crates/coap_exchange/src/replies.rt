@@ -1,3 +1,4 @@
+//! What a server's side replies: a piggybacked response, an acknowledgement or a Reset (RFC 7252, 4.2 and 5.2).
 ghost use Rattle.std.specs.Prelude.{◌≡◌, ◌≤◌, ℕ, Some, None, IfSome, is_some, length, take, true, ◌&&◌, not};
 ghost use Rattle.std.specs.Vec.{vec_len, vec_capacity};
 ghost use Rattle.coap_types.specs.declared.message.Kind.TheVariants.{Con, Ack};

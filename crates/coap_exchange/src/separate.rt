@@ -1,3 +1,4 @@
+//! Deferred requests, and the separate responses that are not acknowledged yet (RFC 7252, section 5.2.2).
 ghost use Rattle.std.specs.Prelude.{◌≡◌, ◌&&◌, not, map};
 ghost use Rattle.std.specs.Option.{option_map};
 ghost use Rattle.coap_types.specs.FirstMoment.{IsFirstMoment};

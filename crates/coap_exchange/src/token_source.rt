@@ -1,3 +1,4 @@
+//! The tokens of a client's side, each given once (RFC 7252, section 5.3.1).
 ghost use Rattle.std.specs.Prelude.{◌≡◌};
 ghost use Rattle.coap_exchange.specs.Tokens.{token_of, is_spent};
 

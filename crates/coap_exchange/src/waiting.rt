@@ -1,3 +1,4 @@
+//! What time brings about at a server's side: room for a response, and what is due.
 ghost use Rattle.std.specs.Prelude.{◌≡◌, ◌≤◌, ◌<◌, IsOk, OnOk, IfSome, max, Option, Some, None, true, false, length};
 ghost use Rattle.std.specs.Prelude.{is_some, if◌then◌else◌};
 ghost use Rattle.std.specs.Option.{option_map};
@@ -43,6 +44,7 @@ pub(crate) fn make_room<A: Allocator + Copy, S: BuildHasher>(
     ensures before { layer.new.before ≡ layer.old.before }
     ensures replies { layer.new.replies ≡ layer.old.replies }
     ensures kept { layer.old.has_room ≡ true → layer.new.has_room ≡ true }
+    ensures had { layer.old.has_room ≡ true → vec_len separate.old < vec_capacity separate.old → IsOk result }
     ensures room { OnOk result (IfSome ready.now (λ a. AsksFreely layer.new now.0 a.from)) }
     ensures place { OnOk result (IfSome ready.now (λ a.
         answer_of layer.new.state (max layer.new.state.clock now.0) (below.Room a.from) ≡ below.Is true

@@ -1,5 +1,6 @@
 -- The bytes of a journal are of one frame and of one input each.
-use Rattle.std.proofs.Common.{◌≡◌, ℕ, ◌+◌, ◌<◌, ◌≤◌, ◌^◌, All, List, [], ◌∷◌, ◌++◌, length, Option, Some, None, refl, sym, ap, ◌∙◌, arith, append_assoc}
+use Rattle.std.proofs.Common.{◌≡◌, ℕ, ◌+◌, ◌<◌, ◌≤◌, ◌^◌, All, List, [], ◌∷◌, ◌++◌, length, Option, Some, None, refl}
+use Rattle.std.proofs.Common.{sym, ap, ◌∙◌, arith, append_assoc}
 use Rattle.std.proofs.lemmas.List.{length-append, append-nil}
 use Rattle.std.proofs.lemmas.List.Elements.{All-head, All-tail}
 use Rattle.std.proofs.lemmas.Nat.{from_be_bytes-to_be_bytes_2}
@@ -7,8 +8,11 @@ use Rattle.std.specs.Int.{w16, from_be_bytes}
 use Rattle.coap_types.specs.declared.endpoint.Endpoint.{Endpoint}
 use Rattle.coap_journal.specs.Numbers.{half, number, short}
 use Rattle.coap_journal.specs.Frames.{BeginsFrame, frame, head, head_len, sealed, sum_of}
-use Rattle.coap_journal.specs.Input.{AreShort, Delay, Feed, Input, IsEndpoint, IsFormat, IsInput, IsSegments, Plain, Remove, Set, Tick, delay_bytes, endpoint_bytes, feed_bytes, format_bytes, path_bytes, remove_bytes, set_bytes, spelled, text, texts, tick_bytes}
-use Rattle.coap_journal.proofs.Bytes.{length-half, length-number, length-short, number_one, one_front, one_rest, short_one}
+use Rattle.coap_journal.specs.Input.{AreShort, Delay, Feed, Input, IsEndpoint, IsFormat, IsInput, IsSegments, Plain}
+use Rattle.coap_journal.specs.Input.{Remove, Set, Tick, delay_bytes, endpoint_bytes, feed_bytes, format_bytes}
+use Rattle.coap_journal.specs.Input.{path_bytes, remove_bytes, set_bytes, spelled, text, texts, tick_bytes}
+use Rattle.coap_journal.proofs.Bytes.{length-half, length-number, length-short, number_one, one_front, one_rest}
+use Rattle.coap_journal.proofs.Bytes.{short_one}
 use Rattle.coap_journal.proofs.Seals.{head_one, length-head, sealed_front}
 
 -- parts of one length in front
@@ -28,11 +32,13 @@ one_frame place a b r s low high e =
     let lb = length b in
     let heads = peel (head place la) (head place lb) (sealed (place + head_len) a) (sealed (place + head_len) b) r s
     (length-head place la ∙ sym (length-head place lb)) e in
-    let same : la ≡ lb = head_one place la lb (sealed (place + head_len) a ++ r) (sealed (place + head_len) b ++ s) low high
+    let same : la ≡ lb = head_one place la lb (sealed (place + head_len) a ++ r) (sealed (place + head_len) b ++ s) low
+    high
     (sym (append_assoc (head place la) (sealed (place + head_len) a) r) ∙ e
     ∙ append_assoc (head place lb) (sealed (place + head_len) b) s) in
     let is : a ≡ b = sealed_front (place + head_len) a b r s same heads.1 in
-    let sums = peel a b (number (sum_of (place + head_len) a)) (number (sum_of (place + head_len) b)) r s same heads.1 in (
+    let sums = peel a b (number (sum_of (place + head_len) a)) (number (sum_of (place + head_len) b)) r s same
+    heads.1 in (
       is,
       one_rest (number (sum_of (place + head_len) a)) (number (sum_of (place + head_len) b)) r s
           (same_numbers (sum_of (place + head_len) a) (sum_of (place + head_len) b)) sums.1,
@@ -51,7 +57,8 @@ part_is_none place body part more low e some f =
     ∙ append_assoc (frame place f.0) f.1 more in
     some (nothing_more f.1 more (one_frame place body f.0 [] (f.1 ++ more) low f.2 whole).1)
 
-pub text_one : (a b r s : List ℕ) → length a < 2 ^ 32 → length b < 2 ^ 32 → text a ++ r ≡ text b ++ s → (a ≡ b) × (r ≡ s)
+pub text_one : (a b r s : List ℕ) → length a < 2 ^ 32 → length b < 2 ^ 32 → text a ++ r ≡ text b ++ s → (a ≡ b)
+    × (r ≡ s)
 text_one a b r s low high e =
     let p = peel (short (length a)) (short (length b)) a b r s
     (length-short (length a) ∙ sym (length-short (length b))) e in
@@ -110,7 +117,15 @@ endpoint_one : (d e : Endpoint) (x y r s : List ℕ) → IsEndpoint d → IsEndp
     → (endpoint_bytes d ++ x) ++ r ≡ (endpoint_bytes e ++ y) ++ s → (d ≡ e) × (x ++ r ≡ y ++ s)
 endpoint_one d e x y r s a b same =
     let p = peel (endpoint_bytes d) (endpoint_bytes e) x y r s
-    (omega (arith, length-append d.ip (half d.port), length-append e.ip (half e.port), a.ip, b.ip, length-half d.port, length-half e.port)) same in
+    (omega (
+      arith,
+      length-append d.ip (half d.port),
+      length-append e.ip (half e.port),
+      a.ip,
+      b.ip,
+      length-half d.port,
+      length-half e.port,
+    )) same in
     let ips = one_front d.ip e.ip (half d.port) (half e.port) (a.ip ∙ sym b.ip) p.0 in
     let ports = one_rest d.ip e.ip (half d.port) (half e.port) (a.ip ∙ sym b.ip) p.0 in
     (endpoint_is d e ips (half_one d.port e.port a.port b.port ports), p.1)
@@ -127,7 +142,8 @@ number_last m n r s a b e = (
 )
 
 -- one input begins
-pub one_input : (i j : Input) (r s : List ℕ) → IsInput i → IsInput j → spelled i ++ r ≡ spelled j ++ s → (i ≡ j) × (r ≡ s)
+pub one_input : (i j : Input) (r s : List ℕ) → IsInput i → IsInput j → spelled i ++ r ≡ spelled j ++ s → (i ≡ j)
+    × (r ≡ s)
 one_input (Feed now from bytes word) (Feed now' from' bytes' word') r s a b e =
     let t = heads_are 1 1 (feed_bytes now from bytes word ++ r) (feed_bytes now' from' bytes' word' ++ s) e in
     let n = number_first now now' _ _ r s a.0 b.0 t.1 in

@@ -1,17 +1,20 @@
 -- What was written is found where it is read.
-use Rattle.std.proofs.Common.{◌≡◌, ℕ, ◌+◌, ◌<◌, ◌≤◌, ◌^◌, All, List, [], ◌∷◌, ◌++◌, length, Option, Some, None, Result, Err, refl, sym, ap, ◌∙◌, arith, append_assoc}
+use Rattle.std.proofs.Common.{◌≡◌, ℕ, ◌+◌, ◌<◌, ◌≤◌, ◌^◌, All, List, [], ◌∷◌, ◌++◌, length, Option, Some, None, Result}
+use Rattle.std.proofs.Common.{Err, refl, sym, ap, ◌∙◌, arith, append_assoc}
 use Rattle.std.specs.Prelude.{IfNone}
 use Rattle.std.proofs.lemmas.List.{length-append, append-nil}
 use Rattle.std.proofs.lemmas.List.Elements.{All-head, All-tail}
 use Rattle.coap_types.specs.declared.endpoint.Endpoint.{Endpoint}
-use Rattle.coap_journal.specs.Input.{AreShort, Feed, IsEndpoint, IsFormat, IsInput, IsSegments, Set, endpoint_bytes, feed_bytes, format_bytes, path_bytes, set_bytes, text, texts, tick_bytes}
+use Rattle.coap_journal.specs.Input.{AreShort, Feed, IsEndpoint, IsFormat, IsInput, IsSegments, Set, endpoint_bytes}
+use Rattle.coap_journal.specs.Input.{feed_bytes, format_bytes, path_bytes, set_bytes, text, texts, tick_bytes}
 use Rattle.coap_journal.specs.Numbers.{half, number, short}
 use Rattle.coap_journal.specs.Records.{IsConfiguration, beginning_bytes, configuration_bytes, life_bytes, seed_bytes}
 use Rattle.coap_journal.specs.declared.beginning.Beginning.{Beginning}
 use Rattle.coap_journal.specs.declared.beginning.Configuration.{Configuration}
 use Rattle.coap_journal.specs.declared.beginning.Life.{Life}
 use Rattle.coap_journal.specs.declared.beginning.Seed.{Seed}
-use Rattle.coap_journal.proofs.Bytes.{length-half, length-number, length-short, one_front, one_rest, short_one, too_long}
+use Rattle.coap_journal.proofs.Bytes.{length-half, length-number, length-short, one_front, one_rest, short_one}
+use Rattle.coap_journal.proofs.Bytes.{too_long}
 use Rattle.coap_journal.proofs.OneReading.{are_short, format_one, paths_one, same_numbers, text_one}
 
 -- how long they are
@@ -97,7 +100,8 @@ pub none_feed : {T : Type 0} (r : Option T) (bytes : List ℕ) → length bytes 
     → IfNone r ((now word : ℕ) (from : Endpoint) (xs rest : List ℕ) → IsInput (Feed now from xs word)
     → bytes ≡ feed_bytes now from xs word ++ rest → ⊥)
 none_feed None bytes lt =
-    λ now word from xs rest is e. too_long bytes (feed_bytes now from xs word) rest e (omega (arith, lt, feed_long now word from xs is.2))
+    λ now word from xs rest is e. too_long bytes (feed_bytes now from xs word) rest e
+    (omega (arith, lt, feed_long now word from xs is.2))
 none_feed (Some x) bytes lt = tt
 
 pub none_turn : {T : Type 0} (r : Option T) (bytes : List ℕ) → length bytes < 16
@@ -176,14 +180,16 @@ next_text (x ∷ p) (y ∷ q) rest more a b lt e =
     (sym (append_assoc (text x) (texts p) rest) ∙ e ∙ append_assoc (text y) (texts q) more) in
     next_text p q rest more a.1 (All-tail (λ (s : List ℕ). length s ≤ 255) y q b) (omega (arith, lt)) both.1
 
-pub no_text : (bytes rest : List ℕ) (p : List (List ℕ)) (count : ℕ) → AreShort p → bytes ≡ texts p ++ rest → length p < count
+pub no_text : (bytes rest : List ℕ) (p : List (List ℕ)) (count : ℕ) → AreShort p → bytes ≡ texts p ++ rest
+    → length p < count
     → ((xs more : List ℕ) → length xs < 2 ^ 32 → rest ≡ text xs ++ more → ⊥)
     → (path : List (List ℕ)) (more : List ℕ) → IsSegments path → length path ≡ count → bytes ≡ texts path ++ more → ⊥
 no_text bytes rest p count a is lt none path more ok len e =
     let n = next_text p path rest more a ok.short (omega (arith, lt, len)) (sym is ∙ e) in
     none n.0 (texts n.1 ++ more) (omega (arith, n.2)) n.3
 
-pub long_text : (bytes rest behind segment : List ℕ) (p : List (List ℕ)) (count : ℕ) → AreShort p → bytes ≡ texts p ++ rest
+pub long_text : (bytes rest behind segment : List ℕ) (p : List (List ℕ)) (count : ℕ) → AreShort p → bytes ≡ texts p
+    ++ rest
     → length p < count → rest ≡ text segment ++ behind → length segment < 2 ^ 32 → 255 < length segment
     → (path : List (List ℕ)) (more : List ℕ) → IsSegments path → length path ≡ count → bytes ≡ texts path ++ more → ⊥
 long_text bytes rest behind segment p count a is lt there few long path more ok len e =
@@ -248,7 +254,8 @@ after_versions bytes behind b l is e =
     one_rest (short 1) (short 1) behind (parts ++ life_bytes l) refl
     (first ∙ append_assoc (short 1) parts (life_bytes l)) in
     second ∙ append_assoc (configuration_bytes b.configuration) (seed_bytes b.seed ++ number b.base) (life_bytes l)
-    ∙ ap (λ (xs : List ℕ). configuration_bytes b.configuration ++ xs) (append_assoc (seed_bytes b.seed) (number b.base) (life_bytes l))
+    ∙ ap (λ (xs : List ℕ). configuration_bytes b.configuration ++ xs) (append_assoc (seed_bytes b.seed) (number b.base)
+    (life_bytes l))
 
 pub err_is : {T E : Type 0} {x y : E} → ◌≡◌ {A = Result T E} (Err x) (Err y) → x ≡ y
 err_is e = cc
@@ -256,4 +263,10 @@ err_is e = cc
 -- what takes all bytes leaves none
 pub all_taken : (bytes front rest : List ℕ) → length bytes ≡ length front → bytes ≡ front ++ rest → bytes ≡ front
 all_taken bytes front [] len e = e ∙ append-nil front
-all_taken bytes front (x ∷ rest) len e = absurd (omega (arith, len, ap (length {A = ℕ}) e, length-append front (x ∷ rest)))
+all_taken bytes front (x ∷ rest) len e = absurd (omega (
+  arith,
+  len,
+  ap (length {A = ℕ}) e,
+  length-append front
+      (x ∷ rest),
+))

@@ -1,5 +1,6 @@
 //! How the server of a journal began, and each life of it: their bytes.
-ghost use Rattle.std.specs.Prelude.{◌≡◌, ◌≢◌, ◌≤◌, ◌<◌, ◌+◌, ◌∷◌, ◌++◌, [], ℕ, List, length, Err, OnOk, IfOk, IfSome, IfNone, IsOk};
+ghost use Rattle.std.specs.Prelude.{◌≡◌, ◌≢◌, ◌≤◌, ◌<◌, ◌+◌, ◌∷◌, ◌++◌, [], ℕ, List, length, Err, OnOk, IfOk, IfSome};
+ghost use Rattle.std.specs.Prelude.{IfNone, IsOk};
 ghost use Rattle.coap_journal.specs.Numbers.{number, short};
 ghost use Rattle.coap_journal.specs.Records.{Begun, IsConfiguration, Woke, beginning_bytes, configuration_bytes};
 ghost use Rattle.coap_journal.specs.Records.{life_bytes, record_bytes, seed_bytes};
@@ -202,7 +203,12 @@ fn read_seed(bytes: &[u8]) -> Option<(Seed, &[u8])>
 
 // The configuration of these numbers, where an end can have them.
 fn configuration_of(szx: u32, limit: u32, remembered: u32, changes: u32) -> Option<Configuration>
-    ensures some { IfSome result (λ c. c ≡ record { szx = szx; limit = limit; remembered = remembered; changes = changes }) }
+    ensures some { IfSome result (λ c. c ≡ record {
+      szx = szx;
+      limit = limit;
+      remembered = remembered;
+      changes = changes;
+    }) }
     ensures none { IfNone result (IsConfiguration (record {
       szx = szx;
       limit = limit;
@@ -241,7 +247,8 @@ fn read_parts(bytes: &[u8]) -> Option<(Beginning, Life)>
     ensures some { IfSome result (λ p. bytes.now ≡ configuration_bytes p.0.configuration
         ++ (seed_bytes p.0.seed ++ (number p.0.base ++ life_bytes p.1))) }
     ensures none { IfNone result ((b : BeginningSpec) (l : LifeSpec) → IsConfiguration b.configuration
-        → bytes.now ≡ configuration_bytes b.configuration ++ (seed_bytes b.seed ++ (number b.base ++ life_bytes l)) → ⊥) }
+        → bytes.now ≡ configuration_bytes b.configuration ++ (seed_bytes b.seed ++ (number b.base ++ life_bytes l))
+        → ⊥) }
 {
     if bytes.len() != PARTS_LEN {
         return None;

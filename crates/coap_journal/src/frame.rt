@@ -1,5 +1,6 @@
 //! The frames of a journal.
-ghost use Rattle.std.specs.Prelude.{◌≡◌, ◌<◌, ◌≤◌, ◌^◌, ◌+◌, ◌++◌, ◌↔◌, ℕ, List, length, IfOk, IfSome, IfNone, OnOk, IsTrue};
+ghost use Rattle.std.specs.Prelude.{◌≡◌, ◌<◌, ◌≤◌, ◌^◌, ◌+◌, ◌++◌, ◌↔◌, ℕ, List, length, IfOk, IfSome, IfNone, OnOk};
+ghost use Rattle.std.specs.Prelude.{IsTrue};
 ghost use Rattle.coap_journal.specs.Frames.{BeginsFrame, BeginsHead, frame, head, sealed};
 
 use crate::numbers::{SHORT_LEN, put_number, put_short, read_number, read_short};

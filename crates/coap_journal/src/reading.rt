@@ -1,6 +1,7 @@
 //! An input, read from its bytes.
 ghost use Rattle.std.specs.Prelude.{◌≡◌, ◌<◌, ◌+◌, ◌^◌, ◌∷◌, ◌++◌, ℕ, List, Option, length, Err, IfOk, IfSome, IfNone};
-ghost use Rattle.coap_journal.specs.Input.{AreShort, Feed, IsFormat, IsInput, IsSegments, Set, endpoint_bytes, feed_bytes};
+ghost use Rattle.coap_journal.specs.Input.{AreShort, Feed, IsFormat, IsInput, IsSegments, Set, endpoint_bytes};
+ghost use Rattle.coap_journal.specs.Input.{feed_bytes};
 ghost use Rattle.coap_journal.specs.Input.{format_bytes, path_bytes, set_bytes, text, texts, tick_bytes};
 ghost use Rattle.coap_journal.specs.Numbers.{number};
 ghost use Rattle.coap_journal.specs.declared.reading.ReadError.TheVariants.{Unreadable};
@@ -238,7 +239,8 @@ pub fn read_turn(bytes: &[u8]) -> Option<(Moment, u64, &[u8])>
     // What is read is the moment, the number and the inputs that the bytes spell.
     ensures some { IfSome result (λ p. bytes.now ≡ number p.0.0 ++ (number p.1 ++ p.2.now)) }
     // A turn that was written is read.
-    ensures none { IfNone result ((moment n : ℕ) (rest : List ℕ) → bytes.now ≡ number moment ++ (number n ++ rest) → ⊥) }
+    ensures none { IfNone result ((moment n : ℕ) (rest : List ℕ) → bytes.now ≡ number moment ++ (number n ++ rest)
+        → ⊥) }
 {
     let (moment, behind) = read_number(bytes)?;
     let (taken, rest) = read_number(behind)?;

@@ -1,7 +1,8 @@
 //! A server that is replayed from a journal.
 use crate::bytes_of_records::{LIFE, bytes_of, frame, path};
 use coap_journal::{feed_bytes, turn_bytes};
-use coap_replay::{ReplayError, Replayed, replay_frames, replay_law};
+use coap_replay::{ReplayError, Replayed, replay_frames};
+use coap_replay_laws::{replay_law, silence_law};
 use coap_resource::{MAX_CHANGES_PER_WINDOW, MapStore, Store};
 use coap_server::Server;
 use coap_types::{Endpoint, Moment, Szx};
@@ -110,6 +111,7 @@ fn replay<R: Abort + AllocGlobal>(
 #[test]
 fn a_replayed_server_is_the_one_that_ran(rt: HostRuntime) {
     replay_law();
+    silence_law();
     let mut journal = Vec::new(rt.alloc());
     add_turn(&rt, &mut journal, 100, 0, PUT);
     add_turn(&rt, &mut journal, 200, 1, GET);

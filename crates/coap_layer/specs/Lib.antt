@@ -17,3 +17,4 @@ pub mod Rested
 pub mod AtAnyTime
 pub mod Examples
 pub mod Machine
+pub mod RefusalNumbers

@@ -1,5 +1,6 @@
 -- What becomes of a CON that arrives where another message can be remembered (RFC 7252, sections 4.2 and 4.5).
-use Rattle.std.specs.Prelude.{◌≡◌, ◌⊎◌, ◌≤◌, ◌<◌, ℕ, ◌+◌, ◌-◌, ◌*◌, nat_le, Bool, true, ◌&&◌, None, Some, List, [], ◌∷◌, ◌++◌}
+use Rattle.std.specs.Prelude.{◌≡◌, ◌⊎◌, ◌≤◌, ◌<◌, ℕ, ◌+◌, ◌-◌, ◌*◌, nat_le, Bool, true, ◌&&◌, None, Some, List, [], ◌∷◌}
+use Rattle.std.specs.Prelude.{◌++◌}
 use Rattle.std.specs.Prelude.{if◌then◌else◌}
 use Rattle.coap_types.specs.Past.{Ever, Sometime, Always}
 use Rattle.coap_types.specs.Roles.{role_of}
@@ -139,8 +140,8 @@ NonsTakenWithin places near far all =
     → FewCome places (far_of all) → Ever (SendsNon non) (near_of all)
     → non.to ≡ far → IsTold non.bytes → non.at + most < now → Ever (OnFar (HandsUpWithin most near non)) all
 
--- An acknowledgement that arrives while its CON is outstanding is taken: an Empty one, and one with a response (sections
--- 4.2 and 5.2.1).
+-- An acknowledgement that arrives while its CON is outstanding is taken: an Empty one, and one with a response
+-- (sections 4.2 and 5.2.1).
 pub record TakesAcks (past : List Entry) (e : Entry) : Type 0 where
   pub empty : (from : Endpoint) (bytes : List ℕ) (m : Message) → e.call ≡ Receive from bytes → Spells bytes m
       → m.kind ≡ Ack → role_of m.code ≡ role.Empty → Outstanding past from m.id → e.answer ≡ Becomes (Acked m.id)
@@ -150,7 +151,8 @@ pub record TakesAcks (past : List Entry) (e : Entry) : Type 0 where
 abbrev pub AllTakeAcks : List Entry → Type 0
 AllTakeAcks t = Always TakesAcks t
 
--- a Reset of this CON is taken while it is outstanding, and max_gain before its Message ID may be given again at the latest
+-- a Reset of this CON is taken while it is outstanding, and max_gain before its Message ID may be given again at the
+-- latest
 pub record HearsReset (con : Open) (past : List Entry) (e : Entry) : Type 0 where
   pub is_outstanding : IsIn con (outstanding past)
   pub bytes : List ℕ
@@ -202,13 +204,15 @@ OverAreTaken near all = (con : Open) → Ever (λ b. begun b ≡ Some con) (near
 
 -- what has a Message ID is a CON, for this place
 abbrev pub AreConsFor : Endpoint → List Entry → Type 0
-AreConsFor far t = Always (λ past e. (id : ℕ) → e.answer ≡ Sent id → (con : Open) × (begun e ≡ Some con) × (con.to ≡ far)) t
+AreConsFor far t = Always (λ past e. (id : ℕ) → e.answer ≡ Sent id → (con : Open) × (begun e ≡ Some con)
+    × (con.to ≡ far)) t
 
 -- Where each CON that is over was taken, and fewer messages come than a group has Message IDs, one is free. That number
 -- stands whatever the number that can be remembered: with more, Message IDs could run out first.
 abbrev pub IdsAreFree : ℕ → (near far : Endpoint) → List Hop → Type 0
 IdsAreFree one near far all =
-    (now : ℕ) → AreConsFor far (near_of all) → Always (λ past h. OverAreTaken near past) all → FewCome group_size (far_of all)
+    (now : ℕ) → AreConsFor far (near_of all) → Always (λ past h. OverAreTaken near past) all
+    → FewCome group_size (far_of all)
     → clock (far_of all) ≤ now
     → Withholds one (numbers (near_of all)) now → ⊥
 

@@ -1,3 +1,4 @@
+//! The verdict on a message that arrives (RFC 7252, sections 4.2, 4.3 and 4.5).
 ghost use Rattle.std.specs.Prelude.{◌≡◌};
 ghost use Rattle.coap_codec.specs.Message.{Message};
 ghost use Rattle.coap_layer.specs.Machine.Table.{up_of};

@@ -1,3 +1,4 @@
+//! A datagram that arrived: how it is read, judged and answered.
 ghost use Rattle.std.specs.Prelude.{◌≡◌, ◌<◌, [], true, false, None, Ok, option_to_list, IfOk, IsOk};
 ghost use Rattle.std.specs.Vec.{vec_len, vec_capacity};
 ghost use Rattle.coap_layer.specs.Arrivals.{arrival_at};
@@ -71,7 +72,8 @@ fn of_message<A: Allocator + Copy, S: BuildHasher>(
     most: Remembered,
     free: bool,
 ) -> Arriving
-    ensures { (s : State) → s.most ≡ most → s.arrived ≡ arrivals_in lists.now.entries → s.open_cons ≡ open_now lists.now.sendings.items
+    ensures { (s : State) → s.most ≡ most → s.arrived ≡ arrivals_in lists.now.entries → s.open_cons
+        ≡ open_now lists.now.sendings.items
         → is_free at.0 s.upcoming s.last_used ≡ free
         → IsArriving s at.0 from (shown_by (Ok message.now)) result
         × (told_by result.verdict (Ok message.now) ≡ answer_to s at.0 from (shown_by (Ok message.now))) }
@@ -101,7 +103,8 @@ pub(crate) fn judge<A: Allocator + Copy, S: BuildHasher>(
     most: Remembered,
     free: bool,
 ) -> Arriving
-    ensures { (s : State) → s.most ≡ most → s.arrived ≡ arrivals_in lists.now.entries → s.open_cons ≡ open_now lists.now.sendings.items
+    ensures { (s : State) → s.most ≡ most → s.arrived ≡ arrivals_in lists.now.entries → s.open_cons
+        ≡ open_now lists.now.sendings.items
         → is_free at.0 s.upcoming s.last_used ≡ free
         → IsArriving s at.0 from (shown_by read.now) result
         × (told_by result.verdict read.now ≡ answer_to s at.0 from (shown_by read.now)) }

@@ -1,3 +1,4 @@
+//! A message that is to be sent, but for its type and its Message ID.
 ghost use Rattle.std.specs.Prelude.{◌≡◌, ◌≤◌, take, length};
 ghost use Rattle.coap_types.specs.CoapOption.{options_of};
 ghost use Rattle.coap_codec.specs.Spelling.{message_bytes};

@@ -1,3 +1,4 @@
+//! A datagram that is to be sent.
 ghost use Rattle.std.specs.Prelude.{◌≡◌, ◌<◌, ◌+◌, ◌++◌, [], ◌∷◌, true, is_some, option_to_list};
 ghost use Rattle.std.specs.VecDeque.{deque_len, deque_capacity};
 

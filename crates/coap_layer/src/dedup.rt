@@ -1,3 +1,4 @@
+//! Deduplication: what is remembered of the messages that came (RFC 7252, section 4.5).
 mod entries;
 
 ghost use Rattle.std.specs.Prelude.{◌≡◌, ◌<◌, ◌≤◌, ◌+◌, ◌++◌, [], true, false, nat_le, filter, length, Some, None};

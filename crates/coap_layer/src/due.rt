@@ -1,3 +1,4 @@
+//! When something of an outstanding message is due next (RFC 7252, section 4.2).
 ghost use Rattle.std.specs.Prelude.{◌≡◌, ◌≤◌, ◌<◌, ◌^◌, ◌*◌, ◌-◌, ◌||◌, ◌&&◌, ℕ, Bool, nat_le, nat_lt};
 ghost use Rattle.std.specs.List.{list_any};
 ghost use Rattle.coap_types.specs.declared.transmission.TheConstants.{MAX_RETRANSMIT as max_retransmit};

@@ -1,3 +1,4 @@
+//! Empty acknowledgements and Resets (RFC 7252, section 4.1).
 ghost use Rattle.std.specs.Prelude.{◌≡◌};
 ghost use Rattle.coap_layer.specs.EmptyMessages.{ack_bytes, reset_bytes};
 

@@ -1,3 +1,4 @@
+//! The laws of one message layer, and of two with a network between them.
 ghost use Rattle.std.specs.Prelude.{ℕ, List, [], ◌∷◌, ◌++◌};
 ghost use Rattle.coap_layer.specs.Trace.{Setup, Call, Answer, Entry};
 ghost use Rattle.coap_layer.specs.Rows.{LayerLaw};
@@ -40,8 +41,8 @@ pub fn layer_law()
     ensures once { (setup : Setup) (t : List Entry) → LayerLaw setup t → HandedUpOnce t }
     // A retransmission is in time, and equal to the first sending (section 4.2).
     ensures copies { (setup : Setup) (t : List Entry) → LayerLaw setup t → CopiesInTime t }
-    // What is outstanding behind a tick at which nothing was due, began less than MAX_TRANSMIT_WAIT before that, or behind it
-    // (sections 4.2 and 4.8.2).
+    // What is outstanding behind a tick at which nothing was due, began less than MAX_TRANSMIT_WAIT before that, or
+    // behind it (sections 4.2 and 4.8.2).
     ensures rested { (setup : Setup) (t : List Entry) → LayerLaw setup t → RestedSince t }
     // No Message ID is used again too early (section 4.4).
     ensures ids { (setup : Setup) (t : List Entry) → LayerLaw setup t → IdsApart t }
@@ -102,7 +103,8 @@ pub fn channel_law()
     // A Non-confirmable message that arrives was sent at most MAX_LATENCY before (section 4.3).
     ensures plain { (one other : Setup) (near far : Endpoint) (all : List Hop) → ChannelLaw one other near far all
         → NonsSent near far all }
-    // A Confirmable message that arrives where another can be remembered is taken, or was before (sections 4.2 and 4.5).
+    // A Confirmable message that arrives where another can be remembered is taken, or was before (sections 4.2 and
+    // 4.5).
     ensures taking { (one other : Setup) (near far : Endpoint) (all : List Hop) → ChannelLaw one other near far all
         → ConsTaken other.remembered near all }
     // Where no datagram is late and few messages come, each Confirmable message is taken in time.
@@ -117,30 +119,33 @@ pub fn channel_law()
     // Where it is replied to at once, and the reply comes, it is not outstanding after both (section 4.2).
     ensures ended { (one other : Setup) (near far : Endpoint) (all : List Hop) → ChannelLaw one other near far all
         → OverWithin near far all }
-    // Where each Confirmable message that is over was taken, and fewer come in EXCHANGE_LIFETIME than a group has Message
-    // IDs, one is free, whatever the number that can be remembered.
+    // Where each Confirmable message that is over was taken, and fewer come in EXCHANGE_LIFETIME than a group has
+    // Message IDs, one is free, whatever the number that can be remembered.
     ensures free { (one other : Setup) (near far : Endpoint) (all : List Hop) → ChannelLaw one other near far all
         → IdsAreFree one.word near far all }
     // By one clock, too, a Confirmable message is replied to once at most (section 4.2).
-    ensures replied_once { (one other : Setup) (near far : Endpoint) (all : List Hop) → ChannelLaw one other near far all
+    ensures replied_once { (one other : Setup) (near far : Endpoint) (all : List Hop)
+        → ChannelLaw one other near far all
         → RepliedOnce near all }
-    // By one clock, too, an acknowledgement that is taken is the reply that was given to that very message (section 4.2).
+    // By one clock, too, an acknowledgement that is taken is the reply that was given to that very message (section
+    // 4.2).
     ensures replied { (one other : Setup) (near far : Endpoint) (all : List Hop) → ChannelLaw one other near far all
         → AcksReplied near far all }
-    // By one clock, too, a Reset that is taken for a request or a response is the reply that was given to that very message
-    // (section 4.2).
+    // By one clock, too, a Reset that is taken for a request or a response is the reply that was given to that very
+    // message (section 4.2).
     ensures resets { (one other : Setup) (near far : Endpoint) (all : List Hop) → ChannelLaw one other near far all
         → ResetsMeant near far all }
 {}
 
-/// What two layers do together, each with a clock of its own: where no datagram arrives later than MAX_LATENCY after it was
-/// sent by the clock of the layer that sent it, neither clock gains more than 5 s on the other in EXCHANGE_LIFETIME, and
-/// each reply is given at once, with the Message ID of what it replies to.
+/// What two layers do together, each with a clock of its own: where no datagram arrives later than MAX_LATENCY after it
+/// was sent by the clock of the layer that sent it, neither clock gains more than 5 s on the other in
+/// EXCHANGE_LIFETIME, and each reply is given at once, with the Message ID of what it replies to.
 pub fn paced_channel_law()
     // What arrives was sent by one of the rows, at most MAX_LATENCY before by its own clock.
     ensures sent { (c : Clocks) (one other : Setup) (near far : Endpoint) (all : List Hop)
         → paced.ChannelLaw c one other near far all → paced.ArrivesAsSent c near far all }
-    // A Confirmable message that arrives was begun at most LAST_ARRIVAL_MS before, by its own clock (RFC 7252, section 4.8.2).
+    // A Confirmable message that arrives was begun at most LAST_ARRIVAL_MS before, by its own clock (RFC 7252, section
+    // 4.8.2).
     ensures begun { (c : Clocks) (one other : Setup) (near far : Endpoint) (all : List Hop)
         → paced.ChannelLaw c one other near far all → paced.ConsBegun c near far all }
     // A Non-confirmable message that arrives was sent at most MAX_LATENCY before, by its own clock (section 4.3).

@@ -1,3 +1,4 @@
+//! The message layer of an end: its parts, its inputs and its outputs (RFC 7252, section 4).
 mod questions;
 mod sendings;
 

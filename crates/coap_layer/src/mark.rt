@@ -1,3 +1,4 @@
+//! What a message layer notes as an input begins, so that the input can be taken back.
 ghost use Rattle.std.specs.Prelude.{◌≡◌, ◌≤◌, ◌+◌, None, false, length, filter};
 ghost use Rattle.std.specs.Vec.{vec_len, vec_capacity};
 ghost use Rattle.coap_layer.specs.Machine.Entries.{IsUpTo, arrivals_in};

@@ -1,3 +1,4 @@
+//! The Confirmable messages that are not acknowledged yet (RFC 7252, section 4.2).
 ghost use Rattle.std.specs.Prelude.{◌≡◌, ◌≤◌, [], map, filter, is_some, option_to_list, IfOk, IsOk};
 ghost use Rattle.std.specs.Vec.{vec_len, vec_capacity};
 ghost use Rattle.coap_layer.specs.Machine.Parts.{noted, open_before, settled, put_back as put_back_lem};

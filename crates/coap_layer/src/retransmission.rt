@@ -1,3 +1,4 @@
+//! Retransmission with exponential back-off (RFC 7252, section 4.2).
 ghost use Rattle.std.specs.Prelude.{◌≡◌, ◌≢◌, true, false, List, nat_le, nat_lt, ◌≤◌, ◌*◌, ◌-◌, ◌^◌, ◌==◌, ◌&&◌};
 ghost use Rattle.std.specs.Prelude.{is_some, None, Some, if◌then◌else◌, map};
 ghost use Rattle.std.specs.List.{list_any, filter_map};

@@ -1,3 +1,4 @@
+//! With what a message layer begins.
 ghost use Rattle.std.specs.Prelude.{◌≡◌};
 ghost use Rattle.coap_layer.specs.Machine.State.{usual};
 

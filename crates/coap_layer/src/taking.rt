@@ -1,4 +1,6 @@
-ghost use Rattle.std.specs.Prelude.{ℕ, ◌≡◌, ◌≤◌, ◌<◌, ◌+◌, ◌++◌, true, false, None, Some, List, length, filter, is_some};
+//! An input of a message layer: its moment, and what it forgets.
+ghost use Rattle.std.specs.Prelude.{ℕ, ◌≡◌, ◌≤◌, ◌<◌, ◌+◌, ◌++◌, true, false, None, Some, List, length, filter};
+ghost use Rattle.std.specs.Prelude.{is_some};
 ghost use Rattle.std.specs.Prelude.{ℕ, option_to_list};
 ghost use Rattle.std.specs.List.{filter_map};
 ghost use Rattle.std.specs.Vec.{vec_len, vec_capacity};
@@ -97,7 +99,8 @@ pub(crate) fn take_tick<A: Allocator + Copy, S: BuildHasher>(
         (left_by (record { at = moments.at.0; call = Ticks; answer = answer_for result.1; out = out }))
         (open_now lists.old.sendings.items) }
     ensures waiting { lists.new.waiting.items ≡ lists.old.waiting.items ++ option_to_list sent }
-    ensures before { (most : ℕ) (ids : IdState) → before_of most (Some result.0) ids lists.new.entries.settled lists.new.sendings.items
+    ensures before { (most : ℕ) (ids : IdState) → before_of most (Some result.0) ids lists.new.entries.settled
+        lists.new.sendings.items
         lists.new.waiting.items
         ≡ Some (forgotten (state_of_parts most moments.last.0 (awaited awaits) ids (arrivals_in lists.old.entries)
         (open_now lists.old.sendings.items) lists.old.waiting.items)) }

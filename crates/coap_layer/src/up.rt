@@ -1,3 +1,7 @@
+//! What a message layer tells the layer above it.
+ghost use Rattle.std.specs.Prelude.{◌≡◌};
+ghost use Rattle.coap_layer.specs.RefusalNumbers.{send_refusal_number};
+
 use coap_codec::View;
 use coap_types::{Endpoint, Id};
 use thiserror::Error;
@@ -56,4 +60,18 @@ pub enum SendRefusal {
     /// An allocation was refused.
     #[error("out of memory")]
     Memory,
+}
+
+impl SendRefusal {
+    /// The number of the refusal, 1 to 3, in the order of the variants.
+    pub fn number(self) -> u8
+        // The number of a message's refusal is its place among the three.
+        ensures { result ≡ send_refusal_number self }
+    {
+        match self {
+            SendRefusal::Outstanding => 1,
+            SendRefusal::NoIds => 2,
+            SendRefusal::Memory => 3,
+        }
+    }
 }

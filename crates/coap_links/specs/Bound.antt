@@ -1,4 +1,5 @@
--- Where the socket of a link is bound: at one address of the machine, or, at 0.0.0.0, at each (RFC 1122, section 3.2.1.3).
+-- Where the socket of a link is bound: at one address of the machine, or, at 0.0.0.0, at each (RFC 1122, section
+-- 3.2.1.3).
 use Rattle.std.specs.Prelude.{ℕ, List, [], ◌∷◌, ◌≡◌, ◌⊎◌, ◌==◌, if◌then◌else◌}
 use Rattle.coap_types.specs.declared.endpoint.Endpoint.{Endpoint}
 

@@ -4,5 +4,6 @@ pub mod Faults
 pub mod MemoryCarries
 pub mod Pumping
 pub mod Sockets
+pub mod Sources
 pub mod Tracing
 pub mod Turning

@@ -7,8 +7,9 @@ use Rattle.coap_links.specs.Carried.{Packet}
 use Rattle.coap_links.specs.Faults.{raised}
 use Rattle.coap_links.specs.declared.link.TheConstants.{MAX_DATAGRAM_LEN as max_datagram_len}
 
--- where it receives; what it was handed and what it is to give, each the oldest first; which send and which receive from
--- now is to fail, from 1, or 0 for none; how many calls failed; and how many buffers of the longest datagram are left
+-- where it receives; what it was handed and what it is to give, each the oldest first; which send and which receive
+-- from now is to fail, from 1, or 0 for none; how many calls failed; and how many buffers of the longest datagram are
+-- left
 pub record Memory : Type 0 where
   pub address : Endpoint
   pub handed : List Packet

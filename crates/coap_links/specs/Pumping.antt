@@ -29,8 +29,8 @@ abbrev pub IsFedOrLost : {E X : Type 0} → (E → ℕ → Endpoint → List ℕ
 IsFedOrLost quiet feeds e now came word f (Ok p) = IsFed feeds e now came word f × (p.fed ≡ is_some came)
 IsFedOrLost quiet feeds e now came word f (Err x) = IsLost quiet e now came f
 
--- The numbers of a turn: how many datagrams were out; by how much the faults of the link rose over their sends; and by how
--- much over these and the receive.
+-- The numbers of a turn: how many datagrams were out; by how much the faults of the link rose over their sends; and by
+-- how much over these and the receive.
 abbrev pub IsCounted : {X : Type 0} → (out before between after : ℕ) → Result Pumped X → Type 0
 IsCounted out before between after (Ok p) =
     (p.sent ≡ out) × (p.unsent ≡ between - before) × (p.lost ≡ after - before)

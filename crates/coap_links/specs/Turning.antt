@@ -1,5 +1,6 @@
 -- A turn of an end over a link: it is pumped once, and then ticked until nothing is due.
-use Rattle.std.specs.Prelude.{ℕ, Bool, true, false, List, ◌≡◌, ◌⊎◌, ◌||◌, ◌+◌, ◌-◌, ◌%◌, ◌^◌, if◌then◌else◌, Option, Result}
+use Rattle.std.specs.Prelude.{ℕ, Bool, true, false, List, ◌≡◌, ◌⊎◌, ◌||◌, ◌+◌, ◌-◌, ◌%◌, ◌^◌, if◌then◌else◌, Option}
+use Rattle.std.specs.Prelude.{Result}
 use Rattle.std.specs.Prelude.{Ok, Err, min, nat_lt}
 use Rattle.std.specs.declared.alloc.AllocError.{AllocError}
 use Rattle.coap_types.specs.declared.endpoint.Endpoint.{Endpoint}
@@ -61,8 +62,8 @@ abbrev pub TicksOut : {E : Type 0} → (E → ℕ → Type 0) → (E → ℕ →
     → Type 0
 TicksOut quiet ticks e now t f u = (g : _) × (v : Tally) × Steps ticks e now t g v × Rests quiet ticks g now v f u
 
--- the turn (`quiet_feed` and `quiet_tick` are that a feed and a tick take no memory, `faults` is how many calls of the link
--- failed)
+-- the turn (`quiet_feed` and `quiet_tick` are that a feed and a tick take no memory, `faults` is how many calls of the
+-- link failed)
 unfoldable pub Turns : {E L : Type 0} → (E → List layer.Packet) → (E → layer.Packet → E → Type 0)
     → (L → Endpoint → List ℕ → L → Type 0) → (L → Option Packet → L → Type 0) → (L → ℕ)
     → (E → ℕ → Endpoint → List ℕ → Type 0) → (E → ℕ → Endpoint → List ℕ → ℕ → E → Type 0)

@@ -47,8 +47,8 @@ pub fn pump<A: Allocator + Copy, E: End<A>, L: Link>(
     now: Moment,
     word: u64,
 ) -> Result<Pumped, AllocError>
-    // All that was out is sent, at most one datagram is received, and just that is fed, or lost for want of memory; and the numbers
-    // are those of what was out, of its sends that failed, and of the calls that failed.
+    // All that was out is sent, at most one datagram is received, and just that is fed, or lost for want of memory; and
+    // the numbers are those of what was out, of its sends that failed, and of the calls that failed.
     ensures chain { Pumps E.waiting E.gives L.sends L.receives L.fault_count E.quiet_feed E.feeds
         (E.state end.old) link.old now.0 word result (E.state end.new) link.new }
     // The number of what was sent is that of the datagrams that were out.

@@ -1,10 +1,9 @@
 //! What carries the datagrams of an end: links, and the turns of an end over one.
-//!
-//! A [`Link`] sends and receives datagrams and counts the calls that failed: a [`UdpLink`] over a
-//! socket, a [`MemoryLink`] in memory, a [`Trace`] around another, which tells of what passes.
-//! [`pump`] sends what an end has out and feeds it what came; [`turn`] pumps an end once, and then
-//! ticks it until nothing is due.
-//! Nothing here reads a clock: each turn is handed its moment.
+//!  A [`Link`] sends and receives datagrams and counts the calls that failed: a [`UdpLink`] over a socket, a
+//! [`Udp6Link`] over one of IPv6, whose peers have names, a [`MemoryLink`] in memory, a [`Trace`] around another, which
+//! tells of what passes. [`pump`] sends what an end has out and feeds it what came; [`turn`] pumps an end once, and
+//! then ticks it until nothing is due. Nothing here reads a clock but by a [`Timekeeper`], for names: each turn is
+//! handed its moment.
 #![tactic(auto)]
 
 mod carried;
@@ -13,24 +12,33 @@ mod link;
 #[cfg(test)]
 mod link_tests;
 mod memory_link;
+mod peer_names;
+mod socket;
 mod tally;
 #[cfg(test)]
 mod test_end;
 #[cfg(test)]
 mod test_teller;
+mod timekeeper;
 mod trace;
 #[cfg(test)]
 mod trace_tests;
 mod turning;
 #[cfg(test)]
 mod turning_tests;
+mod udp6_link;
+#[cfg(test)]
+mod udp6_link_tests;
 mod udp_link;
 
 pub use carried::Carried;
 pub use driver::{Pumped, pump, send_all};
 pub use link::{Link, MAX_DATAGRAM_LEN};
 pub use memory_link::MemoryLink;
+pub use peer_names::{PeerNames, SixPeer};
 pub use tally::{Tally, fresh_tally};
+pub use timekeeper::Timekeeper;
 pub use trace::{Teller, Trace, Way, trace_law};
 pub use turning::{get_turn, serve_turn, turn};
 pub use udp_link::{ANY_PORT, EACH_ADDRESS, LOOPBACK, UdpLink};
+pub use udp6_link::Udp6Link;

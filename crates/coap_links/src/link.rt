@@ -1,5 +1,5 @@
 //! What carries datagrams.
-ghost use Rattle.std.specs.Prelude.{ℕ, List, Option, ◌≡◌, ◌≤◌, IfSome, length};
+ghost use Rattle.std.specs.Prelude.{ℕ, Bool, List, Option, ◌≡◌, ◌≤◌, IfSome, length};
 ghost use Rattle.coap_types.specs.declared.endpoint.Endpoint.{Endpoint as EndpointSpec};
 ghost use Rattle.coap_links.specs.Faults.{MayRaise, raised};
 ghost use Rattle.coap_links.specs.Carried.{Packet, received};
@@ -26,6 +26,9 @@ pub trait Link {
 
     /// Where it receives.
     ghost own_address: { Self → EndpointSpec };
+
+    /// Whether it was told that nobody listens where its datagrams go.
+    ghost hears_refusal: { Self → Bool };
 
     /// Sends a datagram.
     fn send(&mut self, to: Endpoint, bytes: &[u8])
@@ -56,6 +59,12 @@ pub trait Link {
     fn address(&self) -> Endpoint
         // The address is that where the link receives.
         ensures { result ≡ own_address self.now };
+
+    /// Whether it was told that nobody listens where its datagrams go (RFC 1122, section 4.1.3.3), and nothing came
+    /// since.
+    fn is_refused(&self) -> bool
+        // A link says that nobody listens exactly where it was told so.
+        ensures { result ≡ hears_refusal self.now };
 }
 
 /// One more fault, up to the last value.

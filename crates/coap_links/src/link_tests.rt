@@ -1,8 +1,12 @@
+//! Tests of links.
 use crate::link::{Link, MAX_DATAGRAM_LEN};
 use crate::memory_link::MemoryLink;
+use crate::socket::{Sending, sending_of};
 use crate::udp_link::{ANY_PORT, EACH_ADDRESS, LOOPBACK, UdpLink, arrived, endpoint_of};
 use coap_types::Endpoint;
 use std::alloc::{AllocError, Global};
+use std::io;
+use std::io::ErrorKind;
 use std::net::{Ipv4Addr, Ipv6Addr, SocketAddr, SocketAddrV4, SocketAddrV6};
 use std::test::Fail;
 
@@ -242,6 +246,72 @@ fn a_port_where_nobody_listens_is_no_fault(rt: HostRuntime) -> Result<(), Fail> 
     Ok(())
 }
 
+// Whether a link was told that nobody listens.
+fn is_refused<L: Link>(link: &L) -> bool {
+    link.is_refused()
+}
+
+#[test]
+fn a_client_is_told_that_nobody_listens(rt: HostRuntime) -> Result<(), Fail> {
+    let closed = UdpLink::bind(&rt, ON_LOOPBACK)?.address();
+    let mut link = UdpLink::client(&rt, closed)?;
+    assert!(rt; !is_refused(&link));
+    for _ in 0..300 {
+        send(&mut link, closed, b"abc");
+        assert_eq!(rt; received_len(&mut link, closed), None);
+        assert!(rt; is_refused(&link));
+    }
+    assert_eq!(rt; faults(&link), 0);
+    Ok(())
+}
+
+#[test]
+fn a_send_that_only_hears_of_the_last_one_is_tried_again(rt: HostRuntime) -> Result<(), Fail> {
+    let closed = UdpLink::bind(&rt, ON_LOOPBACK)?.address();
+    let mut link = UdpLink::client(&rt, closed)?;
+    send(&mut link, closed, b"abc");
+    // The system tells of that one at the next call.
+    let mut server = UdpLink::bind(&rt, closed)?;
+    send(&mut link, closed, b"abcd");
+    let own = link.address();
+    assert_eq!(rt; received_len(&mut server, own), Some(4));
+    assert!(rt; is_refused(&link));
+    // What comes from there shows that somebody listens.
+    send(&mut server, own, b"ab");
+    assert_eq!(rt; received_len(&mut link, closed), Some(2));
+    assert!(rt; !is_refused(&link));
+    assert_eq!(rt; faults(&link), 0);
+    Ok(())
+}
+
+#[test]
+fn a_client_hears_its_server_alone(rt: HostRuntime) -> Result<(), Fail> {
+    let mut server = UdpLink::bind(&rt, ON_LOOPBACK)?;
+    let mut stranger = UdpLink::bind(&rt, ON_LOOPBACK)?;
+    let mut link = UdpLink::client(&rt, server.address())?;
+    let own = link.address();
+    send(&mut stranger, own, b"abc");
+    send(&mut server, own, b"abcd");
+    assert_eq!(rt; received_len(&mut link, server.address()), Some(4));
+    assert_eq!(rt; faults(&link), 0);
+    Ok(())
+}
+
+// What became of five bytes, where a send ended so.
+fn sent_of(kind: ErrorKind) -> Sending {
+    sending_of(Err(io::Error::from(kind)), 5)
+}
+
+#[test]
+fn what_becomes_of_a_datagram(rt: HostRuntime) -> Result<(), Fail> {
+    assert_eq!(rt; sending_of(Ok(5), 5), Sending::Went);
+    assert_eq!(rt; sending_of(Ok(4), 5), Sending::Failed);
+    assert_eq!(rt; sent_of(ErrorKind::ConnectionRefused), Sending::Closed);
+    assert_eq!(rt; sent_of(ErrorKind::NetworkUnreachable), Sending::Failed);
+    assert_eq!(rt; sent_of(ErrorKind::WouldBlock), Sending::Failed);
+    Ok(())
+}
+
 // The address of a sender at this port of 192.0.2.1, one of those for documents (RFC 5737).
 fn sender(port: u16) -> SocketAddr {
     SocketAddr::V4(SocketAddrV4::new(Ipv4Addr::new(192, 0, 2, 1), port))
@@ -258,6 +328,11 @@ fn datagrams_from_port_0_are_dropped(rt: HostRuntime) -> Result<(), Fail> {
     for _ in 0..300 {
         assert_eq!(rt; endpoint_of(sender(0)), None);
         assert_eq!(rt; arrived_from(sender(0)), None);
+    }
+    for host in [[0, 0, 0, 0], [0, 0, 0, 1], [0, 255, 255, 255]] {
+        let [a, b, c, d] = host;
+        let from = SocketAddr::V4(SocketAddrV4::new(Ipv4Addr::new(a, b, c, d), 5_683));
+        assert_eq!(rt; endpoint_of(from), None);
     }
     for port in [1, 5_683, u16::MAX] {
         let ip = [192, 0, 2, 1];

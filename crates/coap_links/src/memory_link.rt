@@ -1,6 +1,6 @@
 //! A link in memory.
 ghost use Rattle.std.specs.Prelude.{ℕ, List, [], ◌∷◌, ◌++◌, Option, ◌≡◌, ◌≤◌, map, OnOk, OnErr, IfSome, IfNone};
-ghost use Rattle.std.specs.Prelude.{length, ◌+◌, ◌-◌, ◌==◌, ◌⊎◌, true};
+ghost use Rattle.std.specs.Prelude.{length, ◌+◌, ◌-◌, ◌==◌, ◌⊎◌, true, false};
 ghost use Rattle.std.specs.Vec.{vec_len};
 ghost use Rattle.std.specs.VecDeque.{deque_capacity, deque_len};
 ghost use Rattle.coap_types.specs.declared.endpoint.Endpoint.{Endpoint as EndpointSpec};
@@ -208,6 +208,8 @@ impl<A: Allocator + Copy> Link for MemoryLink<A> {
 
     ghost own_address = { λ link. link.address };
 
+    ghost hears_refusal = { λ _. false };
+
     fn send(&mut self, to: Endpoint, bytes: &[u8]) {
         let (fails, left) = count_down(self.failing_send);
         self.failing_send = left;
@@ -232,5 +234,9 @@ impl<A: Allocator + Copy> Link for MemoryLink<A> {
 
     fn address(&self) -> Endpoint {
         self.address
+    }
+
+    fn is_refused(&self) -> bool {
+        false
     }
 }

@@ -86,7 +86,8 @@ impl<L: Link + Drop, T: Teller + Drop> Trace<L, T> {
     // Tells of a datagram, once, and counts one that can't be told of.
     fn tell(&mut self, way: Way, peer: Endpoint, bytes: &[u8])
         ensures link { self.new.link ≡ self.old.link }
-        ensures told { IsTold T.tells self.old.teller self.old.untold way (peer, bytes.now) self.new.teller self.new.untold }
+        ensures told { IsTold T.tells self.old.teller self.old.untold way (peer, bytes.now) self.new.teller
+            self.new.untold }
     {
         if self.teller.tell(way, peer, bytes).is_err() {
             self.untold = raise(self.untold);
@@ -104,6 +105,8 @@ impl<L: Link + Drop, T: Teller + Drop> Link for Trace<L, T> {
     ghost fault_count = { λ trace. L.fault_count trace.link };
 
     ghost own_address = { λ trace. L.own_address trace.link };
+
+    ghost hears_refusal = { λ trace. L.hears_refusal trace.link };
 
     fn send(&mut self, to: Endpoint, bytes: &[u8]) {
         self.tell(Way::Goes, to, bytes);
@@ -124,6 +127,10 @@ impl<L: Link + Drop, T: Teller + Drop> Link for Trace<L, T> {
 
     fn address(&self) -> Endpoint {
         self.link.address()
+    }
+
+    fn is_refused(&self) -> bool {
+        self.link.is_refused()
     }
 }
 
@@ -146,4 +153,6 @@ pub fn trace_law<L: Link + Drop, T: Teller + Drop>()
     ensures faults { (t : _) → ⟦<Trace<L, T> as Link>⟧.fault_count t ≡ L.fault_count t.link }
     // A trace is where its link is.
     ensures address { (t : _) → ⟦<Trace<L, T> as Link>⟧.own_address t ≡ L.own_address t.link }
+    // A trace hears that nobody listens where its link does.
+    ensures refusal { (t : _) → ⟦<Trace<L, T> as Link>⟧.hears_refusal t ≡ L.hears_refusal t.link }
 {}

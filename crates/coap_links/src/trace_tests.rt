@@ -1,3 +1,4 @@
+//! Tests of links that tell what they carry.
 use crate::link_tests::{FAR, NEAR, count_faults, give, receive, send, tell_handed};
 use crate::memory_link::MemoryLink;
 use crate::test_teller::TestTeller;

@@ -1,3 +1,4 @@
+//! Tests of the turns of an end over a link.
 use crate::driver::pump;
 use crate::link::Link;
 use crate::link_tests::{FAR, NEAR, give, tell_handed};

@@ -1,21 +1,19 @@
 //! A link over a socket of UDP.
-ghost use Rattle.std.specs.Prelude.{ℕ, List, Option, Some, None, ◌≡◌, ◌<◌, ◌≤◌, ◌⊎◌, ◌↔◌, IfOk, IfSome, IfNone, length, take, true};
-ghost use Rattle.std.specs.Net.Addr.{ipv4_octets};
+ghost use Rattle.std.specs.Prelude.{ℕ, List, Option, Some, None, ◌≡◌, ◌<◌, ◌≤◌, ◌⊎◌, IfOk, IfSome, IfNone, length};
+ghost use Rattle.std.specs.Prelude.{take, true, false};
+ghost use Rattle.std.specs.Net.Socket.{socket_ip, socket_port};
+ghost use Rattle.std.specs.declared.net.ip_addr.IpAddr.TheVariants.{V4};
 ghost use Rattle.coap_links.specs.Bound.{IsBoundAt, client_ip};
-ghost use Rattle.coap_links.specs.Faults.{MayRaise, raised};
-ghost use Rattle.coap_links.specs.Sockets.{endpoint_in};
+ghost use Rattle.coap_links.specs.Faults.{MayRaise};
+ghost use Rattle.coap_links.specs.Sockets.{endpoint_in, is_of_this_network, reached_at};
 
-use crate::link::{Link, MAX_DATAGRAM_LEN, raise};
+use crate::link::{Link, MAX_DATAGRAM_LEN};
+use crate::peer_names::is_name;
+use crate::socket::Socket;
 use coap_types::Endpoint;
 use std::io;
 use std::io::ErrorKind;
-use std::net::{Ipv4Addr, Net, SocketAddr, UdpSocket};
-use std::time::Duration;
-
-// How long a receive waits for a datagram.
-const RECEIVE_WAIT_MS: u64 = 10;
-
-const _: () = prove!(RECEIVE_WAIT_MS == 10);
+use std::net::{IpAddr, Ipv4Addr, Net, SocketAddr};
 
 /// The port that stands for one that is free.
 pub const ANY_PORT: u16 = 0;
@@ -23,7 +21,7 @@ pub const ANY_PORT: u16 = 0;
 const _: () = prove!(ANY_PORT == 0);
 
 // The port of a sender that takes no reply (RFC 768).
-const NO_PORT: u16 = 0;
+pub(crate) const NO_PORT: u16 = 0;
 
 const _: () = prove!(NO_PORT == 0);
 
@@ -37,32 +35,55 @@ pub const EACH_ADDRESS: [u8; 4] = [0, 0, 0, 0];
 /// A UDP socket.
 #[derive(Drop)]
 pub struct UdpLink {
-    socket: UdpSocket,
+    socket: Socket,
     address: Endpoint,
-    faults: u64,
+}
+
+/// The endpoint at this address and port of IPv4, where an answer can be sent there.
+pub(crate) fn reached_at(ip: [u8; 4], port: u16) -> Option<Endpoint>
+    ensures exact { result ≡ reached_at ip port }
+    ensures port { IfSome result (λ endpoint. NO_PORT < endpoint.port) }
+    // No endpoint of IPv4 is in 0.0.0.0/8, so that none is the name of a peer of IPv6.
+    ensures apart { IfSome result (λ endpoint. is_of_this_network endpoint.ip ≡ false) }
+{
+    let endpoint = Endpoint { ip, port };
+    if port == NO_PORT || is_name(endpoint) {
+        None
+    } else {
+        Some(endpoint)
+    }
 }
 
 /// The endpoint of a socket address of IPv4, to which an answer can be sent.
 pub(crate) fn endpoint_of(address: SocketAddr) -> Option<Endpoint>
     ensures exact { result ≡ endpoint_in address }
     ensures port { IfSome result (λ endpoint. NO_PORT < endpoint.port) }
+    ensures apart { IfSome result (λ endpoint. is_of_this_network endpoint.ip ≡ false) }
 {
     match address {
-        SocketAddr::V4(address) if address.port() != NO_PORT => Some(Endpoint {
+        SocketAddr::V4(address) => reached_at(address.ip().octets(), address.port()),
+        SocketAddr::V6(_) => None,
+    }
+}
+
+// Where a socket of IPv4 is.
+fn bound_endpoint(address: SocketAddr) -> Option<Endpoint> {
+    match address {
+        SocketAddr::V4(address) => Some(Endpoint {
             ip: address.ip().octets(),
             port: address.port(),
         }),
-        SocketAddr::V4(_) | SocketAddr::V6(_) => None,
+        SocketAddr::V6(_) => None,
     }
 }
 
 // The socket address of an endpoint.
-fn socket_address(to: Endpoint) -> (Ipv4Addr, u16)
-    ensures ip { ipv4_octets result.0 ≡ to.ip }
-    ensures port { result.1 ≡ to.port }
+fn socket_address(to: Endpoint) -> SocketAddr
+    ensures ip { socket_ip result ≡ V4 (record { octets = to.ip }) }
+    ensures port { socket_port result ≡ to.port }
 {
     let [a, b, c, d] = to.ip;
-    (Ipv4Addr::new(a, b, c, d), to.port)
+    SocketAddr::new(IpAddr::V4(Ipv4Addr::new(a, b, c, d)), to.port)
 }
 
 // Whether a socket is where it was asked to be; at `ANY_PORT`, at whichever port.
@@ -93,17 +114,15 @@ impl UdpLink {
     /// its clients ask.
     pub fn bind<R: Net>(net: &R, address: Endpoint) -> io::Result<UdpLink>
         // A link that is bound has failed no call.
-        ensures faults { IfOk result (λ link. link.faults ≡ 0) }
+        ensures faults { IfOk result (λ link. link.socket.faults ≡ 0) }
         // A link that is bound has the address that was asked for, and the port, but where any would do.
         ensures bound { IfOk result (λ link. IsBoundAt address link.address) }
     {
-        let socket = UdpSocket::bind(net, socket_address(address))?;
-        socket.set_read_timeout(Some(Duration::from_millis(RECEIVE_WAIT_MS)))?;
-        match endpoint_of(socket.local_addr()?) {
+        let socket = Socket::bind(net, socket_address(address))?;
+        match bound_endpoint(socket.local_addr()?) {
             Some(bound) if is_bound_at(address, bound) => Ok(UdpLink {
                 socket,
                 address: bound,
-                faults: 0,
             }),
             _ => Err(io::Error::from(ErrorKind::AddrNotAvailable)),
         }
@@ -111,10 +130,12 @@ impl UdpLink {
 
     /// A socket for a client of this server, at a port that is free. It is at `LOOPBACK` where the server is at
     /// an address of 127.0.0.0/8, so that only the machine itself reaches it; else at `EACH_ADDRESS`, and each
-    /// datagram leaves from the address that the system chooses for its way.
+    /// datagram leaves from the address that the system chooses for its way. It is connected, where there is a way to
+    /// the server: the system then drops what comes from elsewhere, and says where nobody listens (RFC 1122, section
+    /// 4.1.3.3).
     pub fn client<R: Net>(net: &R, server: Endpoint) -> io::Result<UdpLink>
         // A client's link that is bound has failed no call.
-        ensures faults { IfOk result (λ link. link.faults ≡ 0) }
+        ensures faults { IfOk result (λ link. link.socket.faults ≡ 0) }
         // A client's link is at 127.0.0.1 where its server is in 127.0.0.0/8, and else at 0.0.0.0.
         ensures bound { IfOk result (λ link. link.address.ip ≡ client_ip server.ip) }
     {
@@ -122,19 +143,34 @@ impl UdpLink {
             ip: client_ip(server.ip),
             port: ANY_PORT,
         };
-        UdpLink::bind(net, address)
+        let link = UdpLink::bind(net, address)?;
+        link.socket.connect(socket_address(server));
+        Ok(link)
     }
 }
 
-// Whether a receive that ended so only found no datagram.
-fn is_quiet(kind: ErrorKind) -> bool
-    ensures { (result ≡ true) ↔ ((kind ≡ ErrorKind.WouldBlock) ⊎ (kind ≡ ErrorKind.TimedOut)) }
+/// Copies what came to the front of a buffer, and answers from where and how long it is; None where it is too long.
+pub(crate) fn put_in(
+    len: usize,
+    from: Endpoint,
+    bytes: &[u8],
+    buf: &mut [u8],
+) -> Option<(Endpoint, usize)>
+    requires held { len ≤ length bytes.now }
+    requires room { MAX_DATAGRAM_LEN ≤ length buf.old }
+    ensures some { IfSome result (λ came. (came ≡ (from, len)) × (len ≤ MAX_DATAGRAM_LEN)
+        × (take len buf.new ≡ take len bytes.now)) }
+    ensures none { IfNone result (MAX_DATAGRAM_LEN < len) }
+    ensures room { length buf.new ≡ length buf.old }
 {
-    kind == ErrorKind::WouldBlock || kind == ErrorKind::TimedOut
+    if len > MAX_DATAGRAM_LEN {
+        return None;
+    }
+    buf[..len].copy_from_slice(&bytes[..len]);
+    Some((from, len))
 }
 
-/// Copies what came to the front of a buffer, and answers from where and how long it is; None where it is too long, or
-/// came from where no answer can go.
+/// .. of what came from this address; None, too, where no answer can go there.
 pub(crate) fn arrived(
     len: usize,
     from: SocketAddr,
@@ -148,49 +184,41 @@ pub(crate) fn arrived(
     ensures none { IfNone result ((endpoint_in from ≡ None) ⊎ (MAX_DATAGRAM_LEN < len)) }
     ensures room { length buf.new ≡ length buf.old }
 {
-    if len > MAX_DATAGRAM_LEN {
-        return None;
-    }
     let from = endpoint_of(from)?;
-    buf[..len].copy_from_slice(&bytes[..len]);
-    Some((from, len))
+    put_in(len, from, bytes, buf)
 }
 
 impl Link for UdpLink {
-    ghost sends = { λ before _ _ after. MayRaise before.faults after.faults };
+    ghost sends = { λ before _ _ after. MayRaise before.socket.faults after.socket.faults };
 
-    ghost receives = { λ before _ after. MayRaise before.faults after.faults };
+    ghost receives = { λ before _ after. MayRaise before.socket.faults after.socket.faults };
 
-    ghost fault_count = { λ link. link.faults };
+    ghost fault_count = { λ link. link.socket.faults };
 
     ghost own_address = { λ link. link.address };
 
+    ghost hears_refusal = { λ link. link.socket.is_refused };
+
     fn send(&mut self, to: Endpoint, bytes: &[u8]) {
-        match self.socket.send_to(bytes, socket_address(to)) {
-            Ok(count) if count == bytes.len() => {}
-            _ => self.faults = raise(self.faults),
-        }
+        self.socket.send(socket_address(to), bytes);
     }
 
     fn receive(&mut self, buf: &mut [u8]) -> Option<(Endpoint, usize)> {
         // One byte more than the longest, so that a longer one is told from it.
         let mut bytes = [0; MAX_DATAGRAM_LEN + 1];
-        match self.socket.recv_from(&mut bytes) {
-            Ok((len, from)) => arrived(len, from, bytes.as_slice(), buf),
-            Err(error) => {
-                if !is_quiet(error.kind()) {
-                    self.faults = raise(self.faults);
-                }
-                None
-            }
-        }
+        let (len, from) = self.socket.receive(&mut bytes)?;
+        arrived(len, from, bytes.as_slice(), buf)
     }
 
     fn faults(&self) -> u64 {
-        self.faults
+        self.socket.faults
     }
 
     fn address(&self) -> Endpoint {
         self.address
+    }
+
+    fn is_refused(&self) -> bool {
+        self.socket.is_refused
     }
 }

@@ -2,10 +2,10 @@
 use Rattle.std.proofs.Common.{List, [], ◌∷◌, refl}
 use Rattle.coap_client.specs.Law.{ClientLaw}
 use Rattle.coap_server.specs.Law.{ServerLaw}
-use Rattle.coap_world.specs.Events as E
-use Rattle.coap_world.specs.GoesOn.{HasRecord}
-use Rattle.coap_world.specs.Legal as L
-use Rattle.coap_world.specs.Record as W
+use Rattle.coap_record.specs.Events as E
+use Rattle.coap_promise.specs.GoesOn.{HasRecord}
+use Rattle.coap_record.specs.Legal as L
+use Rattle.coap_record.specs.Record as W
 use Rattle.coap_many.specs.GoesOn.{Begins}
 use Rattle.coap_many.specs.Clients.{world_of}
 

@@ -5,9 +5,9 @@ use Rattle.std.proofs.Common.{length-append, refl, ap, sym, subst, ◌∙◌, ar
 use Rattle.std.proofs.lemmas.Bool.{le-leb, leb-true, cases_lt}
 use Rattle.coap_types.specs.Past.{Always}
 use Rattle.coap_types.specs.declared.endpoint.Endpoint.{Endpoint}
-use Rattle.coap_world.specs.Clocks as by_clocks
-use Rattle.coap_world.specs.Record as W
-use Rattle.coap_world.specs.declared.addresses.Addresses.{Addresses}
+use Rattle.coap_promise.specs.Clocks as by_clocks
+use Rattle.coap_record.specs.Record as W
+use Rattle.coap_record.specs.declared.addresses.Addresses.{Addresses}
 use Rattle.coap_many.specs.Clients.{Config, IsOfClient}
 use Rattle.coap_many.specs.Clocks.{Clocks, of_two, seen_at}
 use Rattle.coap_many.specs.Entries.{Turn}

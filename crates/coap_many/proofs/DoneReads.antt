@@ -3,10 +3,10 @@ use Rattle.std.proofs.Common.{◌≡◌, ◌+◌, inl, inr, ℕ, Some, List, [],
 use Rattle.coap_types.specs.Past.{Sometime, Always}
 use Rattle.coap_resource.specs.Content.{Held}
 use Rattle.coap_client.specs.Trace.{Request, Done}
-use Rattle.coap_client.specs.Follows.Numbers.{NumbersOnce}
-use Rattle.coap_server.proofs.Facts.Laws.{held_is}
-use Rattle.coap_world.specs.Agrees.{Agrees}
-use Rattle.coap_world.specs.Applied.{Does}
+use Rattle.coap_client_laws.specs.Follows.Numbers.{NumbersOnce}
+use Rattle.coap_server.proofs.Facts.Holds.{held_is}
+use Rattle.coap_promise.specs.Agrees.{Agrees}
+use Rattle.coap_promise.specs.Applied.{Does}
 use Rattle.coap_many.specs.Clients.{Client, Config, IsClient, world_of}
 use Rattle.coap_many.specs.DoneReads.{IsDoneAt, IsNoOlder, LeavesNoNewer, ReadsWhatWasDone, ObservesWhatWasDone}
 use Rattle.coap_many.specs.Entries.{Entry, client_of, server_trace}

@@ -11,8 +11,8 @@ use Rattle.coap_types.proofs.Facts.Endpoints.{same_endpoint_is, same_endpoint_se
 use Rattle.coap_layer.specs.Trace.{Packet}
 use Rattle.coap_client.specs.Trace as C
 use Rattle.coap_server.specs.Trace as S
-use Rattle.coap_world.specs.Record as W
-use Rattle.coap_world.specs.declared.addresses.Addresses.{Addresses}
+use Rattle.coap_record.specs.Record as W
+use Rattle.coap_record.specs.declared.addresses.Addresses.{Addresses}
 use Rattle.coap_many.specs.Clients.{Config}
 use Rattle.coap_many.specs.Entries.{Entry, OfClient, OfServer, client_of, server_of, given_by, as_of}
 use Rattle.coap_many.specs.View.{view_entry, view_entries}
@@ -75,11 +75,6 @@ IsApart config (OfServer c) = Unit {0}
 abbrev pub AreApart : Config → List Entry → Type 0
 AreApart config [] = Unit {0}
 AreApart config (e ∷ es) = IsApart config e × AreApart config es
-
-pub apart_join : (config : Config) (es fs : List Entry) → AreApart config es → AreApart config fs
-    → AreApart config (es ++ fs)
-apart_join config [] fs h k = k
-apart_join config (e ∷ es) fs h k = (h.0, apart_join config es fs h.1 k)
 
 pub clients_apart : (config : Config) (who : Endpoint) (cs : List C.Call) → same_endpoint who config.server ≡ false
     → AreApart config (map (as_of who) (map W.OfClient cs))

@@ -7,15 +7,15 @@ use Rattle.coap_types.specs.Past.{Sometime, Always}
 use Rattle.coap_types.specs.declared.endpoint.Endpoint.{Endpoint}
 use Rattle.coap_types.specs.declared.transmission.TheConstants.{EXCHANGE_LIFETIME_MS as exchange_lifetime}
 use Rattle.coap_layer.specs.Clocks.{max_gain}
-use Rattle.coap_client.specs.Follows.OfObservations as O
+use Rattle.coap_client_laws.specs.Follows.OfObservations as O
 use Rattle.coap_client.specs.Trace as C
 use Rattle.coap_client.specs.Trace.{Report, Body, Valid, Value}
 use Rattle.coap_server.specs.Trace as S
-use Rattle.coap_world.specs.Events as E
-use Rattle.coap_world.specs.Fresh as F
-use Rattle.coap_world.specs.Held.{HeldSince, ValidSince, ValueSince}
-use Rattle.coap_world.specs.Record as R
-use Rattle.coap_world.specs.Words as W
+use Rattle.coap_record.specs.Events as E
+use Rattle.coap_promise.specs.Fresh as F
+use Rattle.coap_promise.specs.Held.{HeldSince, ValidSince, ValueSince}
+use Rattle.coap_record.specs.Record as R
+use Rattle.coap_promise.specs.Words as W
 use Rattle.coap_many.specs.Clients.{Client, Config, IsClient, IsOfClient, world_of}
 use Rattle.coap_many.specs.Clocks.{Clocks}
 use Rattle.coap_many.specs.Entries.{Entry, OfClient, OfServer, Turn, entries_of}

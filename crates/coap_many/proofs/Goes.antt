@@ -8,14 +8,14 @@ use Rattle.coap_types.specs.SameEndpoint.{same_endpoint}
 use Rattle.coap_types.specs.declared.endpoint.Endpoint.{Endpoint}
 use Rattle.coap_types.proofs.Facts.Endpoints.{same_endpoint_is, same_endpoint_self}
 use Rattle.coap_client.specs.Law.{ClientLaw}
-use Rattle.coap_client.proofs.Facts.Laws as client_facts
+use Rattle.coap_client_laws.proofs.Facts.Laws as client_facts
 use Rattle.coap_server.specs.Law.{ServerLaw}
 use Rattle.coap_server.specs.Trace as S
-use Rattle.coap_server.proofs.Facts.Laws as server_facts
-use Rattle.coap_world.specs.Events as E
-use Rattle.coap_world.specs.NoFault as N
-use Rattle.coap_world.specs.Record as W
-use Rattle.coap_world.specs.Run.Configs.{begins_with}
+use Rattle.coap_server_laws.proofs.Facts.Laws as server_facts
+use Rattle.coap_record.specs.Events as E
+use Rattle.coap_promise.specs.NoFault as N
+use Rattle.coap_record.specs.Record as W
+use Rattle.coap_record.specs.Begins.{begins_with}
 use Rattle.coap_many.specs.Clients.{Client, Config, IsClient, IsOfClient, world_of}
 use Rattle.coap_many.specs.Events.{Event, Act, Calls, Observes, Cancels, Forgets, Ticks}
 use Rattle.coap_many.specs.Events.{What, Acts, Sets, Removes, TickServer, Deliver, StrangerToClient}

@@ -7,7 +7,7 @@ use Rattle.coap_server.specs.Follows.Holds.{held_at, changes}
 use Rattle.coap_server.specs.Follows.Tags.{AreStamped}
 use Rattle.coap_server.specs.Law.{ServerRows}
 use Rattle.coap_server.specs.Trace as S
-use Rattle.coap_server.proofs.Facts.Laws.{holds_changes}
+use Rattle.coap_server.proofs.Facts.Holds.{holds_changes}
 use Rattle.coap_many.specs.Clients.{Config}
 use Rattle.coap_many.specs.DoneReads.{IsNoOlder}
 use Rattle.coap_many.specs.Entries.{Entry, server_of, server_trace}

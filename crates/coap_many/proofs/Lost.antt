@@ -2,10 +2,10 @@
 use Rattle.std.proofs.Common.{◌≡◌, inl, inr, ℕ, true, List, [], ◌∷◌, subst}
 use Rattle.coap_types.specs.Past.{Always}
 use Rattle.coap_types.specs.declared.endpoint.Endpoint.{Endpoint}
-use Rattle.coap_world.specs.Events as E
-use Rattle.coap_world.specs.NoFault as N
-use Rattle.coap_world.specs.Record as W
-use Rattle.coap_world.specs.declared.addresses.Addresses.{Addresses}
+use Rattle.coap_record.specs.Events as E
+use Rattle.coap_promise.specs.NoFault as N
+use Rattle.coap_record.specs.Record as W
+use Rattle.coap_record.specs.declared.addresses.Addresses.{Addresses}
 use Rattle.coap_many.specs.Clients.{Config}
 use Rattle.coap_many.specs.Entries.{Entry, Turn}
 use Rattle.coap_many.specs.Events.{What, Acts, Sets, Removes, TickServer, Deliver, StrangerToClient, StrangerToServer}

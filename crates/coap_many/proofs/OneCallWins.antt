@@ -12,10 +12,10 @@ use Rattle.coap_resource.specs.Content.{Held}
 use Rattle.coap_resource.specs.RequestOptions.{precondition_fails, is_tag_of, tag_of}
 use Rattle.coap_client.specs.Requests.{flag_option}
 use Rattle.coap_client.specs.Trace.{Request}
-use Rattle.coap_client.specs.Follows.Numbers.{NumbersOnce}
+use Rattle.coap_client_laws.specs.Follows.Numbers.{NumbersOnce}
 use Rattle.coap_server.specs.Follows.Serves.{Serving}
-use Rattle.coap_world.specs.Agrees.{Agrees}
-use Rattle.coap_world.specs.Applied.{Does, conditions_of}
+use Rattle.coap_promise.specs.Agrees.{Agrees}
+use Rattle.coap_promise.specs.Applied.{Does, conditions_of}
 use Rattle.coap_many.specs.Agrees.{IsOf}
 use Rattle.coap_many.specs.Clients.{Client, Config, IsClient, world_of}
 use Rattle.coap_many.specs.Entries.{Entry, OfClient, OfServer, client_of}

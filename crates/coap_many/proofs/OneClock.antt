@@ -2,11 +2,11 @@
 use Rattle.std.proofs.Common.{◌≡◌, ◌≤◌, ◌+◌, inl, inr, ⊎_elim, ℕ, List, [], ◌∷◌, length, sym, subst, ◌∙◌, arith}
 use Rattle.coap_types.specs.Past.{Always}
 use Rattle.coap_types.specs.declared.endpoint.Endpoint.{Endpoint}
-use Rattle.coap_world.specs.Clocks as by_clocks
-use Rattle.coap_world.specs.Events as E
-use Rattle.coap_world.specs.Legal as L
-use Rattle.coap_world.specs.Record as W
-use Rattle.coap_world.specs.declared.addresses.Addresses.{Addresses}
+use Rattle.coap_promise.specs.Clocks as by_clocks
+use Rattle.coap_record.specs.Events as E
+use Rattle.coap_record.specs.Legal as L
+use Rattle.coap_record.specs.Record as W
+use Rattle.coap_record.specs.declared.addresses.Addresses.{Addresses}
 
 module _ (addresses : Addresses) (c : by_clocks.Clocks) (one : (n : ℕ) → c.client n ≡ c.server n)
     (rises : (i j : ℕ) → i ≤ j → c.client i ≤ c.client j) where

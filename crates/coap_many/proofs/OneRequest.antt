@@ -5,8 +5,8 @@ use Rattle.coap_types.specs.Past.{Ever}
 use Rattle.coap_types.specs.SameEndpoint.{same_endpoint}
 use Rattle.coap_client.specs.Trace as C
 use Rattle.coap_client.specs.Trace.{Request}
-use Rattle.coap_client.specs.Follows.Numbers.{NumbersOnce, number_given}
-use Rattle.coap_client.specs.Follows.Words.{Taken, takes}
+use Rattle.coap_client_laws.specs.Follows.Numbers.{NumbersOnce, number_given}
+use Rattle.coap_client.specs.Sendings.{Taken, takes}
 use Rattle.coap_many.specs.Clients.{Client}
 use Rattle.coap_many.specs.Entries.{Entry, OfClient, OfServer, client_of}
 use Rattle.coap_many.specs.Words.{WasCalled}

@@ -20,7 +20,7 @@ use Rattle.coap_server.specs.Law.{own_of}
 use Rattle.coap_server.specs.Steps.{after}
 use Rattle.coap_server.specs.Trace as S
 use Rattle.coap_server.specs.Trace.{Own, Feeds, Ticks, Serves}
-use Rattle.coap_server.proofs.Facts.Laws.{version_is}
+use Rattle.coap_server.proofs.Facts.Holds.{version_is}
 use Rattle.coap_many.specs.Clients.{Config}
 use Rattle.coap_many.specs.Entries.{Entry, OfClient, OfServer, server_trace}
 use Rattle.coap_many.specs.Winners.{OneRequestWins, WinsHere, values_of}

@@ -4,7 +4,7 @@ use Rattle.std.proofs.Common.{length}
 use Rattle.std.proofs.Common.{length-append, refl, ap, ◌∙◌, arith, if◌then◌else◌}
 use Rattle.std.proofs.lemmas.Bool.{le-leb, leb-true, cases_lt}
 use Rattle.coap_types.specs.declared.endpoint.Endpoint.{Endpoint}
-use Rattle.coap_world.specs.Record as W
+use Rattle.coap_record.specs.Record as W
 use Rattle.coap_many.specs.Clients.{Config}
 use Rattle.coap_many.specs.Entries.{Turn}
 use Rattle.coap_many.specs.Place.{place}

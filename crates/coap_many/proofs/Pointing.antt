@@ -8,12 +8,12 @@ use Rattle.coap_resource.specs.Content.{Held}
 use Rattle.coap_resource.specs.RequestOptions.{tag_of}
 use Rattle.coap_client.specs.Trace as C
 use Rattle.coap_client.specs.Trace.{Request, Report, Body, Valid, Value}
-use Rattle.coap_client.specs.Follows.Numbers.{NumbersOnce, number_given}
-use Rattle.coap_client.specs.Follows.OfObservations as O
-use Rattle.coap_server.proofs.Facts.EachCall.{held_small}
-use Rattle.coap_world.specs.Agrees.{Agrees}
-use Rattle.coap_world.specs.Held.{ValueSince}
-use Rattle.coap_world.specs.Rising.{Names}
+use Rattle.coap_client_laws.specs.Follows.Numbers.{NumbersOnce, number_given}
+use Rattle.coap_client_laws.specs.Follows.OfObservations as O
+use Rattle.coap_server_laws.proofs.Facts.EachCall.{held_small}
+use Rattle.coap_promise.specs.Agrees.{Agrees}
+use Rattle.coap_promise.specs.Held.{ValueSince}
+use Rattle.coap_promise.specs.Rising.{Names}
 use Rattle.coap_many.specs.Clients.{Client, Config, IsClient, world_of}
 use Rattle.coap_many.specs.Reads.{Reads, Tells}
 use Rattle.coap_many.specs.Entries.{Entry, OfClient, OfServer, client_of, server_trace}

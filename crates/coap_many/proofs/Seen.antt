@@ -9,10 +9,10 @@ use Rattle.coap_types.specs.declared.endpoint.Endpoint.{Endpoint}
 use Rattle.coap_types.proofs.Facts.Endpoints.{same_endpoint_is, same_endpoint_self}
 use Rattle.coap_client.specs.Trace as C
 use Rattle.coap_server.specs.Trace as S
-use Rattle.coap_world.specs.Clocks as by_clocks
-use Rattle.coap_world.specs.Events as E
-use Rattle.coap_world.specs.Legal as L
-use Rattle.coap_world.specs.Record as W
+use Rattle.coap_promise.specs.Clocks as by_clocks
+use Rattle.coap_record.specs.Events as E
+use Rattle.coap_record.specs.Legal as L
+use Rattle.coap_record.specs.Record as W
 use Rattle.coap_many.specs.Clients.{Client, Config, IsOfClient, IsEnd}
 use Rattle.coap_many.specs.Clocks.{Clocks, Shows}
 use Rattle.coap_many.specs.GoesOn.{CanCome}

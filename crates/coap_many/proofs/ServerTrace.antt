@@ -4,7 +4,7 @@ use Rattle.coap_resource.specs.Content.{Held}
 use Rattle.coap_server.specs.Follows.Tags.{AreStamped}
 use Rattle.coap_server.specs.Follows.Holds.{held_at}
 use Rattle.coap_server.specs.Law.{ServerRows}
-use Rattle.coap_server.proofs.Facts.Laws.{held_is}
+use Rattle.coap_server.proofs.Facts.Holds.{held_is}
 use Rattle.coap_many.specs.Clients.{Config}
 use Rattle.coap_many.specs.Entries.{Entry, OfClient, OfServer, server_of, server_trace}
 use Rattle.coap_many.specs.Words.{holds_at, changes_in}

@@ -7,9 +7,9 @@ use Rattle.coap_types.specs.Past.{Always, all_of}
 use Rattle.coap_types.specs.declared.endpoint.Endpoint.{Endpoint}
 use Rattle.coap_client.specs.Law.{ClientLaw}
 use Rattle.coap_server.specs.Law.{ServerLaw}
-use Rattle.coap_world.specs.Record as W
-use Rattle.coap_world.specs.declared.addresses.Addresses.{Addresses}
-use Rattle.coap_world.specs.Run.Configs.{begins_with}
+use Rattle.coap_record.specs.Record as W
+use Rattle.coap_record.specs.declared.addresses.Addresses.{Addresses}
+use Rattle.coap_record.specs.Begins.{begins_with}
 use Rattle.coap_many.specs.Clients.{Config, IsOfClient}
 use Rattle.coap_many.specs.Entries.{Turn, given_in, entries_of}
 use Rattle.coap_many.specs.GoesOn.{AllCanCome}

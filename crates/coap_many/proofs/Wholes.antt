@@ -4,9 +4,9 @@ use Rattle.coap_types.specs.Past.{Always}
 use Rattle.coap_resource.specs.RequestOptions.{precondition_fails}
 use Rattle.coap_client.specs.Trace.{Request}
 use Rattle.coap_server.specs.Follows.Holds.{changes}
-use Rattle.coap_world.specs.Agrees.{Agrees}
-use Rattle.coap_world.specs.Applied.{IsWhole, Does, conditions_of}
-use Rattle.coap_world.specs.Words as W
+use Rattle.coap_promise.specs.Agrees.{Agrees}
+use Rattle.coap_promise.specs.Applied.{IsWhole, Does, conditions_of}
+use Rattle.coap_promise.specs.Words as W
 use Rattle.coap_many.specs.Clients.{Client, Config, world_of}
 use Rattle.coap_many.specs.Entries.{Entry, OfServer}
 use Rattle.coap_many.specs.View.{view_entries}

@@ -3,8 +3,8 @@ use Rattle.std.specs.Prelude.{◌≡◌, ◌⊎◌, ℕ, true, List}
 use Rattle.coap_types.specs.Past.{Always}
 use Rattle.coap_server.specs.Serving.{is_applied}
 use Rattle.coap_server.specs.Follows.Serves.{Serving}
-use Rattle.coap_world.specs.Agrees as W
-use Rattle.coap_world.specs.Bounds as W_bounds
+use Rattle.coap_promise.specs.Agrees as W
+use Rattle.coap_promise.specs.Bounds as W_bounds
 use Rattle.coap_many.specs.Clients.{Client, Config, IsClient, IsOfClient, world_of}
 use Rattle.coap_many.specs.Entries.{Entry}
 use Rattle.coap_many.specs.View.{view_entries}

@@ -1,7 +1,7 @@
 -- The clocks of the ends of a run of many: each client has one of its own, and so has the server.
 use Rattle.std.specs.Prelude.{◌≡◌, ◌⊎◌, ℕ}
 use Rattle.coap_types.specs.declared.endpoint.Endpoint.{Endpoint}
-use Rattle.coap_world.specs.Clocks as W
+use Rattle.coap_promise.specs.Clocks as W
 use Rattle.coap_many.specs.Clients.{Client, Config, IsClient, IsOfClient}
 
 -- what the clock of the client at this address shows, and the server's, at an event: at that before which there were so

@@ -3,7 +3,7 @@ use Rattle.std.specs.Prelude.{◌≡◌, ◌≤◌, ◌<◌, ℕ, ◌+◌, Optio
 use Rattle.coap_types.specs.Past.{Sometime, Always}
 use Rattle.coap_resource.specs.Content.{Held}
 use Rattle.coap_client.specs.Trace.{Request, Done}
-use Rattle.coap_world.specs.Applied.{Does}
+use Rattle.coap_promise.specs.Applied.{Does}
 use Rattle.coap_many.specs.Clients.{Client, Config, IsClient}
 use Rattle.coap_many.specs.Entries.{Entry}
 use Rattle.coap_many.specs.Words.{WasCalled, ReportsAt, AppliesFor, holds_at, changes_in}

@@ -5,7 +5,7 @@ use Rattle.coap_types.specs.declared.transmission.TheConstants.{EXCHANGE_LIFETIM
 use Rattle.coap_layer.specs.Clocks.{max_gain}
 use Rattle.coap_observe.specs.Versions.{sequence_number}
 use Rattle.coap_resource.specs.RequestOptions.{tag_of}
-use Rattle.coap_client.specs.Follows.OfObservations as O
+use Rattle.coap_client_laws.specs.Follows.OfObservations as O
 use Rattle.coap_client.specs.Trace.{Body, Valid, Value}
 use Rattle.coap_many.specs.Clients.{Client, Config, IsClient}
 use Rattle.coap_many.specs.Clocks.{Clocks}

@@ -2,7 +2,7 @@
 -- clocks show.
 use Rattle.std.specs.Prelude.{◌≡◌, ℕ, false, List, [], ◌∷◌, ◌++◌, map}
 use Rattle.coap_types.specs.Past.{Always}
-use Rattle.coap_world.specs.Record as W
+use Rattle.coap_record.specs.Record as W
 use Rattle.coap_many.specs.Clients.{Config, IsOfClient, IsEnd}
 use Rattle.coap_many.specs.Entries.{Entry, Turn, IsNumber}
 use Rattle.coap_many.specs.Events.{Event, What, Acts, Deliver, StrangerToClient}

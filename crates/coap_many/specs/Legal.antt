@@ -2,9 +2,9 @@
 -- clients, each with a clock of its own.
 use Rattle.std.specs.Prelude.{◌≡◌, ◌≤◌, ◌<◌, ℕ, ◌+◌, ◌^◌, length, List}
 use Rattle.coap_types.specs.Past.{Ever, Always}
-use Rattle.coap_world.specs.Events as E
-use Rattle.coap_world.specs.Legal as W
-use Rattle.coap_world.specs.Record.{Given}
+use Rattle.coap_record.specs.Events as E
+use Rattle.coap_record.specs.Legal as W
+use Rattle.coap_record.specs.Record.{Given}
 use Rattle.coap_many.specs.Clients.{Client, Config, IsClient, IsOfClient, IsEnd, world_of}
 use Rattle.coap_many.specs.Clocks.{Clocks, AreClocks, Shows}
 use Rattle.coap_many.specs.Events.{What, Acts, Sets}

@@ -21,4 +21,7 @@ pub mod Reads
 pub mod Laws
 pub mod Winners
 pub mod DoneReads
+pub mod ManyRuns
 pub mod TwoClients
+pub mod ReadsBehind
+pub mod LockRun

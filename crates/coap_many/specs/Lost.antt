@@ -2,9 +2,9 @@
 use Rattle.std.specs.Prelude.{◌≡◌, ◌⊎◌, ℕ, true, List, [], map}
 use Rattle.coap_types.specs.Past.{Always}
 use Rattle.coap_types.specs.declared.endpoint.Endpoint.{Endpoint}
-use Rattle.coap_world.specs.Events as E
-use Rattle.coap_world.specs.NoFault as N
-use Rattle.coap_world.specs.Record as W
+use Rattle.coap_record.specs.Events as E
+use Rattle.coap_promise.specs.NoFault as N
+use Rattle.coap_record.specs.Record as W
 use Rattle.coap_many.specs.Clients.{Config, IsOfClient}
 use Rattle.coap_many.specs.Entries.{Entry, Turn, IsNumber, as_of}
 use Rattle.coap_many.specs.Events.{What, Acts, Sets, Removes, TickServer, Deliver, StrangerToClient, StrangerToServer}

@@ -1,8 +1,9 @@
 -- What each client of a smooth run of many is promised (RFC 7252, sections 4.2, 5.2 and 5.8).
-use Rattle.std.specs.Prelude.{◌≡◌, ℕ, List}
+use Rattle.std.specs.Prelude.{◌≡◌, ℕ, List, []}
 use Rattle.coap_types.specs.declared.endpoint.Endpoint.{Endpoint}
-use Rattle.coap_world.specs.Smooth as W
-use Rattle.coap_world.specs.SmoothAnswers.{AnsweredSmoothly}
+use Rattle.coap_smooth.specs.Reported.{EightAreReported}
+use Rattle.coap_smooth.specs.Smooth as W
+use Rattle.coap_smooth.specs.SmoothAnswers.{AnsweredSmoothly}
 use Rattle.coap_many.specs.Clients.{Client, Config, IsClient, IsOfClient, world_of}
 use Rattle.coap_many.specs.Clocks.{Clocks}
 use Rattle.coap_many.specs.Entries.{Turn}
@@ -19,7 +20,12 @@ pub record GoesSmoothly (config : Config) (k : Client) (turns : List Turn) : Typ
   pub few_told : W.FewTold (world_of config k) (view config k.at turns)
   pub none_observed : W.NoneObserved (view config k.at turns)
 
--- Then its calls are answered smoothly, whatever the other clients meet.
+-- Then its calls are answered smoothly, and each is reported in time (`AreReported`), whatever the other clients meet.
 abbrev pub EachIsAnswered : Config → List Turn → Type 0
 EachIsAnswered config turns = (k : Client) → IsClient config k → GoesSmoothly config k turns
     → AnsweredSmoothly (world_of config k) (view config k.at turns)
+
+-- .. and where no path has a delay, 8 of its calls, of one block each, are all reported within 24 s.
+abbrev pub EachHasEight : Config → List Turn → Type 0
+EachHasEight config turns = config.delays ≡ [] → (k : Client) → IsClient config k → GoesSmoothly config k turns
+    → EightAreReported (world_of config k) (view config k.at turns)

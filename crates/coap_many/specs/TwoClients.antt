@@ -1,56 +1,26 @@
 -- A legal run of two clients whose messages in flight at one moment have equal Message IDs and equal tokens (RFC 7252,
 -- sections 4.4 and 5.3.1): the laws of many are laws of something. Each list has the newest first.
-use Rattle.std.specs.Prelude.{◌≡◌, ℕ, ◌+◌, nat_lt, Some, None, List, [], ◌∷◌, ◌++◌, codes, if◌then◌else◌}
-use Rattle.coap_types.specs.Past.{Ever, Sometime, all_of}
-use Rattle.coap_types.specs.SameEndpoint.{same_endpoint}
-use Rattle.coap_types.specs.declared.endpoint.Endpoint.{Endpoint}
-use Rattle.coap_layer.specs.Machine.State.{usual}
-use Rattle.coap_client.specs.Follows.Gives as C
-use Rattle.coap_client.specs.Trace.{Body, Done, Reported}
-use Rattle.coap_common.specs.SuccessCodes.{changed}
-use Rattle.coap_world.specs.Events.{localhost, client_end, server_end}
-use Rattle.coap_world.specs.LegalRuns.{sizes, limits, token, tag, plain, t, get, get_bytes, content_bytes, reported}
-use Rattle.coap_world.specs.LegalRuns.{changed_bytes}
-use Rattle.coap_world.specs.Record.{Given}
-use Rattle.coap_world.specs.SmoothRuns.{put, put_bytes}
-use Rattle.coap_many.specs.Clients.{Client, Config}
-use Rattle.coap_many.specs.Clocks.{Clocks}
-use Rattle.coap_many.specs.Entries.{Turn, IsNumber, entries_of, given_in, client_of}
-use Rattle.coap_many.specs.Events.{Event, What, Acts, Calls, Ticks, Sets, Deliver}
-use Rattle.coap_many.specs.Legal.{Legal}
-use Rattle.coap_many.specs.Record.{RecordOf}
+use Rattle.std.specs.Prelude.{◌≡◌, ℕ, Some, None, List, [], ◌∷◌, ◌++◌, codes}
+use Rattle.coap_types.specs.Past.{Ever, Sometime}
+use Rattle.coap_client.specs.Trace.{Body, Done}
+use Rattle.coap_exchange.specs.SuccessCodes.{changed}
+use Rattle.coap_record.specs.Events.{client_end}
+use Rattle.coap_promise.specs.LegalRuns.{token, tag, plain, t, get, get_bytes, content_bytes}
+use Rattle.coap_promise.specs.LegalRuns.{changed_bytes, from_server}
+use Rattle.coap_record.specs.Record.{Given}
+use Rattle.coap_smooth.specs.SmoothRuns.{put, put_bytes}
+use Rattle.coap_many.specs.Clients.{Config}
+use Rattle.coap_many.specs.Entries.{Turn, IsNumber, entries_of}
+use Rattle.coap_many.specs.Events.{Event, Acts, Calls, Ticks, Sets, Deliver}
+use Rattle.coap_many.specs.ManyRuns.{second_end, first, second, with_clients, event, ahead, to_server}
+use Rattle.coap_many.specs.ManyRuns.{Runs, told, told_to}
 use Rattle.coap_many.specs.Words.{holds_at, changes_in}
 
--- two clients that begin with one word, so that they choose the same Message IDs and tokens
-
-abbrev pub second_end : Endpoint
-second_end = record { ip = localhost; port = 40002 }
-
-abbrev pub a_client : Endpoint → Client
-a_client at = record { at = at; setup = usual 0; sizes = sizes }
-
-abbrev pub first : Client
-first = a_client client_end
-
-abbrev pub second : Client
-second = a_client second_end
-
 abbrev pub config : Config
-config = record {
-  server = server_end;
-  setup = usual 0;
-  szx = 6;
-  limits = limits;
-  delays = [];
-  plains = [];
-  clients = first ∷ second ∷ [];
-}
+config = with_clients (first ∷ second ∷ [])
 
 -- The server holds `hi` at `t`. The one client gets it, and the other puts `ho` there. Each request comes after 5 ms,
 -- and each response after 4 ms.
-
-abbrev pub event : ℕ → What → Event
-event at what = record { at = at; word = 0; what = what }
 
 abbrev pub crosses : List Event
 crosses =
@@ -65,29 +35,9 @@ crosses =
     event 0 (Sets t (Some plain) (codes "hi")) ∷
     []
 
--- The clocks of the first client and of the server show 0 at the first five events, 5 at two more, and then 9. The
--- second client's shows 1,000,000 ms more all the while: nothing is asked of the clocks of two clients.
-
-abbrev pub step : (first gain n : ℕ) → ℕ
-step first gain n = if nat_lt n first then 0 else gain
-
-abbrev pub moment : ℕ → ℕ
-moment n = step 5 5 n + step 7 4 n
-
-abbrev pub ahead : ℕ
-ahead = 1000000
-
-abbrev pub clocks : Clocks
-clocks = record {
-  clients = λ who n. if same_endpoint who second_end then ahead + moment n else moment n;
-  server = moment;
-}
-
-abbrev pub to_server : ℕ → Endpoint → List ℕ → Given
-to_server at from bytes = record { at = at; from = from; packet = record { to = server_end; bytes = bytes } }
-
-abbrev pub to_client : Endpoint → List ℕ → Given
-to_client to bytes = record { at = 5; from = server_end; packet = record { to = to; bytes = bytes } }
+-- what the clocks of the first client and of the server show at these events
+abbrev pub moments : List ℕ
+moments = 9 ∷ 9 ∷ 5 ∷ 5 ∷ 0 ∷ 0 ∷ 0 ∷ 0 ∷ 0 ∷ []
 
 -- A message whose token has 8 bytes has its Message ID in bytes 2 and 3, and its token in the 8 behind them (section
 -- 3).
@@ -108,17 +58,14 @@ pub record Cross (past : List Turn) : Type 0 where
   pub first_words : HasWords (0 ∷ 0 ∷ []) token get_bytes
   pub second_words : HasWords (0 ∷ 0 ∷ []) token put_bytes
 
--- It is legal; they cross; each client reports the answer to its own request, and what was put is there once.
+-- They cross; each client reports the answer to its own request, and what was put is there once.
 pub record Crosses : Type 0 where
-  pub turns : List Turn
-  pub made : RecordOf config crosses turns
-  pub legal : Legal clocks config turns
-  pub gives : all_of (given_in config) turns ≡ to_client second_end changed_bytes ∷ to_client client_end content_bytes ∷
-      to_server ahead second_end put_bytes ∷ to_server 0 client_end get_bytes ∷ []
-  pub cross : Sometime (λ past turn. Cross past) turns
-  pub first_reports : C.given (client_of client_end (entries_of turns))
-      ≡ reported (Body (Some (tag 1)) (Some plain) (codes "hi")) ∷ []
-  pub second_reports : C.given (client_of second_end (entries_of turns)) ≡ reported (Done changed) ∷ []
-  pub holds : holds_at config t (entries_of turns)
+  pub run : Runs config moments crosses
+      (from_server 5 second_end changed_bytes ∷ from_server 5 client_end content_bytes ∷ to_server ahead second_end
+      put_bytes ∷ to_server 0 client_end get_bytes ∷ [])
+  pub cross : Sometime (λ past turn. Cross past) run.turns
+  pub first_reports : told_to client_end run.turns ≡ told 0 (Body (Some (tag 1)) (Some plain) (codes "hi")) ∷ []
+  pub second_reports : told_to second_end run.turns ≡ told 0 (Done changed) ∷ []
+  pub holds : holds_at config t (entries_of run.turns)
       ≡ Some (record { version = 2; format = None; body = codes "ho" })
-  pub changes : changes_in config (entries_of turns) ≡ 2
+  pub changes : changes_in config (entries_of run.turns) ≡ 2

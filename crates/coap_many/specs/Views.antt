@@ -1,7 +1,7 @@
 -- What one client and the server see of a run of many is a run.
 use Rattle.std.specs.Prelude.{◌≡◌, List, map}
-use Rattle.coap_world.specs.Clocks as by_clocks
-use Rattle.coap_world.specs.Record as W
+use Rattle.coap_promise.specs.Clocks as by_clocks
+use Rattle.coap_record.specs.Record as W
 use Rattle.coap_many.specs.Clients.{Client, Config, IsClient, world_of}
 use Rattle.coap_many.specs.Clocks.{Clocks, seen_at}
 use Rattle.coap_many.specs.Events.{Event}

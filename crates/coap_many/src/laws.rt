@@ -1,3 +1,4 @@
+//! The laws of a run of many clients.
 ghost use Rattle.std.specs.Prelude.{List};
 ghost use Rattle.coap_many.specs.Agrees.{AllOwned, EachAgrees, EachIsBounded};
 ghost use Rattle.coap_many.specs.Clients.{Config};
@@ -11,15 +12,17 @@ ghost use Rattle.coap_many.specs.GoesOn.{Begins, GoesOn, OfRecords};
 ghost use Rattle.coap_many.specs.Laws.{AgainRises, InRealTime, NeverBack, OneMaker};
 ghost use Rattle.coap_many.specs.Legal.{Legal};
 ghost use Rattle.coap_many.specs.LegalRuns.{InLegalRuns};
+ghost use Rattle.coap_many.specs.LockRun.{Locks};
 ghost use Rattle.coap_many.specs.Lost.{RefusedAreLost};
 ghost use Rattle.coap_many.specs.Points.{AtMostOnePoint, HavePoints};
+ghost use Rattle.coap_many.specs.ReadsBehind.{ReadsBehind};
 ghost use Rattle.coap_many.specs.Record.{RecordOf};
-ghost use Rattle.coap_many.specs.Smooth.{AreOneClock, EachIsAnswered};
+ghost use Rattle.coap_many.specs.Smooth.{AreOneClock, EachHasEight, EachIsAnswered};
 ghost use Rattle.coap_many.specs.TwoClients.{Crosses};
 ghost use Rattle.coap_many.specs.Views.{ViewsAreRecords, ViewsAreRuns};
 ghost use Rattle.coap_many.specs.Winners.{OneCallWins, OneRequestWins, RequestsMake};
 
-use coap_client::client_follows_law;
+use coap_client_laws::client_follows_law;
 use coap_world::{agreement, runs_law};
 
 /// What one client and the server see of a run of many.
@@ -67,9 +70,14 @@ pub fn agreement_of_many()
     ensures no_fault { OfRecords GoesOn }
     // An end that is refused memory for an input loses that input; of ticks, those before the refused one stay.
     ensures lost { RefusedAreLost }
-    // By one clock, each client's calls are answered smoothly where what that client and the server see goes smoothly.
+    // By one clock, where what a client and the server see goes smoothly, the calls of that client are answered
+    // smoothly, as `agreement` says of one client, and each is reported in time, whatever the other clients meet.
     ensures smooth { (c : Clocks) (config : Config) (events : List Event) (turns : List Turn)
         → RecordOf config events turns → Legal c config turns → AreOneClock config c → EachIsAnswered config turns }
+    // So where no path has a delay, 8 calls of that client, of one block each, are all reported within 24 s (RFC 7252,
+    // section 5.2; the numbers are a profile).
+    ensures eight { (c : Clocks) (config : Config) (events : List Event) (turns : List Turn)
+        → RecordOf config events turns → Legal c config turns → AreOneClock config c → EachHasEight config turns }
 {
     client_follows_law();
     agreement();
@@ -135,9 +143,14 @@ pub fn reads_what_was_done_law()
     agreement_of_many();
 }
 
-/// A legal run of two clients: what this crate says of runs of many, it says of something.
+/// Legal runs of two and three clients, byte for byte: what this crate says of runs of many, it says of something.
 pub fn many_witness_law()
     // Requests of two clients are in flight at one moment with one Message ID and one token, and each client reports
     // its own answer (RFC 7252, sections 4.4 and 5.3.1).
     ensures crosses { Crosses }
+    // Three clients ask for a lock, where a response is lost and a DELETE is repeated: never two hold it by what they
+    // were told, whoever does has its name there, and one is told 4.12 (RFC 7252, sections 4.5, 5.10.8.1 and 5.10.8.2).
+    ensures lock { Locks }
+    // A client that asks after another one was told that its PUT is done reads what that put (RFC 7252, section 5.8).
+    ensures behind { ReadsBehind }
 {}

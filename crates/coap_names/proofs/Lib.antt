@@ -10,3 +10,4 @@ mod HeldMoves
 mod NamedNow
 mod FirstNames
 mod Histories
+pub mod OrderOfIdle

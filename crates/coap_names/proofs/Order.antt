@@ -4,7 +4,7 @@ use Rattle.std.proofs.Common.{subst, arith, slice_get}
 use Rattle.std.specs.Map.{lookup, remove_entry}
 use Rattle.lru.specs.LruCache.{last_entry}
 use Rattle.coap_names.specs.declared.names.Idle.{Idle}
-use Rattle.coap_names.specs.Order.{Descends}
+use Rattle.coap_names.proofs.OrderOfIdle.{Descends}
 
 module _ {K : Type 0} where
   pub descends_later : (a b : ℕ) (es : List (K × Idle)) → a ≤ b → Descends a es → Descends b es

@@ -16,7 +16,7 @@ use Rattle.coap_names.specs.Trace.{Call, NameOf, Sent, Hold, Release, Retire, An
 use Rattle.coap_names.specs.Tables.{Setup, State, start, touched, idle_at, keyed, named, either}
 use Rattle.coap_names.specs.Steps.{Distinct, Touches, Gives, Adds, Evicts, IsNew, Holds, Releases, Retires, Step}
 use Rattle.coap_names.specs.Led.{Runs, Led}
-use Rattle.coap_names.specs.Order.{Descends}
+use Rattle.coap_names.proofs.OrderOfIdle.{Descends}
 use Rattle.coap_names.proofs.Lists.{length-removed}
 use Rattle.coap_names.proofs.Lookups.{lookup_same, lookup_first, lookup_removed, lookup_touched, touched_is}
 use Rattle.coap_names.proofs.Lookups.{last_removed, lookup_last, length-removed_le}

@@ -1,9 +1,9 @@
-//! Each growth of a table of names refused in turn: the call that meets it leaves the table as it was, and the same call
-//! then does what it would have done.
+//! Each growth of a table of names refused in turn: the call that meets it leaves the table as it was, and the same
+//! call then does what it would have done.
 use crate::peers::{Hashing, Table, comes, first, nth, places_of};
 use coap_names::{Names, NamesRefusal, Numbering};
 use coap_types::{Endpoint, Moment};
-use failing::Failing;
+use failing_allocator::Failing;
 use std::alloc::{AllocError, Allocator};
 use std::process::Abort;
 use std::test::*;

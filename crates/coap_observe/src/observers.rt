@@ -1,3 +1,4 @@
+//! The observers of a server, in order of registration (RFC 7641, section 4.1).
 ghost use Rattle.std.specs.Prelude.{◌≡◌, ◌<◌, ◌≤◌, [], find, length, max, true, false, IfOk, IsOk, OnErr, slice_get};
 ghost use Rattle.std.specs.List.{list_any};
 ghost use Rattle.std.specs.Option.{option_map};

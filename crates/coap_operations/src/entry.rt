@@ -1,3 +1,4 @@
+//! An entry of the slab in which a client keeps its operations.
 ghost use Rattle.std.specs.Prelude.{◌≡◌};
 ghost use Rattle.std.specs.Borrow.{Lends, sem};
 

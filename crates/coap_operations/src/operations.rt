@@ -1,3 +1,4 @@
+//! The operations of a client: what waits, what runs and what is live.
 ghost use Rattle.std.specs.Prelude.{◌≡◌, ◌≤◌, ◌<◌, ◌++◌, [], ◌∷◌, None, Some, not, drop, filter, length, option_copied};
 ghost use Rattle.std.specs.Prelude.{remove, slice_get, OnOk, OnErr};
 ghost use Rattle.std.specs.Borrow.{sem};

@@ -1,3 +1,5 @@
+//! What waits for its turn at a client.
+
 /// What waits: an operation, or the cancel of the observation with that number (RFC 7641, section
 /// 3.6), which takes no memory.
 #[derive(Drop)]

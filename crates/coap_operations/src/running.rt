@@ -1,3 +1,5 @@
+//! The operation of a client that runs.
+
 /// What runs. One operation runs at a time (NSTART is 1: RFC 7252, section 4.7).
 #[derive(Drop)]
 pub enum Running<T> {

@@ -6,9 +6,9 @@ use Rattle.coap_layer.specs.Machine.State.{usual}
 use Rattle.coap_block.specs.Sizes.{usual_sizes}
 use Rattle.coap_resource.specs.Limits.{usual_limits}
 use Rattle.coap_resource.specs.declared.tally.TheConstants.{MAX_CHANGES_PER_WINDOW as max_changes}
-use Rattle.coap_world.specs.Events.{usual_addresses, Config, Event}
-use Rattle.coap_world.specs.Run.Log.{Log}
-use Rattle.coap_world.specs.Run.Runs.{IsFirstWrong, IsRunOf}
+use Rattle.coap_record.specs.Events.{usual_addresses, Config, Event}
+use Rattle.coap_run.specs.Run.Log.{Log}
+use Rattle.coap_run.specs.Run.Runs.{IsFirstWrong, IsRunOf}
 use Rattle.coap_page.specs.declared.ended.Ended.{Ended}
 use Rattle.coap_page.specs.declared.ended.Ended.TheVariants as ended
 

@@ -4,7 +4,7 @@ mod line;
 mod refusal;
 
 use crate::script::line::event_of_line;
-use coap_world::Event;
+use coap_run::Event;
 pub(crate) use fields::path;
 pub(crate) use refusal::{LineRefusal, ScriptRefusal};
 use std::alloc::Allocator;

@@ -5,7 +5,7 @@ ghost use Rattle.coap_page.specs.Shows.{IsShown};
 use crate::ended::Ended;
 use crate::room::{NoMemory, Told};
 use coap_codec::{View, decode};
-use coap_text::{FaultWords, hex_or_dash};
+use coap_print::{FaultWords, hex_or_dash};
 use std::alloc::Allocator;
 use std::io::Write;
 

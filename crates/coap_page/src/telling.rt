@@ -7,10 +7,10 @@ use crate::into_room::Printing;
 use crate::played::play_run;
 use crate::room::{NoMemory, Told};
 use crate::script::{LineRefusal, ScriptRefusal, events_of, path};
+use coap_print::{draw_run, tell_run};
 use coap_resource::MAX_CHANGES_PER_WINDOW;
-use coap_text::{draw_run, tell_run};
+use coap_run::{Addresses, CLIENT_END, Event, Record, RunRefusal, SERVER_END, WorldConfig, run};
 use coap_types::{MAX_SZX, Path, Szx};
-use coap_world::{Addresses, CLIENT_END, Event, Record, RunRefusal, SERVER_END, WorldConfig, run};
 use std::alloc::Allocator;
 use std::io;
 

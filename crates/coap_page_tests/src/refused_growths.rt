@@ -2,7 +2,7 @@
 use crate::scripts::{GET, PLAIN, STRANGER};
 use crate::told::{room_of, run_in, run_told};
 use coap_page::{Ended, Printing, show_into};
-use failing::Failing;
+use failing_allocator::Failing;
 use std::test::Fail;
 
 // No call takes so many growths.

@@ -1,6 +1,7 @@
 -- A text is read byte by byte.
 use Rattle.std.proofs.Common.{◌≡◌, ℕ, ◌+◌, ◌*◌, ◌<◌, Bool, true, false, not, cond, ◌&&◌, List, [], ◌∷◌, length}
-use Rattle.std.proofs.Common.{Option, Some, None, refl, sym, ap, ◌∙◌, subst, arith, eqb}
+use Rattle.std.proofs.Common.{Option, Some, None, refl, sym, ap, ◌∙◌, subst, arith, eqb, true≢false}
+use Rattle.std.proofs.lemmas.Bool.Decides.{nat_tests}
 use Rattle.coap_paths.specs.Escapes.{hex_of, or_zero, is_digit, is_escaped, unescaped}
 use Rattle.coap_paths.specs.FirstBytes.{pair_of, next_of}
 
@@ -93,3 +94,15 @@ no_next (b ∷ h ∷ l ∷ bs) e w = (elim (eqb b 37) as (λ t. eqb b 37 ≡ t �
       let none = no_pair (hex_of h) (hex_of l) bs (is_escaped bs) (rw t at e) in cc)
   | false ↦ λ t. absurd (let f = rw t at e in cc)
 ]) refl
+
+-- a text at which there is none is well escaped exactly where it is empty
+pub ended_escaped : (text : List ℕ) (empty : Bool) → next_of text ≡ None → empty ≡ eqb (length text) 0
+    → empty ≡ is_escaped text
+ended_escaped text empty none is = (elim (is_escaped text) as (λ b. is_escaped text ≡ b → empty ≡ b) [
+  | true ↦ λ well. is ∙ ap (λ l. eqb (length l) 0) (no_next text none well)
+  | false ↦ λ bad. is ∙ some text bad
+]) refl
+  where
+    some : (l : List ℕ) → is_escaped l ≡ false → eqb (length l) 0 ≡ false
+    some [] bad = absurd (true≢false bad)
+    some (x ∷ xs) bad = grind (arith, nat_tests)

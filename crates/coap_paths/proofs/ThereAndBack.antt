@@ -10,12 +10,13 @@ use Rattle.coap_paths.specs.PathTexts.{SpellsPath, is_slash, parts, segments_in,
 use Rattle.coap_paths.specs.Escapes.{escape, escaped, hex_of, or_zero, is_digit, is_escaped, unescaped}
 
 -- the text is well escaped, and says the segment
-record IsBack (text segment : List ℕ) : Type 0 where
-  says : unescaped text ≡ segment
-  well : is_escaped text ≡ true
+pub record IsBack (text segment : List ℕ) : Type 0 where
+  pub says : unescaped text ≡ segment
+  pub well : is_escaped text ≡ true
 
 -- a byte that is no percent sign says itself
-plain_first : (b : ℕ) (rest segment : List ℕ) → eqb b 37 ≡ false → IsBack rest segment → IsBack (b ∷ rest) (b ∷ segment)
+pub plain_first : (b : ℕ) (rest segment : List ℕ) → eqb b 37 ≡ false → IsBack rest segment
+    → IsBack (b ∷ rest) (b ∷ segment)
 plain_first b [] segment plain back = record { says = ap (λ l. b ∷ l) back.says; well = ap not plain }
 plain_first b (h ∷ []) segment plain back =
     record { says = ap (λ l. b ∷ l) back.says; well = ap (λ x. not x && is_escaped (h ∷ [])) plain ∙ back.well }
@@ -56,13 +57,13 @@ segment_back [] = record { says = refl; well = refl }
 segment_back (b ∷ bs) = byte_first b (escaped bs) bs (segment_back bs)
 
 -- what is written of a segment has no slash
-abbrev Bare : List ℕ → Type 0
+abbrev pub Bare : List ℕ → Type 0
 Bare text = All (λ x. is_slash x ≡ false) text
 
-bare_byte : (b : ℕ) (rest : List ℕ) → is_slash b ≡ false → Bare rest → Bare (b ∷ rest)
+pub bare_byte : (b : ℕ) (rest : List ℕ) → is_slash b ≡ false → Bare rest → Bare (b ∷ rest)
 bare_byte b rest plain bare = All-cons (λ x. is_slash x ≡ false) b rest plain bare
 
-bare_end : Bare []
+pub bare_end : Bare []
 bare_end = λ k d lt. absurd (omega (arith, lt))
 
 escape_bare : (b : ℕ) → Bare (escape b)

@@ -1,3 +1,4 @@
 pub mod Escapes
 pub mod FirstBytes
 pub mod PathTexts
+pub mod Uris

@@ -56,3 +56,14 @@ pub(crate) fn unescape(text: &[u8], room: &mut [u8; MAX_SEGMENT_LEN]) -> Option<
     }
     if left.is_empty() { Some(len) } else { None }
 }
+
+/// Whether two hexadecimal digits follow each percent sign of a text.
+pub(crate) fn is_escaped(text: &[u8]) -> bool
+    ensures { result ≡ is_escaped text.now }
+{
+    let mut left = text;
+    'bytes: while let Some((_, after)) = next(left) {
+        left = after;
+    }
+    left.is_empty()
+}

@@ -7,8 +7,10 @@
 mod escapes;
 mod laws;
 mod reading;
+mod uris;
 mod writing;
 
-pub use laws::paths_law;
+pub use laws::{paths_law, uris_law};
 pub use reading::{PathTextRefusal, path_of};
+pub use uris::{UriPathRefusal, path_of_uri};
 pub use writing::{put_path, put_segment};

@@ -8,7 +8,8 @@ ghost use Rattle.coap_server.specs.Object.Shown.{state_of};
 ghost use Rattle.coap_journal.specs.Frames.{BeginsFrame, frames};
 ghost use Rattle.coap_journal.specs.Input.{Delay, Feed, Input, Plain, Remove, Set, Tick, all_spelled, spelled};
 ghost use Rattle.coap_journal.specs.Records.{Record, Turn, record_bytes};
-ghost use Rattle.coap_replay.specs.Replaying.{Does, GivesOut, Replays, Takes, TakesAll, Turned, bodies};
+ghost use Rattle.coap_replay.specs.Doing.{bodies};
+ghost use Rattle.coap_replay.specs.Replaying.{Does, GivesOut, Replays, Takes, TakesAll, Turned};
 ghost use Rattle.coap_replay.specs.Replaying.{last_life, latest_moment};
 
 use coap_journal::{

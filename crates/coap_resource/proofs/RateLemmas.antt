@@ -151,7 +151,8 @@ as_test m n h = search arith
 -- the window is full where so many changes were counted in it
 full : (t : Tally) (at : ℕ) → (rate_refusal t at ≡ Some RateExceeded) ↔ (t.limits.changes ≤ used t at)
 full t at = (
-  λ h. at_most t.limits.changes (used t at) (full_by (leb t.limits.changes (used t at)) (t.version == 18446744073709551615) h),
+  λ h. at_most t.limits.changes (used t at) (full_by (leb t.limits.changes (used t at))
+      (t.version == 18446744073709551615) h),
   λ h. let most = as_test t.limits.changes (used t at) h in rw most refl,
 )
 

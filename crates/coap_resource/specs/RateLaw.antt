@@ -49,4 +49,5 @@ CountLaw = (limits : Limits) (calls : List (ℕ × Bool)) (s : Content) → Lead
 -- never early
 abbrev pub ExceededLaw : Type 0
 ExceededLaw = (limits : Limits) (calls : List (ℕ × Bool)) (s : Content) → Leads limits calls s → (now : ℕ)
-    → (rate_refusal s.tally now ≡ Some RateExceeded) ↔ (changes_in (window (max (last calls) now)) calls ≡ limits.changes)
+    → (rate_refusal s.tally now ≡ Some RateExceeded) ↔ (changes_in (window (max (last calls) now)) calls
+    ≡ limits.changes)

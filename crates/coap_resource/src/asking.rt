@@ -1,3 +1,4 @@
+//! A request, as far as a store answers it.
 use coap_types::{Method, Opt, Path, Szx};
 use std::alloc::{Allocator, Global};
 

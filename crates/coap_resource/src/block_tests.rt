@@ -1,3 +1,4 @@
+//! Tests of bodies that are read block by block.
 use crate::tests::{ask, path_of};
 use crate::{ListStore, Response, Store};
 use coap_types::{Code, Method, Moment, Opt, Path, Szx, uint_bytes};

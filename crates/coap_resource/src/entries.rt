@@ -1,3 +1,4 @@
+//! The entries of a store that is a list.
 ghost use Rattle.std.specs.Prelude.{◌≡◌, ◌<◌, ◌≤◌, vec_len, ◌++◌, [], ◌∷◌, not, OnOk, OnErr, vec_capacity};
 ghost use Rattle.std.specs.Prelude.{length, option_copied};
 ghost use Rattle.std.specs.List.{filter};

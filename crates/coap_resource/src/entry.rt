@@ -1,3 +1,4 @@
+//! An entry of a store that is a list.
 use crate::representation::Representation;
 use coap_types::Path;
 use std::alloc::Allocator;

@@ -1,3 +1,4 @@
+//! A store that looks through a list.
 ghost use Rattle.coap_resource.specs.Entries.{content_of};
 
 use crate::entries::{find, paths, put_in, take_out};

@@ -1,3 +1,4 @@
+//! The entries of a store that is a map.
 ghost use Rattle.std.specs.Prelude.{◌≡◌, ◌<◌, ◌^◌, None, Some, is_some, length, OnOk, OnErr, option_copied};
 ghost use Rattle.coap_resource.specs.Entries.{Enters, find, mapped_entries};
 ghost use Rattle.coap_resource.specs.Shown.{held_of, shown};

@@ -1,3 +1,4 @@
+//! A store that looks in a map.
 ghost use Rattle.coap_resource.specs.Entries.{content_of};
 
 use crate::map_entries::{find, paths, put_in, take_out};

@@ -1,3 +1,4 @@
+//! Why a store does not make a change.
 ghost use Rattle.std.specs.Prelude.{◌≡◌};
 ghost use Rattle.coap_resource.specs.Content.{refusal_number};
 ghost use Rattle.coap_resource.specs.declared.refusal.StoreRefusal.TheVariants.{Memory};

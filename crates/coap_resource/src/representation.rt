@@ -1,3 +1,4 @@
+//! What a path holds (RFC 7252, section 5.5.1).
 use bytes::Bytes;
 use std::alloc::{Allocator, Global};
 

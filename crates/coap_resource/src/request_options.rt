@@ -1,3 +1,4 @@
+//! The options of a request that a store reads (RFC 7252, section 5.10).
 ghost use Rattle.std.specs.Prelude.{◌≡◌, ◌≤◌, IfSome, is_some, option_copied};
 ghost use Rattle.coap_types.specs.CoapOption.{options_of};
 ghost use Rattle.coap_resource.specs.RequestOptions.{accepts, block_of, etag_names, format_of, if_match_names};

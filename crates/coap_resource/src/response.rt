@@ -1,3 +1,4 @@
+//! A store's response, but for its Observe option.
 ghost use Rattle.std.specs.Prelude.{◌≡◌};
 ghost use Rattle.coap_resource.specs.Serves.{bare, reply_of};
 

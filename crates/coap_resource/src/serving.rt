@@ -1,3 +1,4 @@
+//! How each method is served (RFC 7252, section 5.8).
 ghost use Rattle.std.specs.Prelude.{◌≡◌, ◌≢◌, ◌<◌, ◌≤◌, ◌^◌, IfOk, IsOk, IfSome, OnErr, OnOk, true, [], length, take};
 ghost use Rattle.std.specs.Prelude.{drop};
 ghost use Rattle.coap_types.specs.CoapOption.{options_of};

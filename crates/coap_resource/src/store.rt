@@ -1,3 +1,4 @@
+//! The trait of stores.
 ghost use Rattle.std.specs.Prelude.{◌≡◌, ◌≤◌, ◌↔◌, ◌+◌, ◌++◌, None, Some, IfOk, IfErr, IfSome, IsSome, length};
 ghost use Rattle.std.specs.Prelude.{option_copied};
 ghost use Rattle.coap_resource.specs.Content.{Changes, Content, Held, append_refusal, nothing, put_refusal, later};

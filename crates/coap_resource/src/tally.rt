@@ -1,3 +1,4 @@
+//! The counter of versions, and how many changes a window takes.
 ghost use Rattle.std.specs.Prelude.{◌≡◌, ◌<◌, ◌≤◌, ◌+◌, None, max};
 ghost use Rattle.coap_resource.specs.Content.{append_refusal_by, put_refusal_by};
 ghost use Rattle.coap_resource.specs.Rate.{counted, rate_refusal, unused, used, waited, window};

@@ -1,3 +1,4 @@
+//! Tests of how methods are served.
 mod changes;
 
 use crate::{Asking, ListStore, MapStore, Response, Store, serve, value_of};

@@ -1,5 +1,5 @@
 //! For tests: two links in memory, of which each gives what the other was handed.
-ghost use Rattle.std.specs.Prelude.{◌≡◌};
+ghost use Rattle.std.specs.Prelude.{◌≡◌, false};
 ghost use Rattle.coap_links.specs.Faults.{MayRaise};
 
 use coap_codec::decode;
@@ -154,6 +154,8 @@ impl<'a> Link for JoinedLink<'a> {
 
     ghost own_address = { λ link. link.link.address };
 
+    ghost hears_refusal = { λ _. false };
+
     fn send(&mut self, to: Endpoint, bytes: &[u8]) {
         if self.failing == Failing::EachSend {
             self.link.fail_send(1);
@@ -182,5 +184,9 @@ impl<'a> Link for JoinedLink<'a> {
 
     fn address(&self) -> Endpoint {
         self.link.address()
+    }
+
+    fn is_refused(&self) -> bool {
+        false
     }
 }

@@ -1,12 +1,13 @@
+//! Tests of what is said while one waits for long.
 use crate::clock::Clock;
 use crate::rows::words_of;
+use coap_arguments::{Order, order};
 use coap_commands::{
-    PatientLink, SharedWriter, ask_over, body_of, close, observe_over, patience_on, request_of,
+    Connection, PatientLink, SharedWriter, Terms, ask_over, body_of, close, observe_over,
+    patience_on, request_of,
 };
-use coap_layer::Setup;
 use coap_links::MemoryLink;
 use coap_types::Endpoint;
-use coap_words::{Order, order};
 use std::alloc::{AllocError, Global};
 use std::cell::RefCell;
 use std::hash::{BuildHasherDefault, FoldHasher};
@@ -72,18 +73,16 @@ fn ask_patiently<R: AllocGlobal + Files>(
     let mut link = PatientLink::new(link, patience);
     let mut time = Clock { now: 0 };
     let mut writer = SharedWriter(said);
+    let mut connection = Connection::new(&mut link, &mut time, &mut writer);
+    let terms = Terms::of(&options, 0);
     let ended = ask_over(
         alloc,
-        &mut link,
+        &mut connection,
         FAR,
-        &mut time,
         BuildHasherDefault::<FoldHasher>::new(),
         request,
-        options.give_up,
-        Setup::new(0),
-        options.size,
-        options.limit,
-        (told, &mut writer),
+        &terms,
+        told,
     );
     Ok(close(ended, &mut writer).number())
 }
@@ -111,16 +110,16 @@ fn observe_patiently(
     let mut link = PatientLink::new(link, patience);
     let mut time = Clock { now: 0 };
     let mut writer = SharedWriter(said);
+    let mut connection = Connection::new(&mut link, &mut time, &mut writer);
     let ended = observe_over(
         alloc,
-        &mut link,
+        &mut connection,
         FAR,
-        &mut time,
         BuildHasherDefault::<FoldHasher>::new(),
         &path,
         &options,
         0,
-        (told, &mut writer),
+        told,
     );
     Ok(close(ended, &mut writer).number())
 }

@@ -1,6 +1,8 @@
+//! Tests of `pair`.
 use crate::clock::Clock;
 use crate::joined_link::{Failing, JoinedLink, Road, Way};
 use crate::rows::repeated;
+use coap_arguments::path_of_text;
 use coap_commands::{
     Stop, call, close, fresh_client, fresh_server, get_request, hold, largest_szx, pair_over,
     put_request,
@@ -10,7 +12,6 @@ use coap_layer::Setup;
 use coap_links::{Link, fresh_tally, get_turn, serve_turn};
 use coap_resource::MapStore;
 use coap_types::{BodyLimit, Code, Endpoint, Moment, Path, Remembered, Request};
-use coap_words::path_of_text;
 use std::alloc::{AllocError, Global};
 use std::cell::RefCell;
 use std::collections::VecDeque;

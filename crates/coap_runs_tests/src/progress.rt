@@ -1,11 +1,12 @@
+//! Tests of how far a body in blocks is said to be.
 use crate::joined_link::{Failing, JoinedLink, Road, Way as RoadWay};
 use crate::rows::repeated;
+use coap_arguments::path_of_text;
 use coap_commands::{
     BesideScreen, Screen, Timekeeper, close, erase, pair_over, progress_of, progress_on,
 };
 use coap_links::{Teller, Trace, Way};
 use coap_types::{Block, BodyLimit, Endpoint, Moment, Remembered, Szx};
-use coap_words::path_of_text;
 use std::alloc::{AllocError, Global};
 use std::cell::RefCell;
 use std::collections::VecDeque;
@@ -164,8 +165,8 @@ fn bodies_in_blocks_that_are_shown(rt: HostRuntime) -> Result<(), Fail> {
     Ok(())
 }
 
-// Block2 0/1/16 and Size2 40; Block2 1/1/16; Block2 0/0/16; Block1 0/1/16 of a request; Block2 of the reserved size; and
-// what spells no message.
+// Block2 0/1/16 and Size2 40; Block2 1/1/16; Block2 0/0/16; Block1 0/1/16 of a request; Block2 of the reserved size;
+// and what spells no message.
 const FIRST: &[u8] = b"\x60\x45\0\0\xd1\x0a\x08\x51\x28\xffa";
 
 const SECOND: &[u8] = b"\x60\x45\0\x01\xd1\x0a\x18\xffa";

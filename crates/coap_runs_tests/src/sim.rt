@@ -15,9 +15,9 @@ mod strangers;
 mod uploads;
 
 use crate::rows::words_of;
+use coap_arguments::{StoreKind, path_of_text};
 use coap_commands::{close, command, sim_to, sim_with};
 use coap_types::{Path, Remembered};
-use coap_words::{StoreKind, path_of_text};
 use std::alloc::{AllocError, Global};
 use std::io::{ErrorKind, Read};
 use std::process::Abort;

@@ -1,7 +1,5 @@
 pub mod DelayLists
-pub mod EachOf
 pub mod FeedIsACall
-pub mod NotifiesBy
 pub mod PassedOver
 pub mod RequestIsHandled
 pub mod RequestIsServed

@@ -1,3 +1,8 @@
 pub mod EachCall
-pub mod Laws
-pub mod Sources
+pub mod Holds
+pub mod Calls
+pub mod Exact
+pub mod Holding
+pub mod Observing
+pub mod Rest
+pub mod Serving

@@ -1,12 +1,4 @@
 pub mod Facts
-pub mod Answering
 pub mod Calls
-pub mod Exact
 pub mod Holding
-pub mod Observing
-pub mod Progress
-pub mod Replying
 pub mod Rest
-pub mod Serving
-pub mod Telling
-pub mod Witness

@@ -1,4 +1,1 @@
-pub mod Ending
-pub mod LayerAsked
 pub mod MarksFall
-pub mod Resting

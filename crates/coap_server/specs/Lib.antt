@@ -14,6 +14,6 @@ pub mod Steps
 pub mod Law
 pub mod Led
 pub mod Follows
-pub mod Examples
 pub mod Object
 pub mod Turns
+pub mod RefusalNumbers

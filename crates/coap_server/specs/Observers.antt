@@ -13,7 +13,7 @@ use Rattle.coap_resource.specs.Serves.{Question, Reply}
 use Rattle.coap_exchange.specs.declared.answerer.Asked.{Asked}
 use Rattle.coap_exchange.specs.declared.answerer.Ended.{Ended}
 use Rattle.coap_exchange.specs.AnswererTrace.{Sending}
-use Rattle.coap_common.specs.SuccessCodes.{content}
+use Rattle.coap_exchange.specs.SuccessCodes.{content}
 use Rattle.coap_types.specs.declared.option_number.TheConstants.{OBSERVE as observe}
 use Rattle.coap_observe.specs.declared.observers.TheConstants.{MAX_OBSERVERS as max_observers}
 

@@ -1,5 +1,5 @@
--- Which notifications go in a NON (RFC 7641, sections 4.3 and 4.5; that a path is plain, and how old its state may be, is
--- a profile).
+-- Which notifications go in a NON (RFC 7641, sections 4.3 and 4.5; that a path is plain, and how old its state may be,
+-- is a profile).
 use Rattle.std.specs.Prelude.{ℕ, ◌-◌, nat_le, nat_lt, Bool, true, false, not, ◌&&◌, ◌||◌, Option, Some, None, List, []}
 use Rattle.std.specs.Prelude.{◌∷◌, ◌++◌, length, if◌then◌else◌}
 use Rattle.std.specs.List.{list_any}

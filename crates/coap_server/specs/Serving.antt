@@ -6,7 +6,7 @@ use Rattle.coap_resource.specs.Serves.{Question, Reply}
 use Rattle.coap_resource.specs.Serves as R
 use Rattle.coap_exchange.specs.declared.answerer.Asked.{Asked}
 use Rattle.coap_exchange.specs.AnswererTrace as E
-use Rattle.coap_common.specs.SuccessCodes.{created, deleted, changed}
+use Rattle.coap_exchange.specs.SuccessCodes.{created, deleted, changed}
 use Rattle.coap_server.specs.Trace.{Applied, Handling, Serves}
 use Rattle.coap_server.specs.Responses.{response_with}
 use Rattle.coap_server.specs.Uploads.{last_block}

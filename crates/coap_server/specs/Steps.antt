@@ -110,9 +110,19 @@ due_after s d h id asks =
 
 abbrev pub after : Own → Call → Own
 after s (Sets now path format body answer left) =
-    record s { clock = max s.clock now; store = left; observers = marked_if (max s.clock now) path s.store left s.observers }
+    record s {
+      clock = max s.clock now;
+      store = left;
+      observers = marked_if (max s.clock now) path s.store left
+          s.observers;
+    }
 after s (Removes now path answer left) =
-    record s { clock = max s.clock now; store = left; observers = marked_if (max s.clock now) path s.store left s.observers }
+    record s {
+      clock = max s.clock now;
+      store = left;
+      observers = marked_if (max s.clock now) path s.store left
+          s.observers;
+    }
 after s (Delays path ms answer) = record s { delays = delays_with path ms answer s.delays }
 after s (Plains path answer) = record s { plains = plains_with path answer s.plains }
 after s (Feeds now from bytes word up came h below) =

@@ -13,7 +13,7 @@ use Rattle.coap_types.specs.declared.option_number.TheConstants.{BLOCK1 as block
 use Rattle.coap_types.specs.OptionValues.{uint_at, uint_option}
 use Rattle.coap_resource.specs.RequestOptions.{block_said}
 use Rattle.coap_types.specs.OptionValues.{uint_option}
-pub use Rattle.coap_common.specs.SuccessCodes.{continue}
+pub use Rattle.coap_exchange.specs.SuccessCodes.{continue}
 use Rattle.coap_server.specs.Checks.{Verdict, Uploads}
 
 -- an upload is that of an endpoint, to a path, by a method

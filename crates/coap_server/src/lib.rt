@@ -1,10 +1,8 @@
-//! The server of CoAP (RFC 7252, section 5), and its law.
+//! The server of CoAP (RFC 7252, section 5), and the law that it keeps.
 #![tactic(auto)]
 
-mod laws;
 mod limits;
 mod server;
 
-pub use laws::{server_law, server_must_law, server_runs};
 pub use limits::{CON_NOTIFICATION_MS, MAX_DELAYS, MAX_PLAIN_AGE_MS, MAX_PLAINS};
 pub use server::{Applied, Delay, DelayRefusal, PlainRefusal, Server, give_delay, give_plain};

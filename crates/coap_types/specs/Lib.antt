@@ -18,3 +18,4 @@ pub mod Piece
 pub mod Past
 pub mod SameEndpoint
 pub mod FirstMoment
+pub mod RefusalNumbers

@@ -1,3 +1,4 @@
+//! The value of a Block option (RFC 7959, section 2.2).
 ghost use Rattle.std.specs.Prelude.{◌≡◌, ◌≤◌, ◌↔◌, IsSome, IfSome, length};
 ghost use Rattle.coap_types.specs.Uint.{IsSpelling, number_of, uint};
 ghost use Rattle.coap_types.specs.BlockValue.{block_by, block_in, block_value, szx_field, BlockIsSaid, BlockReadsBack};

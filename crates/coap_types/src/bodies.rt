@@ -1,3 +1,4 @@
+//! Bodies that are joined.
 ghost use Rattle.std.specs.Prelude.{◌≡◌, ◌++◌, IfOk};
 
 use bytes::Bytes;

@@ -1,3 +1,4 @@
+//! The greatest length of a body at an end.
 ghost use Rattle.std.specs.Prelude.{◌≡◌, ◌≤◌};
 ghost use Rattle.std.specs.Option.{SomeIff};
 

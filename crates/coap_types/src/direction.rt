@@ -1,3 +1,4 @@
+//! Which way a message goes.
 ghost use Rattle.std.specs.Prelude.{◌≡◌};
 ghost use Rattle.coap_types.specs.Recognised.{occurrence};
 

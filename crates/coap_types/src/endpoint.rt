@@ -1,3 +1,4 @@
+//! Moments and endpoints.
 ghost use Rattle.std.specs.Prelude.{◌≡◌, ◌-◌, max};
 
 /// A moment, in milliseconds since one that the caller chose.

@@ -1,3 +1,4 @@
+//! Types, codes and Message IDs (RFC 7252, section 3).
 ghost use Rattle.std.specs.Prelude.{◌≡◌, ◌/◌, ◌%◌, ◌<◌, Some};
 ghost use Rattle.coap_types.specs.Text.{code_text, kind_text};
 

@@ -1,3 +1,5 @@
+//! What is recognised of an option: its lengths, its directions and how often it occurs.
+
 /// How often an option is recognised in one message (RFC 7252, sections 5.4.1 and 5.4.5).
 #[derive(Clone, Copy, Debug, PartialEq, Eq)]
 pub enum Occurrence {

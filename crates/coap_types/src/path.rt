@@ -1,3 +1,4 @@
+//! The path of a resource (RFC 7252, section 5.10.1).
 ghost use Rattle.std.specs.Prelude.{◌≡◌, ◌<◌, ◌≤◌, ◌∷◌, ◌++◌, ◌⊎◌, [], length, IsTrue, IfOk, IfErr, OnOk, OnErr, All};
 ghost use Rattle.std.specs.Prelude.{◌↔◌, Some, None, refl};
 ghost use Rattle.coap_types.specs.Bytes.{AreBytes};
@@ -8,6 +9,7 @@ ghost use Rattle.coap_types.specs.PathOrder.{path_hash_respects_eq, path_order_t
 ghost use Rattle.coap_types.specs.PathOrder.{path_partial_order, same_path_equiv};
 ghost use Rattle.std.specs.Cmp.{partial_equiv_from_equiv};
 ghost use Rattle.std.specs.Hash as fed;
+ghost use Rattle.coap_types.specs.RefusalNumbers.{path_refusal_number};
 
 use crate::option_number::URI_PATH;
 use crate::options::Opt;
@@ -37,6 +39,20 @@ pub enum PathRefusal {
     /// An allocation was refused.
     #[error("no memory")]
     Memory,
+}
+
+impl PathRefusal {
+    /// The number of the refusal, 1 to 3, in the order of the variants.
+    pub fn number(self) -> u8
+        // The number of a path's refusal is its place among the three.
+        ensures { result ≡ path_refusal_number self }
+    {
+        match self {
+            PathRefusal::SegmentTooLong => 1,
+            PathRefusal::TooManySegments => 2,
+            PathRefusal::Memory => 3,
+        }
+    }
 }
 
 /// The path of a resource: its segments in order, each any bytes, one Uri-Path option each

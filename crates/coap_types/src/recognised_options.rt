@@ -1,3 +1,4 @@
+//! Which options of a message are recognised, and whether a critical one is not (RFC 7252, section 5.4.1).
 ghost use Rattle.std.specs.Prelude.{◌≡◌, ◌<◌, ◌++◌, ◌||◌, ◌&&◌, ◌%◌, ◌==◌, not, [], ◌∷◌, List, IfOk, Some, is_some};
 ghost use Rattle.std.specs.Prelude.{option_copied, if◌then◌else◌};
 ghost use Rattle.std.specs.Iterator.{Drains, IsFinite};

@@ -1,3 +1,4 @@
+//! The table of options (RFC 7252, section 5.10; RFC 7641, section 2; RFC 7959, section 2.1).
 ghost use Rattle.std.specs.Prelude.{◌≡◌};
 ghost use Rattle.coap_types.specs.OptionTable.{option_rule, rule_of};
 

@@ -1,3 +1,4 @@
+//! How many messages an end remembers.
 ghost use Rattle.std.specs.Prelude.{◌≡◌, ◌≤◌};
 ghost use Rattle.std.specs.Option.{SomeIff};
 

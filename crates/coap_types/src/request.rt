@@ -1,3 +1,4 @@
+//! Methods and requests (RFC 7252, section 5.8).
 ghost use Rattle.std.specs.Prelude.{◌≡◌, ◌<◌, ◌^◌, IfSome};
 ghost use Rattle.coap_types.specs.Bytes.{AreBytes};
 ghost use Rattle.coap_types.specs.MethodCode.{method_code, method_of};

@@ -1,3 +1,4 @@
+//! What a code makes of its message (RFC 7252, section 12.1).
 ghost use Rattle.std.specs.Prelude.{◌≡◌};
 ghost use Rattle.coap_types.specs.Roles.{role_of};
 

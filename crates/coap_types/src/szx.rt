@@ -1,3 +1,4 @@
+//! Block sizes and their exponents (RFC 7959, section 2.2).
 ghost use Rattle.std.specs.Prelude.{◌≡◌, ◌+◌, ◌^◌, ◌≤◌};
 ghost use Rattle.std.specs.Option.{SomeIff};
 

@@ -1,3 +1,4 @@
+//! Entity-tags (RFC 7252, section 5.10.6).
 ghost use Rattle.std.specs.Prelude.{◌≡◌, ◌<◌, ◌≤◌, ◌∷◌, ◌++◌, [], length, nat_eq, All, IsTrue, IfErr, OnErr, OnOk, ◌↔◌};
 ghost use Rattle.std.specs.Prelude.{⊤};
 ghost use Rattle.coap_types.specs.EntityTag.{IsTag};

@@ -1,3 +1,4 @@
+//! Tokens (RFC 7252, section 5.3.1).
 ghost use Rattle.std.specs.Prelude.{◌≡◌, ◌≤◌, [], length, nat_eq, IsTrue, ◌↔◌, Some, refl, ⊤};
 ghost use Rattle.std.specs.Option.{SomeIff};
 ghost use Rattle.std.specs.Cmp.{partial_equiv_from_equiv};

@@ -1,3 +1,4 @@
+//! Options that are whole numbers (RFC 7252, section 3.2).
 ghost use Rattle.std.specs.Prelude.{◌≡◌, ◌≤◌, ◌<◌, ◌^◌, ◌∷◌, List, ℕ, Some, length};
 ghost use Rattle.coap_types.specs.Bytes.{AreBytes};
 ghost use Rattle.coap_types.specs.Uint.{IsSpelling, LeadsWithNoZero, number_of, uint, uint_value};

@@ -1,14 +1,2 @@
-pub mod Delivery
-pub mod Paced
-pub mod Requests
-pub mod Reports
-pub mod Witness
-pub mod Progress
-pub mod Observations
-pub mod Uploads
+pub mod Kept
 pub mod Recording
-pub mod Smoothly
-pub mod Reported
-pub mod Watching
-pub mod Any
-pub mod Age

@@ -1,15 +1,1 @@
-pub mod Acting
-pub mod Asking
-pub mod Applying
-pub mod Serving
-pub mod Finishing
-pub mod Turning
-pub mod EachTurn
-pub mod Numbers
-pub mod Standing
-pub mod Runs
-pub mod Copying
-pub mod Beginning
-pub mod Delaying
-pub mod PlainPaths
 pub mod Naming

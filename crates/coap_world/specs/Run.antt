@@ -1,13 +1,2 @@
 -- The run of a list of events, and what it tells.
-pub mod Senders
-pub mod Ends
-pub mod Configs
-pub mod Acts
-pub mod Inputs
-pub mod Log
-pub mod Telling
-pub mod Lines
-pub mod Happening
-pub mod Turning
 pub mod Named
-pub mod Runs

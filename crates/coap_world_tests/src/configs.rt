@@ -1,9 +1,9 @@
 //! With what a run begins.
 use crate::script::config_of;
 use coap_ends::{DelayRefusal, PlainRefusal};
+use coap_run::{Event, WorldConfig, run};
 use coap_types::{MAX_SZX, Path, PathRefusal, Szx};
-use coap_world::{Event, WorldConfig, run};
-use failing::Failing;
+use failing_allocator::Failing;
 use std::alloc::Allocator;
 use std::test::Fail;
 

@@ -1,4 +1,4 @@
-//! Runs of a client and a server, by the public calls of `coap_world`.
+//! Runs of a client and a server, by the public calls of `coap_run`.
 #![tactic(auto)]
 
 #[cfg(test)]

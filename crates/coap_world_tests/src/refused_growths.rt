@@ -3,7 +3,7 @@
 use crate::script::{config_of, events_of, find, run_text, told, wanted};
 use crate::{calls, observations, uploads};
 use coap_resource::{ListStore, MapStore};
-use failing::Failing;
+use failing_allocator::Failing;
 use std::alloc::{Allocator, Global};
 use std::test::Fail;
 

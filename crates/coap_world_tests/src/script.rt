@@ -37,7 +37,7 @@ mod telling;
 mod words;
 
 use coap_resource::Store;
-use coap_world::run_with;
+use coap_run::run_with;
 pub(crate) use events::{config_of, events_of};
 use std::alloc::{Allocator, Global};
 use std::test::Fail;

@@ -2,7 +2,7 @@
 use crate::script::{config_of, events_of, run_text, told, wanted};
 use crate::{blocks, calls, legality, observations, smooth, uploads};
 use coap_resource::{ListStore, MapStore};
-use coap_world::run;
+use coap_run::run;
 use std::alloc::Global;
 use std::process::Abort;
 use std::test::Fail;

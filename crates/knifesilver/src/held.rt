@@ -1,3 +1,4 @@
+//! What a handle holds.
 use crate::seed::SeededHash;
 use coap_ends::{CallId, Client, Report, Server};
 use coap_resource::MapStore;

@@ -1,3 +1,4 @@
+//! A value that was handed to C.
 ghost use Rattle.std.specs.Prelude.{◌≡◌};
 
 use std::alloc::Allocator;

@@ -29,7 +29,14 @@ short_by parts s b tag payload g fit big =
     let at = begins_at s.asked s.tag tag parts b.num b.szx g.awaits
     (and_left (fits s.asked b.num b.szx) (is_sized b.more b.num b.szx (length payload)) fit) in
     let is = ap length g.bytes in
-    omega (arith, at, is, not_over s.limit (offset_of b.num b.szx + length payload) big, length-append s.gathered payload)
+    omega (
+      arith,
+      at,
+      is,
+      not_over s.limit (offset_of b.num b.szx + length payload) big,
+      length-append s.gathered
+          payload,
+    )
 
 alone_short : (there : Bool) (limit n : ℕ) → (if there then Refuse BadBlock else if nat_lt limit n then
     Refuse TooLarge else Done) ≡ Done → n ≤ limit

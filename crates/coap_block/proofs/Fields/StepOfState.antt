@@ -18,7 +18,8 @@ there_is : (sizes : Sizes) (clock now : ℕ) (ps : List PartialBody)
     → there_at (state_of sizes clock ps) now ≡ forgotten (max clock now) ps
 there_is sizes clock now ps = forgotten_twice clock (max clock now) (omega arith) ps
 
-pub verdict_is : (sizes : Sizes) (clock now t : ℕ) (ps : List PartialBody) (key : Key) (b : Block) (len : ℕ) (v : BlockVerdict)
+pub verdict_is : (sizes : Sizes) (clock now t : ℕ) (ps : List PartialBody) (key : Key) (b : Block) (len : ℕ)
+    (v : BlockVerdict)
     → t ≡ max clock now
     → v ≡ ruling sizes (reached key (forgotten t ps)) (length (without_key key (forgotten t ps))) b len
     → v ≡ verdict_at (state_of sizes clock ps) now key b len
@@ -29,7 +30,8 @@ verdict_is sizes clock now t ps key b len v at is =
 
 pub takes_block : {A : Type 0} (sizes : Sizes) (clock now t : ℕ) (old new : List PartialBody) (key : Key) (b : Block)
     (payload : List ℕ) (v : BlockVerdict) (answer : Took A)
-    → t ≡ max clock now → v ≡ ruling sizes (reached key (forgotten t old)) (length (without_key key (forgotten t old))) b
+    → t ≡ max clock now → v ≡ ruling sizes (reached key (forgotten t old)) (length (without_key key (forgotten t old)))
+    b
     (length payload)
     → answer ≡ took (joined_before key b.num (forgotten t old) ++ payload) b.num v
     → forgotten t new ≡ partials_by v (begun key (joined_before key b.num (forgotten t old) ++ payload) t)

@@ -53,7 +53,8 @@ not_over : (limit n : ℕ) → nat_lt limit n ≡ false → n ≤ limit
 not_over limit n h = grind (arith, nat_tests)
 
 -- what the key had before, and what it has with the block
-joined_by : (limit : ℕ) (z : Bool) (parts : List Part) (o : Option PartialBody) (b : Block) (payload : List ℕ) (key : Key) (t : ℕ)
+joined_by : (limit : ℕ) (z : Bool) (parts : List Part) (o : Option PartialBody) (b : Block) (payload : List ℕ)
+    (key : Key) (t : ℕ)
     → (b.num == 0) ≡ z
     → (z || ends_at (reached_of o) (offset_of b.num b.szx)) ≡ true
     → ((q : PartialBody) → o ≡ Some q → JoinedFrom limit parts q)
@@ -67,7 +68,8 @@ joined_by limit false parts (Some q) b payload key t is at before more full shor
     (same_number (length q.bytes) (offset_of b.num b.szx) at) more full short
 joined_by limit false parts None b payload key t is at before more full short = absurd cc
 
-whole_by : (limit : ℕ) (z : Bool) (parts : List Part) (o : Option PartialBody) (b : Block) (payload : List ℕ) → (b.num == 0) ≡ z
+whole_by : (limit : ℕ) (z : Bool) (parts : List Part) (o : Option PartialBody) (b : Block) (payload : List ℕ)
+    → (b.num == 0) ≡ z
     → (z || ends_at (reached_of o) (offset_of b.num b.szx)) ≡ true
     → ((q : PartialBody) → o ≡ Some q → JoinedFrom limit parts q)
     → b.more ≡ false → length payload ≤ size_of b.szx → offset_of b.num b.szx + length payload ≤ limit
@@ -169,9 +171,11 @@ module _ (parts : Key → List Part) (s : AssemblyState) (now : ℕ) (key : Key)
       let there = put_there (new_of s now key b payload) (there_at s now) in
       let same : new_of s now key b payload ≡ p = cc in
       subst (λ (x : PartialBody). JoinedFrom s.limit (behind (parts key) b payload) x) same
-      (joined_by s.limit (b.num == 0) (parts key) (partial_of key (there_at s now)) b payload key (moment_at s now) refl says.1
+      (joined_by s.limit (b.num == 0) (parts key) (partial_of key (there_at s now)) b payload key (moment_at s now) refl
+      says.1
       (still_joined parts s now key h) says.4
-      (full_len b.more b.szx (length payload) says.4 says.0) (not_over s.limit (offset_of b.num b.szx + length payload) says.2))
+      (full_len b.more b.szx (length payload) says.4 says.0) (not_over s.limit (offset_of b.num b.szx + length payload)
+      says.2))
   joined_after Done e p f =
       let none = out_none key (there_at s now) (distinct_there (moment_at s now) s.partials h.distinct) in absurd cc
   joined_after _ e p f = still_joined parts s now key h p f
@@ -186,7 +190,8 @@ module _ (parts : Key → List Part) (s : AssemblyState) (now : ℕ) (key : Key)
       (answered_szx s.szx b) e in
       whole_by s.limit (b.num == 0) (parts key) (partial_of key (there_at s now)) b payload refl says.1
       (still_joined parts s now key h) says.3
-      (last_len b.more b.szx (length payload) says.3 says.0) (not_over s.limit (offset_of b.num b.szx + length payload) says.2)
+      (last_len b.more b.szx (length payload) says.3 says.0) (not_over s.limit (offset_of b.num b.szx + length payload)
+      says.2)
 
   joined_of : (c : Bool) (other : Key) → same_key key other ≡ c → (p : PartialBody)
       → partial_of other (after_block s now key b payload).partials ≡ Some p

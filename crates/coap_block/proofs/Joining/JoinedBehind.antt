@@ -42,7 +42,8 @@ join_next limit parts p b payload key t j at more full short =
       short = omega (arith, short, at, length-append p.bytes payload);
     }
 
-pub whole_first : (limit : ℕ) (b : Block) (payload : List ℕ) → b.num ≡ 0 → b.more ≡ false → length payload ≤ size_of b.szx
+pub whole_first : (limit : ℕ) (b : Block) (payload : List ℕ) → b.num ≡ 0 → b.more ≡ false
+    → length payload ≤ size_of b.szx
     → offset_of b.num b.szx + length payload ≤ limit → IsWholeBody limit (part b None payload ∷ []) ([] ++ payload)
 whole_first limit b payload zero_num last fits short = record {
   whole = inl (record {
@@ -109,7 +110,8 @@ whole_of parts l body is some full before chained at last fits (x ∷ xs) there 
       ends = ends_behind parts l last;
     }))
 
-pub whole_next : (limit : ℕ) (parts : List Part) (p : PartialBody) (b : Block) (payload : List ℕ) → JoinedFrom limit parts p
+pub whole_next : (limit : ℕ) (parts : List Part) (p : PartialBody) (b : Block) (payload : List ℕ)
+    → JoinedFrom limit parts p
     → length p.bytes ≡ offset_of b.num b.szx → b.more ≡ false → length payload ≤ size_of b.szx
     → offset_of b.num b.szx + length payload ≤ limit
     → IsWholeBody limit (parts ++ part b None payload ∷ []) (p.bytes ++ payload)

@@ -1,3 +1,4 @@
+//! Tests of `Assembly`.
 mod turns;
 
 use super::body_of;
@@ -102,7 +103,12 @@ fn a_body_over_the_bound_is_dropped(rt: HostRuntime) -> Result<(), AllocError> {
         (0, &[0x04, 0x06], (0, 0), INCOMPLETE),
         (0, &[0x16], (0, 0), INCOMPLETE),
     ];
-    let more: [Row<'_>; 1] = [(0, &[0x04, 0x0e], (0, 1_024), TOO_LARGE)];
+    let more: [Row<'_>; 3] = [
+        // Block 64 with M 1: the partial body is gone as well.
+        (0, &[0x04, 0x0e], (0, 1_024), TOO_LARGE),
+        (0, &[0x04, 0x0e], (0, 1_024), INCOMPLETE),
+        (0, &[0x04, 0x06], (0, 0), INCOMPLETE),
+    ];
     let turns = [
         Turn::Full(FIRST),
         Turn::Blocks(FIRST, &rows),

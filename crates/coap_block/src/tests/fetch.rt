@@ -1,3 +1,4 @@
+//! Tests of `Fetch`.
 ghost use Rattle.std.specs.Prelude.{IsSome, OnOk};
 
 use super::{body_of, part};

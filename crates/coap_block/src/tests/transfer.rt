@@ -1,3 +1,4 @@
+//! Tests of whole transfers, from one end to the other.
 use super::body_of;
 use crate::{Assembly, Block, Fetch, Step, Took, Upload, UploadKey, slice};
 use bytes::Bytes;

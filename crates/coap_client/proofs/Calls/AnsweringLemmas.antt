@@ -10,7 +10,7 @@ use Rattle.coap_client.specs.Events.{answered}
 use Rattle.coap_client.specs.Observing.{is_over}
 use Rattle.coap_client.specs.Steps.{reporting}
 use Rattle.coap_client.specs.Object.Happens.{Happens, IsDone, left}
-use Rattle.coap_client.proofs.Calls.Happening.{deed_happens, over_quiet, rests_happens}
+use Rattle.coap_client.proofs.Facts.Calls.Happening.{deed_happens, over_quiet, rests_happens}
 
 module _ (x : X.State) (s : Own) (at word : ℕ) (m : Message) where
   pub answered_none : (own : Own) → s.running ≡ None → own ≡ record s { running = None }

@@ -29,7 +29,8 @@ use Rattle.coap_client.specs.Deeds.{at, close, deeds}
 use Rattle.coap_client.specs.Led.{Led, State, Step}
 use Rattle.coap_client.specs.Object.Starts.{idle_now, may_start, starts_now}
 use Rattle.coap_client.specs.Turns.Due.{TicksDo, begins, has_work, latest}
-use Rattle.coap_client.proofs.Calls.PassingLemmas.{idle_fetches, idle_starts, idle_stays, starts_ask, starts_rests}
+use Rattle.coap_client.proofs.Facts.Calls.PassingLemmas.{idle_fetches, idle_starts, idle_stays, starts_ask}
+use Rattle.coap_client.proofs.Facts.Calls.PassingLemmas.{starts_rests}
 
 or_left : (b c : Bool) → (b || c) ≡ false → b ≡ false
 or_left false c h = refl
@@ -121,7 +122,8 @@ begins_on s now later le h = go s.running (to_fetch s.observations) refl refl h
             → not (b && elim o [ None ↦ false | Some last ↦ nat_le later (last + max_latency) ]) ≡ true
         held_on false o k = refl
         held_on true None k = refl
-        held_on true (Some last) k = go (nat_le now (last + max_latency)) (nat_le later (last + max_latency)) refl refl k
+        held_on true (Some last) k = go (nat_le now (last + max_latency)) (nat_le later (last + max_latency)) refl refl
+            k
           where
             go : (b c : Bool) → nat_le now (last + max_latency) ≡ b → nat_le later (last + max_latency) ≡ c
                 → not b ≡ true → not c ≡ true
@@ -146,7 +148,8 @@ begins_on s now later le h = go s.running (to_fetch s.observations) refl refl h
         ∙ (begins_is s later ∙ start_on s.queue was)
 
 -- the exchanges of a client were led
-module _ (server : Endpoint) (sizes : Sizes) (setup : Setup) (t : List Call) (s : State) (led : Led server sizes setup t s) where
+module _ (server : Endpoint) (sizes : Sizes) (setup : Setup) (t : List Call) (s : State)
+    (led : Led server sizes setup t s) where
   abbrev asked : List E.Call
   asked = asked_by (start sizes) after lower t ++ []
 

@@ -16,7 +16,7 @@ use Rattle.coap_client.specs.Trace.{Reported, Requested}
 use Rattle.coap_client.specs.Own.{Fetching, Notified, Observation, Own}
 use Rattle.coap_client.specs.Observations.{observation_of, observed_path, rest_of, token_of, with_rest}
 use Rattle.coap_client.specs.Requests.{block2_option, get, message_of, path_options}
-use Rattle.coap_client.specs.Follows.Places.{in_observations}
+use Rattle.coap_client.specs.Places.{in_observations}
 use Rattle.coap_client.specs.Effects.{Rests, runs, ends, of}
 use Rattle.coap_client.specs.Fetching.{fetch_answered, fetch_by, fetch_over, rest, value}
 use Rattle.coap_client.specs.Steps.{reporting}
@@ -30,7 +30,7 @@ use Rattle.coap_client.specs.Object.Shown.{shown_report}
 use Rattle.coap_client.specs.Object.AnswerSteps.{CanTakeBack, rest_by, value_by, verdict_on}
 use Rattle.coap_client.specs.Object.Happens.{Closes, Happens, left, resting}
 use Rattle.coap_client.proofs.Calls.HeldLemmas.{fetch_message, rest_in, none_set, set_found, set_twice}
-use Rattle.coap_client.proofs.Calls.Happening.{rests_happens}
+use Rattle.coap_client.proofs.Facts.Calls.Happening.{rests_happens}
 
 pub fetch_request : (number : ℕ) (n : Notified) (os : List Observation) (p : List (List ℕ)) (b : Option (List ℕ))
     → is_some (observation_of number os) ≡ true → p ≡ observed_path number os

@@ -9,7 +9,7 @@ use Rattle.coap_client.specs.Own.{Operation, Fetching, Dropped, Notified, Observ
 use Rattle.coap_client.specs.Observations.{dropped, is_cancel_of, observation_of, observed_path, over, with_rest}
 use Rattle.coap_client.specs.Observing.{releases}
 use Rattle.coap_client.specs.Requests.{block2_option, get, message_of, path_options}
-use Rattle.coap_client.specs.Follows.Places.{hit, in_observations}
+use Rattle.coap_client.specs.Places.{hit, in_observations}
 use Rattle.coap_operations.specs.Listed.{Listed, is_cancel, without_fetch}
 use Rattle.coap_operations.specs.declared.running.Running.{Running}
 use Rattle.coap_operations.specs.declared.running.Running.TheVariants as running_of

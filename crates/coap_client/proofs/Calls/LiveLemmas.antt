@@ -8,7 +8,7 @@ use Rattle.coap_exchange.specs.Tokens.{same_token}
 use Rattle.std.specs.Option.{option_map}
 use Rattle.coap_client.specs.Own.{Observation}
 use Rattle.coap_client.specs.Observations.{observation_of, observation_with, to_fetch}
-use Rattle.coap_client.specs.Follows.Places.{in_observations}
+use Rattle.coap_client.specs.Places.{in_observations}
 use Rattle.coap_client.specs.Object.CallAnswers.{place_in}
 
 module _ {X : Type 0} where

@@ -11,14 +11,14 @@ use Rattle.coap_client.specs.Trace.{Reported, Ended}
 use Rattle.coap_client.specs.Own.{Operation, Notified, Observation, Own}
 use Rattle.coap_client.specs.Observations.{dropped, observation_with, with_rest}
 use Rattle.coap_client.specs.Observing.{first_rest, first_value, is_over, noticed, noticed_by, passed, renewed}
-use Rattle.coap_client.specs.Follows.Places.{hit, in_observations}
+use Rattle.coap_client.specs.Places.{hit, in_observations}
 use Rattle.coap_client.specs.Responses.{is_notification, sequence_in}
 use Rattle.coap_client.specs.Effects.{Rests, stays}
 use Rattle.coap_client.specs.Steps.{reporting}
-use Rattle.coap_client.proofs.Places.PlaceLemmas.{hit_self, number_self}
+use Rattle.coap_client.proofs.Facts.Places.PlaceLemmas.{hit_self, number_self}
 use Rattle.coap_client.specs.Object.Happens.{AreFresh, Happens, IsDone, left, renewing, watching as watching_own}
-use Rattle.coap_client.proofs.Calls.Happening.{a_notification, deed_happens, no_notification, on_ok, over_quiet}
-use Rattle.coap_client.proofs.Calls.Happening.{rests_happens}
+use Rattle.coap_client.proofs.Facts.Calls.Happening.{a_notification, deed_happens, no_notification, on_ok, over_quiet}
+use Rattle.coap_client.proofs.Facts.Calls.Happening.{rests_happens}
 
 abbrev setting : ℕ → (Observation → Observation) → List Observation → List Observation
 setting number f os = map (λ (p : Observation). cond (p.number == number) (f p) p) os

@@ -11,8 +11,8 @@ use Rattle.coap_client.specs.Own.{Own}
 use Rattle.coap_client.specs.Law.{lower_of}
 use Rattle.coap_client.specs.Led.{State, Step}
 use Rattle.coap_client.specs.Object.Happens.{WasLed}
-use Rattle.coap_common.proofs.Facts.FirstOut.{OnlyLive, behind, layer_empty, layer_none, layer_some, none_wait}
-use Rattle.coap_common.proofs.Facts.FirstOut.{only_live}
+use Rattle.coap_exchange.proofs.Facts.FirstOut.{OnlyLive, behind, layer_empty, layer_none, layer_some, none_wait}
+use Rattle.coap_exchange.proofs.Facts.FirstOut.{only_live}
 
 -- datagrams
 

@@ -32,12 +32,12 @@ use Rattle.coap_client.specs.Reports.{lapse}
 use Rattle.coap_client.specs.Responses.{is_notification, sequence_in}
 use Rattle.coap_client.specs.Deeds.{at}
 use Rattle.coap_client.specs.Law.{own_of}
-use Rattle.coap_client.specs.Follows.Places.{places}
+use Rattle.coap_client.specs.Places.{places}
 use Rattle.coap_client.specs.Led.{State, Step, Led}
-use Rattle.coap_client.proofs.Turning.Leading.{led_client, client_stands}
-use Rattle.coap_client.proofs.Places.Once.{known}
+use Rattle.coap_client.proofs.Facts.Turning.Leading.{led_client, client_stands}
+use Rattle.coap_client.proofs.Facts.Places.Once.{known}
 use Rattle.coap_client.specs.Object.Happens.{Apart, AreFresh, WasLed, Watched, left}
-use Rattle.coap_client.proofs.Places.NumberSteps.{at_most_one}
+use Rattle.coap_client.proofs.Facts.Places.NumberSteps.{at_most_one}
 
 abbrev Fresh : ℕ → List Observation → Type 0
 Fresh t os = AreFresh t os

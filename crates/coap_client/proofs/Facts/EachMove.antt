@@ -1,2 +1,2 @@
 -- What a call of a client moves, for proofs above.
-pub use Rattle.coap_client.proofs.Turning.Moves.{happened_moves, passes_moves, releases_none}
+pub use Rattle.coap_client.proofs.Facts.Turning.Moves.{happened_moves, passes_moves, releases_none}

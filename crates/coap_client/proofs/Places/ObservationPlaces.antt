@@ -12,12 +12,13 @@ use Rattle.coap_client.specs.Effects.{Effect}
 use Rattle.coap_client.specs.Fetching.{rest, fetch_over, fetch_by, fetch_answered}
 use Rattle.coap_client.specs.Observing.{releases, is_over}
 use Rattle.coap_client.specs.Events.{cancel_over}
-use Rattle.coap_client.specs.Follows.Places.{in_running, in_observations, places, final_of}
-use Rattle.coap_client.proofs.Places.PlaceLemmas.{in_map, in_uncancelled, in_dropped, in_without, number_if}
-use Rattle.coap_client.proofs.Turning.Moves.{releases_none}
-use Rattle.coap_client.proofs.Places.PlaceEffects.{Goes, IfRuns, Leaves, Linked, NoCancel, Sound, again_goes}
-use Rattle.coap_client.proofs.Places.PlaceEffects.{ends_quietly, final_hit, linked_without, of_number, runs_map}
-use Rattle.coap_client.proofs.Places.PlaceEffects.{runs_without, value_of_number, value_quiet, wait_map, wait_without}
+use Rattle.coap_client.specs.Places.{in_running, in_observations, places, final_of}
+use Rattle.coap_client.proofs.Facts.Places.PlaceLemmas.{in_map, in_uncancelled, in_dropped, in_without, number_if}
+use Rattle.coap_client.proofs.Facts.Turning.Moves.{releases_none}
+use Rattle.coap_client.proofs.Facts.Places.PlaceEffects.{Goes, IfRuns, Leaves, Linked, NoCancel, Sound, again_goes}
+use Rattle.coap_client.proofs.Facts.Places.PlaceEffects.{ends_quietly, final_hit, linked_without, of_number, runs_map}
+use Rattle.coap_client.proofs.Facts.Places.PlaceEffects.{runs_without, value_of_number, value_quiet, wait_map}
+use Rattle.coap_client.proofs.Facts.Places.PlaceEffects.{wait_without}
 
 -- an observation is over
 releases_goes : (o : Option Observation) (e : Effect) (x : Option Exchange) → Linked e.own.running e.own.observations x

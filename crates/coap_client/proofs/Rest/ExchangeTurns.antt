@@ -12,8 +12,8 @@ use Rattle.coap_exchange.specs.declared.matching.Opening.TheVariants.{Running, S
 use Rattle.coap_exchange.specs.AskerTrace as A
 use Rattle.coap_exchange.specs.AskerRequests as Q
 use Rattle.coap_exchange.specs.AskerArrivals as R
-use Rattle.coap_common.specs.StepsDue.{due_count}
-use Rattle.coap_common.proofs.Facts.StepsDue.{is_step, confirm_least, same_opens}
+use Rattle.coap_exchange.specs.StepsDue.{due_count}
+use Rattle.coap_exchange.proofs.Facts.StepsDue.{is_step, confirm_least, same_opens}
 
 -- what is due: a step of a CON, or the end of a wait
 

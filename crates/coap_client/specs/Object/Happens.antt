@@ -17,7 +17,7 @@ use Rattle.coap_client.specs.Observing.{first_rest, first_value}
 use Rattle.coap_client.specs.Requests.{message_of}
 use Rattle.coap_client.specs.Effects.{Deed, Rests, Releases, Effect, runs, has_sent}
 use Rattle.coap_client.specs.Events.{failed}
-use Rattle.coap_client.specs.Follows.Places.{places}
+use Rattle.coap_client.specs.Places.{places}
 use Rattle.coap_client.specs.Steps.{asking, reporting, requested}
 use Rattle.coap_client.specs.Deeds.{close, deeds}
 use Rattle.coap_client.specs.Led.{State, Led}

@@ -2,7 +2,7 @@
 use Rattle.std.specs.Prelude.{ℕ, ◌+◌, ◌==◌, ◌&&◌, max, not, Bool, false, Option, Some, is_some, length, filter}
 use Rattle.coap_exchange.specs.AskerTrace as E
 use Rattle.coap_exchange.specs.AskerArrivals.{has_waited, acked_in}
-use Rattle.coap_common.specs.StepsDue.{one_if, due_count}
+use Rattle.coap_exchange.specs.StepsDue.{one_if, due_count}
 use Rattle.coap_client.specs.Own.{Operation, Fetching, Observation, Own}
 use Rattle.coap_client.specs.Led.{State}
 

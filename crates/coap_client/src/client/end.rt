@@ -4,7 +4,7 @@ ghost use Rattle.std.specs.VecDeque.{deque_len, deque_capacity};
 ghost use Rattle.coap_client.specs.Effects.{ends, held_by, of};
 ghost use Rattle.coap_client.specs.Observing.{is_over, releases};
 ghost use Rattle.coap_client.specs.Observations.{observation_of, over};
-ghost use Rattle.coap_client.specs.Follows.Places.{in_observations};
+ghost use Rattle.coap_client.specs.Places.{in_observations};
 ghost use Rattle.coap_client.specs.Steps.{reporting};
 ghost use Rattle.coap_client.specs.Object.Happens.{failing, releasing, Apart, IsDone};
 ghost use Rattle.coap_client.specs.Object.Held.{own_of, seen};

@@ -1,3 +1,4 @@
+//! What a call makes of the answer to its request.
 use crate::client::report::Report;
 use std::alloc::{Allocator, Global};
 

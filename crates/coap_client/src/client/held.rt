@@ -1,3 +1,4 @@
+//! What a client keeps beside its exchanges.
 ghost use Rattle.std.specs.Prelude.{◌≡◌};
 ghost use Rattle.coap_client.specs.Own.{start};
 ghost use Rattle.coap_client.specs.Object.Held.{own_of};

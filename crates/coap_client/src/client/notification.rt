@@ -5,7 +5,7 @@ ghost use Rattle.std.specs.Option.{option_map};
 ghost use Rattle.coap_client.specs.Observing.{begun, first_rest, first_value, noticed, registered};
 ghost use Rattle.coap_observe.specs.Newer.{arrived, is_newer};
 ghost use Rattle.coap_client.specs.Own.{Registering};
-ghost use Rattle.coap_client.specs.Follows.Places.{in_observations};
+ghost use Rattle.coap_client.specs.Places.{in_observations};
 ghost use Rattle.coap_client.specs.Responses.{sequence_in};
 ghost use Rattle.coap_client.specs.Object.Happens.{Apart, Happens, Watched, renewing, running, watching};
 ghost use Rattle.coap_client.specs.Object.Held.{own_of, sizes_of, seen};

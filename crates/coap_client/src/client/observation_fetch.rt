@@ -8,7 +8,7 @@ ghost use Rattle.coap_client.specs.Observing.{first_rest, first_value};
 ghost use Rattle.coap_client.specs.Effects.{runs};
 ghost use Rattle.coap_client.specs.Observations.{observation_of, rest_of};
 ghost use Rattle.coap_client.specs.Own.{Fetching};
-ghost use Rattle.coap_client.specs.Follows.Places.{in_observations};
+ghost use Rattle.coap_client.specs.Places.{in_observations};
 ghost use Rattle.coap_client.specs.Responses.{part, sequence_in};
 ghost use Rattle.coap_client.specs.Object.Happens.{Apart, Happens, resting, running};
 ghost use Rattle.coap_client.specs.Object.Held.{own_of, seen};

@@ -10,7 +10,7 @@ ghost use Rattle.coap_types.specs.OptionValues.{option_with};
 ghost use Rattle.coap_types.specs.Path.{segments_of};
 ghost use Rattle.coap_client.specs.Object.CallShown.{IsFew, IsShortPath};
 ghost use Rattle.coap_client.specs.Object.CallAnswers.{place_in};
-ghost use Rattle.coap_client.specs.Follows.Places.{in_observations};
+ghost use Rattle.coap_client.specs.Places.{in_observations};
 ghost use Rattle.coap_client.specs.Object.Shown.{shown_observation, shown_rest, shown_operation, shown_queued};
 ghost use Rattle.coap_client.specs.Object.Shown.{shown_waiting};
 ghost use Rattle.std.specs.List.{list_any};
@@ -164,7 +164,7 @@ pub fn take_rest<A: Allocator + Copy>(
 }
 
 /// The path of the observation of that number, none where there is none.
-#[tactic(auto, using(crate::proofs::Calls::AskableRequests::empty_short))]
+#[tactic(auto, using(crate::proofs::Facts::Calls::AskableRequests::empty_short))]
 pub fn segments_of<A: Allocator + Copy>(
     operations: &ClientOperations<A>,
     number: u64,

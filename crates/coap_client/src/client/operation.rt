@@ -1,3 +1,4 @@
+//! The operations of a client that wait or run, and its observations.
 use crate::client::short_path::ShortPath;
 use crate::client::taken_call::TakenCall;
 use coap_block::Fetch;

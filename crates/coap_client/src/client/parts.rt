@@ -1,3 +1,4 @@
+//! The parts of a client, and the moment and the word of an input.
 use crate::client::held::Held;
 use coap_exchange::Asker;
 use coap_types::Moment;

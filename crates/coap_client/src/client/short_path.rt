@@ -1,3 +1,4 @@
+//! A path whose options fit each message of an observation.
 ghost use Rattle.std.specs.Prelude.{◌≡◌, false};
 ghost use Rattle.coap_types.specs.Path.{segments_of};
 ghost use Rattle.coap_client.specs.Object.CallShown.{IsShortPath, is_long_path};

@@ -1,3 +1,4 @@
+//! A call that the client took: what it sends next, and what it makes of the answer.
 ghost use Rattle.std.specs.Prelude.{◌≡◌, ℕ, Bool, false, [], List, Some, IsSome, IfOk, OnErr};
 ghost use Rattle.coap_client.specs.Calls.{answer};
 ghost use Rattle.coap_client.specs.Effects.{is_upload, has_sent};

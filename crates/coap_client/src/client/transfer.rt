@@ -1,3 +1,4 @@
+//! How far the transfer of a call's body is (RFC 7959).
 ghost use Rattle.std.specs.Prelude.{◌≡◌, ◌≤◌, length};
 ghost use Rattle.coap_types.specs.declared.szx.TheConstants.{MAX_SZX as max_szx};
 ghost use Rattle.coap_types.specs.Piece.{part_of, size_of};
@@ -56,7 +57,7 @@ pub fn payload_of<A: Allocator + Copy>(transfer: &Transfer<A>) -> &[u8]
 }
 
 // The bytes of the block to send.
-#[tactic(auto, using(crate::proofs::Calls::AskableRequests::piece_short))]
+#[tactic(auto, using(crate::proofs::Facts::Calls::AskableRequests::piece_short))]
 fn part_to_send<A: Allocator + Copy>(upload: &Upload<A>) -> &[u8]
     ensures part { result.now ≡ part_of upload.now.state.body upload.now.state.num upload.now.state.szx }
     ensures few { length result.now ≤ size_of max_szx }

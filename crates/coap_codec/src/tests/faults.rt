@@ -1,3 +1,4 @@
+//! Tests of the faults of datagrams.
 use super::{CONTENT, GET};
 use crate::{Reason, decode};
 use coap_types::{Id, Kind};

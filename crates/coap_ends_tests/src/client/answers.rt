@@ -51,6 +51,24 @@ feed 0 S 60000001
 idle 100000
 told nothing
 
+== datagrams_that_bring_no_response
+call 0 get /t
+tick 0
+out S 480100000000000000000000b174
+feed 0 S $1
+out S $2
+told nothing
+# No header, and another version.
+|  | nothing
+| 40 | nothing
+| 80450000 | nothing
+# Token length 9, in a CON and in a NON.
+| 49451234 | 70001234
+| 59451234 | nothing
+# A marker without a payload, in a CON and in an ACK.
+| 40451234ff | 70001234
+| 60450000ff | nothing
+
 == responses_of_others_are_rejected
 call 0 get /t
 tick 0

@@ -104,7 +104,8 @@ answering_clock l s _ a r = max_self l.clock
 
 pub answered : (l h : L.State) (pending : Option Asked) (deferred : List Deferred) (separate : List Separate)
     (ended : Option Ended) (unmatched : Option Sending) (old : State) (a : Asked) (r : Response) (sent : T.Answer)
-    → state_of l pending deferred separate ended unmatched ≡ old → old.own.pending ≡ Some a → IsAnswer a r → IsSentAs a.kind sent
+    → state_of l pending deferred separate ended unmatched ≡ old → old.own.pending ≡ Some a → IsAnswer a r
+    → IsSentAs a.kind sent
     → ((s : Own) → L.Step l l.clock (answering s a.kind a r) sent h)
     → Step old (Answers a r sent) (state_of h None deferred separate ended unmatched)
 answered l h pending deferred separate ended unmatched old a r sent is pending_is answer told steps =

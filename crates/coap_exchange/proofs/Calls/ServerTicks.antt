@@ -159,7 +159,8 @@ asking_clock now (Some d) room mid h n e k =
     step_clock k.0 h now (T.Room d.asked.from) (T.Is room) k.2
     ∙ (ap (λ (s : L.State). max s.clock now) k.1 ∙ (ap (λ c. max c now) e ∙ clock_then n now))
 
-can_go : (mid h : L.State) (now : ℕ) (d : Option Deferred) (room : Bool) (a : Asked) → Steps mid (asking_room now d room) h
+can_go : (mid h : L.State) (now : ℕ) (d : Option Deferred) (room : Bool) (a : Asked)
+    → Steps mid (asking_room now d room) h
     → option_map (λ (d : Deferred). d.asked) d ≡ Some a → room ≡ true
     → (is_busy a.from h.open_cons ≡ false) × (is_free (max h.clock now) h.upcoming h.last_used ≡ true)
 can_go mid h now None room a asks is may = absurd (cc is)

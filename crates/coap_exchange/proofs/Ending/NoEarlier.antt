@@ -78,7 +78,8 @@ module _ (server : Endpoint) (setup : Setup) where
         ∙ ap (λ (z : L.State). opens_then at (T.Receive from bytes) up out z.open_cons) first.1.1 in
         record {
           clock = ended.0 ∙ (replied.0 ∙ clock);
-          lone = subst (λ cs. Lone s.server (running_after (max s.clock now) v s.running) (last_begun server setup t) cs)
+          lone = subst (λ cs. Lone s.server (running_after (max s.clock now) v s.running) (last_begun server setup t)
+              cs)
               (sym (ended.1 ∙ ap (settled_opens (settles v) s.server s.running) (replied.1 ∙ opens)))
               (left_by_verdict s (last_begun server setup t)
               (max s.clock now) at from bytes out mid.open_cons old.lone up v refl (verdict_fits s from up));
@@ -98,7 +99,8 @@ module _ (server : Endpoint) (setup : Setup) where
               (turned_lone s (last_begun server setup t) (max s.clock now) at out mid.open_cons old.lone below));
         }
 
-  pub fits : (t : List Call) → AskerLaw server setup t → (h : L.State) → Steps (L.start setup) (lower_of server setup t) h
+  pub fits : (t : List Call) → AskerLaw server setup t → (h : L.State)
+      → Steps (L.start setup) (lower_of server setup t) h
       → IsBeneath server setup t h
   fits [] law h steps = record {
     clock = ap (λ (z : L.State). z.clock) steps;

@@ -36,7 +36,8 @@ module _ (server : Endpoint) (setup : Setup) (past : List Call) where
 
   -- one call of the layer beneath
   single : (now : ℕ) (call : T.Call) (a b : T.Answer) (h k : L.State)
-      → Steps (L.start setup) (asked now call a ∷ below_past) h → Steps (L.start setup) (asked now call b ∷ below_past) k
+      → Steps (L.start setup) (asked now call a ∷ below_past) h
+      → Steps (L.start setup) (asked now call b ∷ below_past) k
       → a ≡ b
   single now call a b h k p q = one_answer p.0 q.0 h k now call a b
       (one_left (L.start setup) below_past p.0 q.0 p.1 q.1) p.2 q.2

@@ -1,5 +1,5 @@
--- Of an object above another: calls behind others; one call more, for all its calls; and what it asks of the one beneath,
--- call by call.
+-- Of an object above another: calls behind others; one call more, for all its calls; and what it asks of the one
+-- beneath, call by call.
 use Rattle.std.proofs.Common.{◌≡◌, inl, inr, ⊎_elim, List, [], ◌∷◌, ◌++◌, refl, ap, sym, subst, ◌∙◌, append_assoc}
 use Rattle.coap_types.specs.Past.{Ever, Sometime}
 use Rattle.coap_types.proofs.Facts.Traces.{Ever_append, Ever_front, Ever_back}

@@ -10,6 +10,7 @@ use Rattle.coap_layer.specs.declared.setup.Setup.{Setup}
 pub use Rattle.coap_exchange.proofs.Ending.NoEarlier.{fits}
 
 -- an exchange that is open runs
-pub runs_it : (server : Endpoint) (setup : Setup) (t : List Call) → AskerLaw server setup t → (token : List ℕ) → Open token t
+pub runs_it : (server : Endpoint) (setup : Setup) (t : List Call) → AskerLaw server setup t → (token : List ℕ)
+    → Open token t
     → token_in (own_of server setup t).running ≡ Some token
 runs_it server setup t law token begun = (known server setup t law).1.runs.runs_it token begun

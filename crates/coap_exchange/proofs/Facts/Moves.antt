@@ -41,7 +41,8 @@ module _ (s : Own) (r : Request) (below : L.Answer) (answer : Result (List ℕ) 
       → AskRow s r below answer
   row_by Sends is right = sends_row is (sent_by below) refl
       (right ∙ ap (λ w. ask_answer w below (request_token s r)) is)
-  row_by _ is right = refused _ (right ∙ ap (λ w. ask_answer w below (request_token s r)) is) (ap (λ w. sent_as w below) is)
+  row_by _ is right = refused _ (right ∙ ap (λ w. ask_answer w below (request_token s r)) is)
+      (ap (λ w. sent_as w below) is)
 
 pub ask_row : (s : Own) (r : Request) (below : L.Answer) (answer : Result (List ℕ) AskRefusal)
     → answer ≡ ask_answer (opening_of s r) below (request_token s r) → AskRow s r below answer

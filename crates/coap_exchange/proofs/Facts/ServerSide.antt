@@ -12,7 +12,8 @@ pub use Rattle.coap_exchange.proofs.Responding.RequestsCame.{came_in}
 pub use Rattle.coap_exchange.proofs.EndsSaid.AreOutstanding.{waits}
 pub use Rattle.coap_exchange.proofs.EndsSaid.HandsOrEnds.{none_ended, hands_or_ends}
 pub use Rattle.coap_exchange.proofs.Calls.WhatIsDue.{takes}
-pub use Rattle.coap_exchange.proofs.Resting.ServerRests.{rests_led, turns_led, ready_answer, ready_same, idle_below, idle_same}
+pub use Rattle.coap_exchange.proofs.Resting.ServerRests.{rests_led, turns_led, ready_answer, ready_same, idle_below}
+pub use Rattle.coap_exchange.proofs.Resting.ServerRests.{idle_same}
 
 pub are_responses : (t : List Call) → AnswererLaw t → AreResponses t
 are_responses t law = (counted t law).0

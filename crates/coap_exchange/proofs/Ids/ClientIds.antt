@@ -125,7 +125,8 @@ module _ (server : Endpoint) (setup : Setup) where
     abbrev issued_before : ℕ
     issued_before = issued_then (below_of server setup t)
 
-    received_none : (now : ℕ) (from : Endpoint) (bytes : List ℕ) (up : T.Answer) (settled b : Bool) (x : Option Exchange)
+    received_none : (now : ℕ) (from : Endpoint) (bytes : List ℕ) (up : T.Answer) (settled b : Bool)
+        (x : Option Exchange)
         (id : ℕ) (reply : Option (List ℕ))
         → issued_then (arrives t now from bytes up settled b x id reply) ≡ issued_before
     received_none now from bytes up settled true None id None = refl
@@ -176,7 +177,8 @@ module _ (server : Endpoint) (setup : Setup) where
             gives_none u (entered t now r w (opening_of s r)) (below_of server setup t)
             (none_sent now r w below (opening_of s r) told unsent)
         by (move.sent id is some opens one) = absurd (cc (none, ap (λ a. begun (Ask now r w below a)) is))
-    begins_none (Receive now from bytes up settled answer) right h steps none = arrival_none now from bytes up settled answer
+    begins_none (Receive now from bytes up settled answer) right h steps none = arrival_none now from bytes up settled
+        answer
     begins_none (Ticks now below answer) right h steps none = ticks_none now below answer
     begins_none _ right h steps none = refl
 
@@ -185,7 +187,8 @@ module _ (server : Endpoint) (setup : Setup) where
   Potential u t = issued_since u (numbers (below_of server setup t))
       ≤ ended_since server setup u t + running_in (own_of server setup t).running
 
-  module _ (u : ℕ) (t : List Call) (old : Potential u t) (c : Call) (right : IsRight (own_of server setup t) c) (h : L.State)
+  module _ (u : ℕ) (t : List Call) (old : Potential u t) (c : Call) (right : IsRight (own_of server setup t) c)
+      (h : L.State)
       (steps : Steps begin (lower_of server setup (c ∷ t)) h) (late : u ≤ clock_of server setup (c ∷ t)) where
     on : Moves (own_of server setup t).running (own_of server setup (c ∷ t)).running c → Potential u (c ∷ t)
     on (move.starts x b e a none is) =
@@ -220,7 +223,8 @@ module _ (server : Endpoint) (setup : Setup) where
       early less =
           let till = clock_is (c ∷ t) in
           let none = none_issued setup u (below_of server setup (c ∷ t))
-          (layer_stands server setup (c ∷ t) (record { rows = law; left = h; layer = steps })) (omega (arith, less, till)) in
+          (layer_stands server setup (c ∷ t) (record { rows = law; left = h; layer = steps }))
+          (omega (arith, less, till)) in
           omega (arith, none)
 
   -- .. and so it is with fresh tokens

@@ -45,7 +45,8 @@ module _ (server : Endpoint) (setup : Setup) where
   clock_rises [] = tt
   clock_rises (c ∷ t) = (rises_at t c, clock_rises t)
 
-  pub id_is_free : (t : List Call) → ExchangeLaw server setup t → HeldIsMany setup.word (numbers (below_of server setup t))
+  pub id_is_free : (t : List Call) → ExchangeLaw server setup t
+      → HeldIsMany setup.word (numbers (below_of server setup t))
       → IdIsFree server setup t
   id_is_free t law held most now few_ids few le withheld =
       let m = held now withheld in
@@ -53,7 +54,8 @@ module _ (server : Endpoint) (setup : Setup) where
       let many = m.many in
       let all = (ids_counted server setup t law).ids m.since in
       let same = clock_is server setup t in
-      let ended = since_reuse (clock_of server setup) ends most (most - 1) m.since now t (clock_rises t) few (omega arith)
+      let ended = since_reuse (clock_of server setup) ends most (most - 1) m.since now t (clock_rises t) few
+      (omega arith)
       (omega (arith, same, le)) young in
       omega (arith, many, all, ended, few_ids)
 
@@ -62,7 +64,8 @@ module _ (server : Endpoint) (setup : Setup) where
   token_is_left most t law few_ids few till =
       let all = (ids_counted server setup t law).tokens in
       let some = lifetimes (clock_of server setup) ends most (most - 1) t few (omega arith) all_lifetimes 0 in
-      let none = none_since (clock_of server setup) ends (0 + all_lifetimes * 247001) t (clock_rises t) (omega (arith, till))
+      let none = none_since (clock_of server setup) ends (0 + all_lifetimes * 247001) t (clock_rises t)
+      (omega (arith, till))
       in
       omega (arith, all, some, none, few_ids)
 
@@ -97,38 +100,39 @@ module _ (setup : Setup) (past : List Entry) (old : L.State) (now : ℕ) (server
       by (inr (f, inr r)) = let k = sent_why (T.Sent r.id) (sym told ∙ r.answer) h in absurd (cc k)
 
 module _ (server : Endpoint) (setup : Setup)
-    (held : (t : List Call) → ExchangeLaw server setup t → HeldIsMany setup.word (numbers (below_of server setup t))) where
-  here : (most : ℕ) (c : Call) (t : List Call) → ExchangeLaw server setup (c ∷ t) → ExchangeLaw server setup t
-      → 4 * most ≤ message_ids → FewEnd server setup most t → clock_of server setup t < 2 ^ 64
-      → (why : AskRefusal) → refused c ≡ Some why → why ≡ refusal.Running
-  here most (Ask now r w below (Err why)) t law before few_ids few till other is =
-      let s : Own = own_of server setup t in
-      let steps = law.layer in
-      let same : why ≡ other = cc is in
-      let stands = (layer_stands server setup (Ask now r w below (Err why) ∷ t) law).0 in
-      let told : (made (left_after (L.start setup) (lower_of server setup t)) now
-      (beneath (opening_of s r) s.server (content_of (request_token s r) r) w)).answer ≡ below =
-      sym (subst
-      (λ z. below ≡ (made z now (beneath (opening_of s r) s.server (content_of (request_token s r) r) w)).answer)
-      (steps_left (L.start setup) (lower_of server setup t) steps.0 steps.1) steps.2.right) in
-      subst (λ x. x ≡ refusal.Running) same
-      (runs_when setup (below_of server setup t) (left_after (L.start setup) (lower_of server setup t)) now s.server
-      (content_of (request_token s r) r) w below (request_token s r) why (opening_of s r) stands told
-      (id_is_free server setup t before (held t before) most _ few_ids few stands.time)
-      (λ spent. (let k = (counted server setup (Ask now r w below (Err why) ∷ t) law.rows).0.0.1.spent now w r below
-      (ap (λ x. Ask now r w below (Err x)) spent) in
-      let l = token_is_left server setup most t before few_ids few till in
-      omega (arith, k, l)))
-      law.rows.0)
-  here most _ t law before few_ids few till why is = absurd (cc is)
+    (held : (t : List Call) → ExchangeLaw server setup t → HeldIsMany setup.word (numbers (below_of server setup t)))
+  where
+    here : (most : ℕ) (c : Call) (t : List Call) → ExchangeLaw server setup (c ∷ t) → ExchangeLaw server setup t
+        → 4 * most ≤ message_ids → FewEnd server setup most t → clock_of server setup t < 2 ^ 64
+        → (why : AskRefusal) → refused c ≡ Some why → why ≡ refusal.Running
+    here most (Ask now r w below (Err why)) t law before few_ids few till other is =
+        let s : Own = own_of server setup t in
+        let steps = law.layer in
+        let same : why ≡ other = cc is in
+        let stands = (layer_stands server setup (Ask now r w below (Err why) ∷ t) law).0 in
+        let told : (made (left_after (L.start setup) (lower_of server setup t)) now
+        (beneath (opening_of s r) s.server (content_of (request_token s r) r) w)).answer ≡ below =
+        sym (subst
+        (λ z. below ≡ (made z now (beneath (opening_of s r) s.server (content_of (request_token s r) r) w)).answer)
+        (steps_left (L.start setup) (lower_of server setup t) steps.0 steps.1) steps.2.right) in
+        subst (λ x. x ≡ refusal.Running) same
+        (runs_when setup (below_of server setup t) (left_after (L.start setup) (lower_of server setup t)) now s.server
+        (content_of (request_token s r) r) w below (request_token s r) why (opening_of s r) stands told
+        (id_is_free server setup t before (held t before) most _ few_ids few stands.time)
+        (λ spent. (let k = (counted server setup (Ask now r w below (Err why) ∷ t) law.rows).0.0.1.spent now w r below
+        (ap (λ x. Ask now r w below (Err x)) spent) in
+        let l = token_is_left server setup most t before few_ids few till in
+        omega (arith, k, l)))
+        law.rows.0)
+    here most _ t law before few_ids few till why is = absurd (cc is)
 
-  pub requests_are_sent : (t : List Call) → ExchangeLaw server setup t → RequestsAreSent server setup t
-  requests_are_sent [] law most few_ids few till = tt
-  requests_are_sent (c ∷ t) law most few_ids few till =
-      let parts = steps_split (L.start setup) law.left (lower (own_of server setup t) c) (lower_of server setup t)
-      law.layer in
-      let before : ExchangeLaw server setup t = record { rows = law.rows.1; left = parts.0; layer = parts.1 } in
-      let fewer = few_before (clock_of server setup) ends most c t few in
-      let rises = rises_at server setup t c in
-      let earlier : clock_of server setup t < 2 ^ 64 = omega (arith, till, rises) in
-      (here most c t law before few_ids fewer earlier, requests_are_sent t before most few_ids fewer earlier)
+    pub requests_are_sent : (t : List Call) → ExchangeLaw server setup t → RequestsAreSent server setup t
+    requests_are_sent [] law most few_ids few till = tt
+    requests_are_sent (c ∷ t) law most few_ids few till =
+        let parts = steps_split (L.start setup) law.left (lower (own_of server setup t) c) (lower_of server setup t)
+        law.layer in
+        let before : ExchangeLaw server setup t = record { rows = law.rows.1; left = parts.0; layer = parts.1 } in
+        let fewer = few_before (clock_of server setup) ends most c t few in
+        let rises = rises_at server setup t c in
+        let earlier : clock_of server setup t < 2 ^ 64 = omega (arith, till, rises) in
+        (here most c t law before few_ids fewer earlier, requests_are_sent t before most few_ids fewer earlier)

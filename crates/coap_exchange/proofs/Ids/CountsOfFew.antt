@@ -23,7 +23,8 @@ module _ {Call : Type 0} (clock : List Call → ℕ) (counted : Call → Bool) w
   abbrev pub Rises : List Call → Type 0
   Rises t = Always (λ past c. clock past ≤ clock (c ∷ past)) t
 
-  pub since_more : (u : ℕ) (c : Call) (t : List Call) → count_since clock counted u t ≤ count_since clock counted u (c ∷ t)
+  pub since_more : (u : ℕ) (c : Call) (t : List Call) → count_since clock counted u t ≤ count_since clock counted u
+      (c ∷ t)
   since_more u c t = one_more (counted c) (nat_le u (clock (c ∷ t))) (count_since clock counted u t)
 
   -- one that is counted, at that moment or later
@@ -48,7 +49,8 @@ module _ {Call : Type 0} (clock : List Call → ℕ) (counted : Call → Bool) w
   pub none_since : (u : ℕ) (t : List Call) → Rises t → clock t < u → count_since clock counted u t ≡ 0
   none_since u [] rises less = refl
   none_since u (c ∷ t) rises less =
-      by (counted c) (nat_le u (clock (c ∷ t))) (λ e. let k = leb-true u (clock (c ∷ t)) e in absurd (omega (arith, k, less)))
+      by (counted c) (nat_le u (clock (c ∷ t))) (λ e. let k = leb-true u (clock (c ∷ t)) e in absurd
+      (omega (arith, k, less)))
       (count_since clock counted u t)
       (none_since u t rises.1 (let k = rises.0 in omega (arith, k, less)))
     where
@@ -63,7 +65,8 @@ module _ {Call : Type 0} (clock : List Call → ℕ) (counted : Call → Bool) w
       ≤ count_then clock counted u t + count_since clock counted (u + (exchange_lifetime + 1)) t
   next_lifetime u [] = omega arith
   next_lifetime u (c ∷ t) =
-      by (counted c) (nat_le u at) (is_then u at) (nat_le (u + (exchange_lifetime + 1)) at) which _ _ _ (next_lifetime u t)
+      by (counted c) (nat_le u at) (is_then u at) (nat_le (u + (exchange_lifetime + 1)) at) which _ _ _
+      (next_lifetime u t)
     where
       at : ℕ
       at = clock (c ∷ t)

@@ -49,7 +49,10 @@ pub came_grows : (u : ℕ) (e : Entry) (t : List Entry) → came_since u t ≤ c
 came_grows u e t = by (handed e) (nat_le u e.at)
   where
     by : (o : Option Incoming) (b : Bool)
-        → came_since u t ≤ elim o [ Some m ↦ (if b then 1 + came_since u t else came_since u t) | None ↦ came_since u t ]
+        → came_since u t ≤ elim o [
+          | Some m ↦ (if b then 1 + came_since u t else came_since u t)
+          | None ↦ came_since u t
+        ]
     by None b = omega arith
     by (Some m) true = omega arith
     by (Some m) false = omega arith
@@ -94,7 +97,8 @@ pub none_issued : (setup : Setup) (u : ℕ) (t : List Entry) → LayerLaw setup 
 none_issued setup u [] law less = refl
 none_issued setup u (e ∷ t) law less =
     added u e.at e.answer (numbers t)
-    ∙ by (is_some (sent_by e.answer)) (nat_le u e.at) (λ k. let l = leb-true u e.at k in absurd (omega (arith, l, less)))
+    ∙ by (is_some (sent_by e.answer)) (nat_le u e.at) (λ k. let l = leb-true u e.at k in absurd
+    (omega (arith, l, less)))
     (issued_since u (numbers t))
     (none_issued setup u t law.1 (let k : clock t ≤ e.at = law.0.time in omega (arith, k, less)))
   where

@@ -108,7 +108,8 @@ module _ (setup : Setup) where
         → clock (made (reached t) (own_of t).clock (answering (own_of t) kind a r) ∷ below_of setup t)
         ≡ (own_of t).clock
     answers a r Con = before
-    answers a r _ = let k = before in let n : max (reached t).clock (own_of t).clock ≡ (own_of t).clock = omega (arith, k) in n
+    answers a r _ = let k = before in let n : max (reached t).clock (own_of t).clock
+        ≡ (own_of t).clock = omega (arith, k) in n
 
     clock_next : (c : Call) → clock (below_of setup (c ∷ t)) ≡ (own_of (c ∷ t)).clock
     clock_next (Incoming now from bytes up answer) = incoming now from bytes up (id_in up) (reject_by up)

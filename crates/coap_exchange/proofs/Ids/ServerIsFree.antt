@@ -19,7 +19,8 @@ clock_rises : (t : List Call) → Rises clock_of notifies t
 clock_rises [] = tt
 clock_rises (c ∷ t) = (rises_at t c, clock_rises t)
 
-pub id_is_free : (setup : Setup) (t : List Call) → ResponseLaw setup t → HeldIsMany setup.word (numbers (below_of setup t))
+pub id_is_free : (setup : Setup) (t : List Call) → ResponseLaw setup t
+    → HeldIsMany setup.word (numbers (below_of setup t))
     → IdIsFree setup t
 id_is_free setup t law held most now few_ids few_told few le withheld =
     let m = held now withheld in

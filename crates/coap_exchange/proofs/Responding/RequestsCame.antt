@@ -28,7 +28,8 @@ pair_of from (T.Becomes (T.Request n true)) a m h =
     (ap (λ (q : Asked × Message). q.0) p ∙ ap (asked_of from) (sym same), ap (λ x. Some x) (sym same))
 pair_of from _ a m h = absurd (cc h)
 
-came : (setup : Setup) (t : List Call) (now : ℕ) (from : Endpoint) (bytes : List ℕ) (up : T.Answer) (a : Asked) (m : Message)
+came : (setup : Setup) (t : List Call) (now : ℕ) (from : Endpoint) (bytes : List ℕ) (up : T.Answer) (a : Asked)
+    (m : Message)
     → AnswererLaw (Incoming now from bytes up (Some (a, m)) ∷ t)
     → (h : L.State) → Steps (L.start setup) (lower_of (Incoming now from bytes up (Some (a, m)) ∷ t)) h
     → (a ≡ asked_of from m) × Spells bytes m
@@ -46,7 +47,8 @@ came_in setup [] law h steps = tt
 came_in setup (c ∷ t) law h steps =
     let parts = steps_split (L.start setup) h (lower (own_of t) c) (lower_of t) steps in (
       record {
-        came = λ now from bytes up a m is. came setup t now from bytes up a m (subst (λ d. AnswererLaw (d ∷ t)) is law) h
+        came = λ now from bytes up a m is. came setup t now from bytes up a m (subst (λ d. AnswererLaw (d ∷ t)) is law)
+            h
             (subst (λ d. Steps (L.start setup) (lower_of (d ∷ t)) h) is steps);
       },
       came_in setup t law.1 parts.0 parts.1,

@@ -1,5 +1,6 @@
 -- What a tick does before and at the first moment at which something is due, of a side whose clock stands there.
-use Rattle.std.proofs.Common.{◌≡◌, ℕ, ◌≤◌, ◌<◌, ◌^◌, max, Bool, true, false, Option, Some, None, subst, arith, IfNone, IfSome}
+use Rattle.std.proofs.Common.{◌≡◌, ℕ, ◌≤◌, ◌<◌, ◌^◌, max, Bool, true, false, Option, Some, None, subst, arith, IfNone}
+use Rattle.std.proofs.Common.{IfSome}
 use Rattle.coap_types.specs.declared.endpoint.Moment.{Moment}
 use Rattle.coap_types.specs.FirstMoment.{IsFirstMoment}
 

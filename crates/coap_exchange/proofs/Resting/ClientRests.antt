@@ -1,4 +1,5 @@
--- When a tick of a client's side does nothing: before the first moment at which its layer has a step or its wait is over.
+-- When a tick of a client's side does nothing: before the first moment at which its layer has a step or its wait is
+-- over.
 use Rattle.std.proofs.Common.{◌≡◌, ◌≢◌, inl, inr, ℕ, max, Bool, true, false, Option, Some, None, List, []}
 use Rattle.std.proofs.Common.{refl, ap, sym, subst, ◌∙◌, ◌||◌, cond}
 use Rattle.coap_types.specs.declared.endpoint.Endpoint.{Endpoint}
@@ -37,7 +38,8 @@ turn_is s new now below answer h =
     h.right ∙ ap (turn_of s.own (max s.own.clock now))
     (h.under.2.right ∙ ap (λ (l : L.State). tick_of (max l.clock now) l.open_cons) h.under.1)
 
-idle_turn : (s : Own) (at : ℕ) (cs : List Open) → any_has_step at cs ≡ false → has_waited at (acked_in s.running) ≡ false
+idle_turn : (s : Own) (at : ℕ) (cs : List Open) → any_has_step at cs ≡ false → has_waited at (acked_in s.running)
+    ≡ false
     → turn_of s at (tick_of at cs) ≡ turn.Idle
 idle_turn s at cs none unheard =
     ap (turn_of s at) (idle_is at cs none) ∙ ap (λ b. cond b (turn.End event.NoResponse) turn.Idle) unheard

@@ -1,7 +1,8 @@
 -- When a tick of a server's side does nothing: before the first moment at which its layer has a step, or a deferred
 -- request is ready and a Message ID free.
 use Rattle.std.proofs.Common.{◌≡◌, ◌≢◌, ℕ, ◌+◌, ◌-◌, ◌≤◌, ◌<◌, max, nat_le, Bool, true, false, Option, Some, None}
-use Rattle.std.proofs.Common.{List, [], ◌∷◌, ◌++◌, length, take, get_or, is_some, refl, ap, sym, subst, ◌∙◌, ◌&&◌, ◌||◌, not, cond}
+use Rattle.std.proofs.Common.{List, [], ◌∷◌, ◌++◌, length, take, get_or, is_some, refl, ap, sym, subst, ◌∙◌, ◌&&◌, ◌||◌}
+use Rattle.std.proofs.Common.{not, cond}
 use Rattle.std.proofs.Common.{arith, add-one}
 use Rattle.std.proofs.Math.Seq.{take-suc}
 use Rattle.std.proofs.lemmas.Bool.{and_parts}
@@ -44,7 +45,8 @@ grown_ready now xs [] d = alone (is_ready now xs d)
     alone false = refl
 grown_ready now xs (e ∷ ds) d = go (is_ready now xs e) (grown_ready now xs ds d)
   where
-    go : (b : Bool) → is_some (first_ready now xs (ds ++ d ∷ [])) ≡ (is_some (first_ready now xs ds) || is_ready now xs d)
+    go : (b : Bool) → is_some (first_ready now xs (ds ++ d ∷ []))
+        ≡ (is_some (first_ready now xs ds) || is_ready now xs d)
         → is_some (cond b (Some e) (first_ready now xs (ds ++ d ∷ [])))
         ≡ (is_some (cond b (Some e) (first_ready now xs ds)) || is_ready now xs d)
     go true h = refl
@@ -71,7 +73,8 @@ module _ (xs : List Separate) (now later : ℕ) (le : now ≤ later) where
       let on = le_on d.delay d.at.0 parts.0 in
       cc (on, parts.1)
 
-  pub ready_on : (ds : List Deferred) → is_some (first_ready now xs ds) ≡ true → is_some (first_ready later xs ds) ≡ true
+  pub ready_on : (ds : List Deferred) → is_some (first_ready now xs ds) ≡ true → is_some (first_ready later xs ds)
+      ≡ true
   ready_on [] h = h
   ready_on (d ∷ ds) h = go (is_ready now xs d) (is_ready later xs d) (one_on d) h (ready_on ds)
     where
@@ -221,7 +224,8 @@ turns setup t s now led same some below room answer new h =
         stepped s new now below room answer h (max s.own.clock now) s.layer.open_cons
         (step_is (max s.own.clock now) s.layer.open_cons step) in
         λ rest. other (sym (h.right ∙ ap (λ b. due_of b (ready_at s.own now) room) here) ∙ rest)
-    go false step k = ready_one (ready_at s.own now) refl k (here ∙ idle_is (max s.own.clock now) s.layer.open_cons step)
+    go false step k = ready_one (ready_at s.own now) refl k (here
+        ∙ idle_is (max s.own.clock now) s.layer.open_cons step)
 
 -- .. where calls led to it
 module _ (setup : Setup) (t : List Call) (s : State) (led : Led setup t s) (same : s.layer.clock ≡ s.own.clock) where

@@ -74,7 +74,8 @@ module _ (id : ℕ) where
 
   module _ (kind : Kind) (k : Known) where
     -- what is told is acknowledged where it is a CON
-    told_by : (v : Verdict) → Judged kind k v → (m : Message) → message_told (told v (T.Becomes (T.Response m))) ≡ Some m
+    told_by : (v : Verdict) → Judged kind k v → (m : Message) → message_told (told v (T.Becomes (T.Response m)))
+        ≡ Some m
         → (kind ≡ Con → reply_by v id ≡ Some (ack_bytes id)) × (kind ≢ Con → reply_by v id ≡ None)
     told_by AnswerCon r m h = (λ con. refl, λ other. absurd (other r.0))
     told_by NoticeCon r m h = (λ con. refl, λ other. absurd (other r.0))

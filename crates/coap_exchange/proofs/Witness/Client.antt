@@ -41,4 +41,9 @@ runs = (
 )
 
 pub witness : ExchangeLaw server (L.usual 0) run
-witness = record { rows = (refl, (refl, (refl, (refl, tt)))); left = left_after (L.start (L.usual 0)) below; layer = runs }
+witness = record {
+  rows = (refl, (refl, (refl, (refl, tt))));
+  left = left_after (L.start (L.usual 0)) below;
+  layer
+      = runs;
+}

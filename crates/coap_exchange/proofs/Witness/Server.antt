@@ -40,7 +40,8 @@ notification_spelled = (sendable_when_short _
     }) (omega arith)).spelled
 
 runs : Steps (L.start (L.usual 0)) below (left_after (L.start (L.usual 0)) below)
-unfolding decoded frame_fault body_at walk walk_of option_at nibbles_at value_at extended payload_at is_spelled has_spelling options_bytes option_bytes
+unfolding decoded frame_fault body_at walk walk_of option_at nibbles_at value_at extended payload_at is_spelled
+    has_spelling options_bytes option_bytes
 runs = (
   _,
   (

@@ -1,5 +1,6 @@
 //! What is due, and when (RFC 7252, sections 4.2, 4.7 and 5.2.2).
-ghost use Rattle.std.specs.Prelude.{◌≡◌, ◌≢◌, ◌≤◌, ◌<◌, ◌^◌, ℕ, max, length, Bool, true, false, Some, [], IfNone, IfSome, List};
+ghost use Rattle.std.specs.Prelude.{◌≡◌, ◌≢◌, ◌≤◌, ◌<◌, ◌^◌, ℕ, max, length, Bool, true, false, Some, [], IfNone};
+ghost use Rattle.std.specs.Prelude.{IfSome, List};
 ghost use Rattle.std.specs.Prelude.{Ok, IsOk, IfOk, OnOk, OnErr};
 ghost use Rattle.coap_types.specs.FirstMoment.{IsFirstMoment};
 ghost use Rattle.coap_types.specs.declared.endpoint.Endpoint.{Endpoint as EndpointSpec};

@@ -7,7 +7,8 @@ use Rattle.coap_types.specs.declared.message.Kind.TheVariants.{Ack}
 use Rattle.coap_types.specs.declared.role.Role.TheVariants as role
 use Rattle.coap_codec.specs.Message.{Message, Spells}
 use Rattle.coap_layer.specs.Arrivals.{Whole}
-use Rattle.coap_layer.specs.Rows.{LayerLaw, Stands, Row, Arrives, Sorts, Ignores, Outstanding, ignores_non, ignores_reset}
+use Rattle.coap_layer.specs.Rows.{LayerLaw, Stands, Row, Arrives, Sorts, Ignores, Outstanding, ignores_non}
+use Rattle.coap_layer.specs.Rows.{ignores_reset}
 use Rattle.coap_layer.specs.Rows.{ignores_ack, ignores_unmatched, ignores_new, rejects, drops, takes_ack, takes_reset}
 use Rattle.coap_layer.specs.Rows.{passes_reset, takes_answer, replays, hands_over}
 use Rattle.coap_layer.specs.Taking.{AllTakeAcks}
@@ -26,7 +27,8 @@ sorts_as setup past e from bytes m here call spells =
 
 module _ (setup : Setup) (past : List Entry) (e : Entry) (n : Incoming) (kind : n.message.kind ≡ Ack)
     (is : Outstanding past n.from n.message.id) where
-  ignored : (role_of n.message.code ≡ role.Empty) ⊎ (role_of n.message.code ≡ role.Response) → Ignores setup past e n → ⊥
+  ignored : (role_of n.message.code ≡ role.Empty) ⊎ (role_of n.message.code ≡ role.Response) → Ignores setup past e n
+      → ⊥
   ignored class (ignores_non k) = let a = k.kind in cc (kind, a)
   ignored class (ignores_reset k) = let a = k.kind in cc (kind, a)
   ignored class (ignores_ack k) = ⊎_elim (λ a. ⊎_elim (λ b. cc (a, b)) (λ b. cc (a, b)) k.class)

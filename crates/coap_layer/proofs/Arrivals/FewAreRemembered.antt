@@ -61,4 +61,5 @@ few setup (e ∷ past) law now le = go (taken e) refl (few setup past law.1 now 
     go (Some m) is fewer =
         let room = up_room setup past e m law.0 (taken_handed e m is) in
         let less = later_fewer past e.at now le in
-        one_more setup.remembered (nat_le now (e.at + exchange_lifetime)) (remembered now past) (omega (arith, room, less))
+        one_more setup.remembered (nat_le now (e.at + exchange_lifetime)) (remembered now past)
+        (omega (arith, room, less))

@@ -155,7 +155,8 @@ ack_told : (answer : Answer) (id : ℕ) → TakesAckOf id answer → acked_by an
 ack_told answer id (inl a) = ap acked_by a
 ack_told answer id (inr a) = ap acked_by a.1 ∙ ap Some a.3
 
-pub heard : (setup : Setup) (past : List Entry) (e : Entry) (from : Endpoint) (bytes : List ℕ) (id : ℕ) → Stands setup past e
+pub heard : (setup : Setup) (past : List Entry) (e : Entry) (from : Endpoint) (bytes : List ℕ) (id : ℕ)
+    → Stands setup past e
     → e.call ≡ Receive from bytes
     → TakesAckOf id e.answer → Heard bytes id
 heard setup past e from bytes id here call h =
@@ -222,7 +223,8 @@ module _ (setup : Setup) (past : List Entry) (e : Entry) (id : ℕ) where
   arrived_ack from (Faulted Rst n) only h r = not_this _ _ r.0 refl h
   arrived_ack from (Whole m) only h r = sorted_ack (record { from = from; message = m }) only h r
 
-heard_of : (setup : Setup) (past : List Entry) (e : Entry) (from : Endpoint) (bytes : List ℕ) (id : ℕ) → Stands setup past e
+heard_of : (setup : Setup) (past : List Entry) (e : Entry) (from : Endpoint) (bytes : List ℕ) (id : ℕ)
+    → Stands setup past e
     → e.call ≡ Receive from bytes → TakesAckOf id e.answer
     → (con : Open) × (con.to ≡ from) × (con.id ≡ id) × HearsAck con past e
 heard_of setup past e from bytes id here call h =

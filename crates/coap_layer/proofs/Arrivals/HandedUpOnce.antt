@@ -7,7 +7,8 @@ use Rattle.coap_types.specs.declared.message.Kind.TheVariants.{Con, Non, Ack, Rs
 use Rattle.coap_codec.specs.Message.{Message}
 use Rattle.coap_layer.specs.Arrivals.{Arrival, Unreadable, Faulted, Whole}
 use Rattle.coap_layer.specs.Trace.{Call, Receive, Reply, Confirm, Plain, Settle, Ticks, Take, Room, AsksFree, Pass}
-use Rattle.coap_layer.specs.Trace.{Dropped, Replayed, Rejected, Request, Response, Acked, Reset, Unmatched, Answer, Becomes, Entry}
+use Rattle.coap_layer.specs.Trace.{Dropped, Replayed, Rejected, Request, Response, Acked, Reset, Unmatched, Answer}
+use Rattle.coap_layer.specs.Trace.{Becomes, Entry}
 use Rattle.coap_layer.specs.Words.{Incoming, handed_by, kept_by, from_there, handed_in, taken_in, handed, taken}
 use Rattle.coap_layer.specs.Words.{Remembered, remembered}
 use Rattle.coap_layer.specs.Rows.{Stands, Row, Arrives, Sorts, HandedAs, rejects, drops, takes_ack, takes_reset}
@@ -38,7 +39,8 @@ response_up Rst n h (inr c) = absurd (cc c)
 acknowledged_up : (n : Message) → n.kind ≡ Ack → handed_by (Becomes (Response n)) ≡ None
 acknowledged_up n h = rw h refl
 
-pub handed_up : (setup : Setup) (past : List Entry) (e : Entry) (m : Incoming) → (m.message.kind ≡ Con) ⊎ (m.message.kind ≡ Non)
+pub handed_up : (setup : Setup) (past : List Entry) (e : Entry) (m : Incoming) → (m.message.kind ≡ Con)
+    ⊎ (m.message.kind ≡ Non)
     → HandedAs setup past e m → handed_by e.answer ≡ Some m.message
 handed_up setup past e m k (inl a) = ap handed_by a.2
 handed_up setup past e m k (inr (inl a)) = ap handed_by a.3

@@ -16,7 +16,8 @@ pub more : (b : Bool) (x y : ℕ) → x ≤ y → x ≤ cond b (1 + y) y
 more true x y le = omega (arith, le)
 more false x y le = le
 
-fewer : (setup : Setup) (since now : ℕ) (t : List Entry) → LayerLaw setup t → clock t ≤ now → now ≤ since + exchange_lifetime
+fewer : (setup : Setup) (since now : ℕ) (t : List Entry) → LayerLaw setup t → clock t ≤ now
+    → now ≤ since + exchange_lifetime
     → since ≡ now - exchange_lifetime
     → remembered now t ≤ came since t
 fewer setup since now [] law le till is = omega arith

@@ -16,8 +16,10 @@ use Rattle.coap_layer.specs.Rows.{LayerLaw}
 use Rattle.coap_layer.specs.Sends.{as_begun, SpellsCon}
 use Rattle.coap_layer.specs.Taking.{is_then, came, issued_since, ManySince, came_since, OverAreTaken, AreConsFor}
 use Rattle.coap_layer.specs.Taking.{IdsAreFree}
-use Rattle.coap_layer.specs.Trace.{Answer, Becomes, Nothing, Is, Sent, Busied, NoIds, Idle, Copied, Expired, Gives, Entry}
-use Rattle.coap_layer.specs.Words.{clock, Incoming, handed, hands_up, Open, begun, outstanding, issued, issued_by, numbers}
+use Rattle.coap_layer.specs.Trace.{Answer, Becomes, Nothing, Is, Sent, Busied, NoIds, Idle, Copied, Expired, Gives}
+use Rattle.coap_layer.specs.Trace.{Entry}
+use Rattle.coap_layer.specs.Words.{clock, Incoming, handed, hands_up, Open, begun, outstanding, issued, issued_by}
+use Rattle.coap_layer.specs.Words.{numbers}
 use Rattle.coap_layer.proofs.Arrivals.HandedUpOnce.{taken_handed}
 use Rattle.coap_layer.proofs.Arrivals.RoomWhenFewCome.{more}
 use Rattle.coap_layer.proofs.Between.WhatIsTaken.{kept_by}
@@ -114,7 +116,8 @@ one_issued true n k le = omega (arith, le)
 one_issued false n k le = omega (arith, le)
 
 -- what was taken, was begun before
-module _ (one other : Setup) (near far : Endpoint) (whole : List Hop) (con : Open) (near_law : LayerLaw one (near_of whole))
+module _ (one other : Setup) (near far : Endpoint) (whole : List Hop) (con : Open)
+    (near_law : LayerLaw one (near_of whole))
     (begun_there : Ever (IsBegun con) (near_of whole)) (spelled : SpellsCon con) where
   pub taken_begun : (r : List Hop) → ((P : Entry → Type 0) → Ever P (near_of r) → Ever P (near_of whole))
       → ChannelLaw one other near far r → Ever (OnFar (Takes near con)) r

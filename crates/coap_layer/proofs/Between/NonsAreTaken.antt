@@ -246,7 +246,8 @@ nons_taken one other near far all law non sent told =
 -- in time
 
 -- the entry that sends it
-sent_at : (setup : Setup) (non : SentNon) (all : List Hop) → LayerLaw setup (near_of all) → Ever (SendsNon non) (near_of all)
+sent_at : (setup : Setup) (non : SentNon) (all : List Hop) → LayerLaw setup (near_of all)
+    → Ever (SendsNon non) (near_of all)
     → (x : Entry) × Ever (OnNear (λ y. y ≡ x)) all × (x.at ≡ non.at)
     × IsIn (record { to = non.to; bytes = non.bytes }) x.out
 sent_at setup non [] law h = absurd h
@@ -286,7 +287,8 @@ module _ (one other : Setup) (near far : Endpoint) (most : ℕ) (non : SentNon) 
         call = h.call;
         from = h.from;
         till = omega (arith, till, short);
-        room = has_room other other.remembered (far_of past) law.far_law.1 (few_before other.remembered e (far_of past) few)
+        room = has_room other other.remembered (far_of past) law.far_law.1
+            (few_before other.remembered e (far_of past) few)
             e.at law.far_law.0.time;
       }))
   at_arrival (Far e ∷ past) law taken few (inr h) =

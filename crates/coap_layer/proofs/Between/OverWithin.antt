@@ -52,7 +52,8 @@ reset_in setup past e n kind class is (replays r) = absurd (⊎_elim (λ a. cc (
 reset_in setup past e n kind class is (hands_over r) = absurd (⊎_elim (λ a. cc (kind, a)) (λ a. cc (kind, a)) r.kind)
 
 -- what ends it does so
-ends : (setup : Setup) (past : List Entry) (y : Entry) (far : Endpoint) (bytes : List ℕ) (con : Open) → LayerLaw setup (y ∷ past)
+ends : (setup : Setup) (past : List Entry) (y : Entry) (far : Endpoint) (bytes : List ℕ) (con : Open)
+    → LayerLaw setup (y ∷ past)
     → y.call ≡ Receive far bytes → con.to ≡ far → EndsIt con bytes → IsOpen past con
     → ends_in y.call y.answer con.to con.id ≡ true
 ends setup past y far bytes con law call to it is_open = ⊎_elim acked reset it.kind
@@ -176,7 +177,8 @@ module _ (one other : Setup) (near far : Endpoint) where
       here_law = law_back q.later (Near q.entry ∷ r) (subst (ChannelLaw one other near far) whole law)
 
       spelled : SpellsCon con
-      spelled = forget (SpellsCon con) (near_of all) (Ever_by_law (λ past e. (c : Open) → begun e ≡ Some c → SpellsCon c)
+      spelled = forget (SpellsCon con) (near_of all) (Ever_by_law (λ past e. (c : Open) → begun e ≡ Some c
+          → SpellsCon c)
           (IsBegun con) (λ e. SpellsCon con) (λ past e l k. l.0 con k) (near_of all)
           (cons_spelled one (near_of all) law.near_law) begun_there)
 
@@ -199,9 +201,11 @@ module _ (one other : Setup) (near far : Endpoint) where
 
       open_then : IsOpen (near_of r) con
       open_then = open_before one con (near_of q.later ++ q.entry ∷ []) (near_of r)
-          (subst (LayerLaw one) (near_is ∙ sym (append_assoc (near_of q.later) (q.entry ∷ []) (near_of r))) law.near_law)
+          (subst (LayerLaw one) (near_is ∙ sym (append_assoc (near_of q.later) (q.entry ∷ []) (near_of r)))
+          law.near_law)
           begun_before
-          (subst (λ t. IsOpen t con) (near_is ∙ sym (append_assoc (near_of q.later) (q.entry ∷ []) (near_of r))) is_open)
+          (subst (λ t. IsOpen t con) (near_is ∙ sym (append_assoc (near_of q.later) (q.entry ∷ []) (near_of r)))
+          is_open)
 
       ended : EndedAfter con (near_of all)
       ended = subst (EndedAfter con) (sym near_is) (ended_later con (near_of q.later) (q.entry ∷ near_of r)

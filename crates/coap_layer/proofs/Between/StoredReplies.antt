@@ -9,7 +9,8 @@ use Rattle.coap_layer.specs.Trace.{Setup, Entry}
 use Rattle.coap_layer.specs.Words.{clock, hands_up, Remembered}
 
 -- no entry is later than the clock
-pub by_clock : (setup : Setup) (P : Entry → Type 0) (t : List Entry) (now : ℕ) → LayerLaw setup t → clock t ≤ now → Ever P t
+pub by_clock : (setup : Setup) (P : Entry → Type 0) (t : List Entry) (now : ℕ) → LayerLaw setup t → clock t ≤ now
+    → Ever P t
     → Ever (λ e. P e × (e.at ≤ now)) t
 by_clock setup P [] now law le h = h
 by_clock setup P (e ∷ past) now law le (inl h) = inl (h, le)
@@ -17,7 +18,8 @@ by_clock setup P (e ∷ past) now law le (inr h) =
     inr (by_clock setup P past now law.1 (let l = law.0.time in omega (arith, l, le)) h)
 
 -- a stored reply was given at most 247 s before
-pub since_young : (setup : Setup) (now : ℕ) (from : Endpoint) (id : ℕ) (B : Entry → Type 0) (t : List Entry) → LayerLaw setup t
+pub since_young : (setup : Setup) (now : ℕ) (from : Endpoint) (id : ℕ) (B : Entry → Type 0) (t : List Entry)
+    → LayerLaw setup t
     → Since B (λ b. hands_up from id b ≡ false) t → Remembered t now from id
     → Ever (λ b. B b × (now ≤ b.at + exchange_lifetime)) t
 since_young setup now from id B [] law h k = absurd h

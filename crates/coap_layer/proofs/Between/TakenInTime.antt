@@ -22,7 +22,8 @@ use Rattle.coap_layer.proofs.Out.EachGoesOut.{all_alike}
 use Rattle.coap_layer.proofs.Numbers.OneEntryForAnId.{begins_of}
 
 -- the entry that begins it
-begins_at : (setup : Setup) (con : Open) (all : List Hop) → LayerLaw setup (near_of all) → Ever (IsBegun con) (near_of all)
+begins_at : (setup : Setup) (con : Open) (all : List Hop) → LayerLaw setup (near_of all)
+    → Ever (IsBegun con) (near_of all)
     → (x : Entry) × Ever (OnNear (λ y. y ≡ x)) all × (x.at ≡ con.first) × IsIn (packet_of con) x.out
 begins_at setup con [] law h = absurd h
 begins_at setup con (Near e ∷ past) law (inl h) =
@@ -60,10 +61,12 @@ module _ (one other : Setup) (near far : Endpoint) (most : ℕ) (con : Open) (sh
         call = h.call;
         from = h.from;
         till = omega (arith, till, short);
-        room = has_room other other.remembered (far_of past) law.far_law.1 (few_before other.remembered e (far_of past) few) e.at law.far_law.0.time;
+        room = has_room other other.remembered (far_of past) law.far_law.1
+            (few_before other.remembered e (far_of past) few) e.at law.far_law.0.time;
       }))
   at_arrival (Far e ∷ past) law taken few (inr h) =
-      inr (at_arrival past (earlier one other near far past (Far e) law) taken.1 (few_before other.remembered e (far_of past) few) h)
+      inr (at_arrival past (earlier one other near far past (Far e) law) taken.1
+      (few_before other.remembered e (far_of past) few) h)
 
 pub cons_taken_within : (one other : Setup) (near far : Endpoint) (all : List Hop) → ChannelLaw one other near far all
     → ConsTakenWithin other.remembered near far all

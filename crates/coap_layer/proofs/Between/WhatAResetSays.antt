@@ -95,7 +95,8 @@ sorted_reset setup past e n id (hands_over r) h = absurd (up r.answer)
     up (inr (inl a)) = let b = a.3 in cc (b, h)
     up (inr (inr a)) = let b = a.1 in cc (b, h)
 
-pub arrived_reset : (setup : Setup) (past : List Entry) (e : Entry) (from : Endpoint) (bytes : List ℕ) (what : Arrival) (id : ℕ)
+pub arrived_reset : (setup : Setup) (past : List Entry) (e : Entry) (from : Endpoint) (bytes : List ℕ) (what : Arrival)
+    (id : ℕ)
     → Shows bytes what → Arrives setup past e from what → e.answer ≡ Becomes (Reset id)
     → HeardReset bytes id
 arrived_reset setup past e from bytes Unreadable id s r h = let a = r.0 in absurd (cc (a, h))

@@ -36,7 +36,8 @@ pub up_by : (from : Endpoint) (id : ℕ) (e : Entry) (m : Incoming) → taken e 
 up_by from id e m is place n = rw (hands_up, is) (both _ _ (place_same m.from from place) (grind (arith, nat_tests, n)))
 
 -- a CON that is outstanding was begun no earlier than any other to its place
-pub alone : (setup : Setup) (t : List Entry) (c d : Open) → LayerLaw setup t → IsIn c (outstanding t) → Ever (IsBegun d) t
+pub alone : (setup : Setup) (t : List Entry) (c d : Open) → LayerLaw setup t → IsIn c (outstanding t)
+    → Ever (IsBegun d) t
     → c.to ≡ d.to → d.first ≤ c.first
 alone setup [] c d law h b to = absurd h
 alone setup (e ∷ past) c d law h b to = ⊎_elim (old (λ x k l. alone setup past x d law.1 k l)) new

@@ -139,7 +139,8 @@ module _ (s : State) (at : ℕ) (from : Endpoint) (m : Message) where
 
   pub judged : (kind : Kind) (id : Id) (v : Verdict) (o r f i : Bool) → kind ≡ m.kind → id.0 ≡ m.id
       → answer_by v m ≡ up_of kind (role_of m.code) m o r f i
-      → o ≡ is_outstanding from m.id s.open_cons → r ≡ is_remembered at from m.id s.arrived → f ≡ is_full s.most at s.arrived
+      → o ≡ is_outstanding from m.id s.open_cons → r ≡ is_remembered at from m.id s.arrived → f
+      ≡ is_full s.most at s.arrived
       → i ≡ is_free at s.upcoming s.last_used
       → IsArriving s at from (Whole m) (record { kind = kind; id = id; verdict = v })
       × (answer_by v m ≡ sorted_by s at (record { from = from; message = m }))

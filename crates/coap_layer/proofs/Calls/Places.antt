@@ -58,7 +58,8 @@ unknown_there now (Some w) x true es e f h =
     ap (λ (y : Awaited). is_remembered now y.from y.id es) (sym same) ∙ h
 
 -- what `undo` would leave asks only for what the last input found
-pub before_same : {Z : Type 0} (most : ℕ) (m : Option Mark) (ids jds : IdState) (es fs : List Arrived) (cs ds : List (Sending Z)) (q r d : List Packet)
+pub before_same : {Z : Type 0} (most : ℕ) (m : Option Mark) (ids jds : IdState) (es fs : List Arrived)
+    (cs ds : List (Sending Z)) (q r d : List Packet)
     → IsWithin m es (length q)
     → fs ≡ es → open_before ds ≡ open_before cs → r ≡ q ++ d → jds ≡ ids
     → before_of most m jds fs ds r ≡ before_of most m ids es cs q
@@ -67,7 +68,8 @@ before_same most (Some m) ids jds es fs cs ds q r d w a b e i =
     let queue : take m.queued r ≡ take m.queued q = ap (take m.queued) e ∙ take-append-le m.queued q d w.0 in
     cc (a, b, queue, i)
 
-pub before_ended : {Z : Type 0} (most : ℕ) (m : Option Mark) (ids : IdState) (es : List Arrived) (cs ds : List (Sending Z)) (q : List Packet)
+pub before_ended : {Z : Type 0} (most : ℕ) (m : Option Mark) (ids : IdState) (es : List Arrived)
+    (cs ds : List (Sending Z)) (q : List Packet)
     → open_before ds ≡ open_before cs → before_of most m ids es ds q ≡ before_of most m ids es cs q
 before_ended most None ids es cs ds q e = refl
 before_ended most (Some m) ids es cs ds q e = cc e

@@ -24,7 +24,8 @@ use Rattle.coap_layer.proofs.Calls.Remembered.{unknown_filtered, upto_filtered, 
 -- what an input found, by lists that are the same
 pub same_found : (most clock : ℕ) (w : Option Awaited) (ids : IdState) (es fs : List Arrived) (cs ds : List Open)
     (q r : List Packet) → es ≡ fs → cs ≡ ds → q ≡ r
-    → Some (forgotten (state_of_parts most clock w ids es cs q)) ≡ Some (forgotten (state_of_parts most clock w ids fs ds r))
+    → Some (forgotten (state_of_parts most clock w ids es cs q))
+    ≡ Some (forgotten (state_of_parts most clock w ids fs ds r))
 same_found most clock w ids es fs cs ds q r a b d = cc (a, b, d)
 
 module _ (clock : ℕ) (es fs : List Arrived) (settled : fs ≡ filter (is_live clock) es) where
@@ -32,7 +33,8 @@ module _ (clock : ℕ) (es fs : List Arrived) (settled : fs ≡ filter (is_live 
       (ds : List (Sending Z)) (q r d : List Packet)
       → open_before ds ≡ old → r ≡ q ++ d → mark.clock.0 ≡ clock → mark.awaits ≡ awaits
       → mark.queued ≡ length q
-      → before_of most (Some mark) ids fs ds r ≡ Some (forgotten (state_of_parts most clock (awaited awaits) ids es old q))
+      → before_of most (Some mark) ids fs ds r ≡ Some (forgotten (state_of_parts most clock (awaited awaits) ids es old
+      q))
   before_grown most mark awaits ids old ds q r d opened sent c w k =
       let queue : take mark.queued r ≡ q = rw (k, sent) (take-append_seam q d) in
       let here : filter (is_live clock) fs ≡ filter (is_live clock) es =

@@ -14,7 +14,8 @@ use Rattle.coap_layer.specs.Arrivals.{Arrival, Unreadable, Faulted, Whole}
 use Rattle.coap_layer.specs.Words.{Incoming, clock, Open, ends_in, copies_in, left_by, sent_by, open_of, begun_in}
 use Rattle.coap_layer.specs.Words.{begun, outstanding, numbers}
 use Rattle.coap_layer.specs.Rows.{Busy, Stands, LayerLaw, Row, Arrives, Sorts, HandedAs, rejects, drops, takes_ack}
-use Rattle.coap_layer.specs.Rows.{takes_reset, passes_reset, takes_answer, replays, hands_over, SendsAs, RefusesIds, copies, expires}
+use Rattle.coap_layer.specs.Rows.{takes_reset, passes_reset, takes_answer, replays, hands_over, SendsAs, RefusesIds}
+use Rattle.coap_layer.specs.Rows.{copies, expires}
 use Rattle.coap_layer.specs.Rows.{rests, HasStep, Fails, CopyDue, IsFirst, Copies}
 use Rattle.coap_layer.specs.Sends.{IsIn, as_begun}
 use Rattle.coap_layer.specs.Follows.{HandedUpOnce, CopyOf, CopiesInTime, IdsApart, OneOutstanding}
@@ -122,7 +123,8 @@ not_copied : (e : Entry) (a : Answer) (to : Endpoint) (id : ℕ) → e.answer �
     → e.answer ≡ Copied to id → ⊥
 not_copied e a to id is other h = other (sym is ∙ h)
 
-copies_sorted : (setup : Setup) (past : List Entry) (e : Entry) (m : Incoming) (to : Endpoint) (id : ℕ) → Sorts setup past e m
+copies_sorted : (setup : Setup) (past : List Entry) (e : Entry) (m : Incoming) (to : Endpoint) (id : ℕ)
+    → Sorts setup past e m
     → e.answer ≡ Copied to id → ⊥
 copies_sorted setup past e m to id (rejects r) h = not_copied e _ to id r.answer (λ z. cc z) h
 copies_sorted setup past e m to id (drops r) h = not_copied e _ to id r.answer (λ z. cc z) h
@@ -138,7 +140,8 @@ copies_sorted setup past e m to id (hands_over r) h = go r.answer
     go (inr (inl a)) = not_copied e _ to id a.3 (λ z. cc z) h
     go (inr (inr a)) = not_copied e _ to id a.1 (λ z. cc z) h
 
-copies_arrived : (setup : Setup) (past : List Entry) (e : Entry) (from : Endpoint) (what : Arrival) (to : Endpoint) (id : ℕ)
+copies_arrived : (setup : Setup) (past : List Entry) (e : Entry) (from : Endpoint) (what : Arrival) (to : Endpoint)
+    (id : ℕ)
     → Arrives setup past e from what → e.answer ≡ Copied to id → ⊥
 copies_arrived setup past e from Unreadable to id r h = not_copied e _ to id r.0 (λ z. cc z) h
 copies_arrived setup past e from (Faulted Con n) to id r h = not_copied e _ to id r.0 (λ z. cc z) h
@@ -148,7 +151,8 @@ copies_arrived setup past e from (Faulted Rst n) to id r h = not_copied e _ to i
 copies_arrived setup past e from (Whole m) to id r h = copies_sorted setup past e _ to id r h
 
 copies_sent : (kind : Kind) (setup : Setup) (past : List Entry) (e : Entry) (place : Endpoint) (content : Content)
-    (to : Endpoint) (id : ℕ) → RefusesIds setup past e ⊎ SendsAs kind setup past e place content → e.answer ≡ Copied to id
+    (to : Endpoint) (id : ℕ) → RefusesIds setup past e ⊎ SendsAs kind setup past e place content → e.answer
+    ≡ Copied to id
     → ⊥
 copies_sent kind setup past e place content to id (inl r) h = not_copied e _ to id r.answer (λ z. cc z) h
 copies_sent kind setup past e place content to id (inr r) h = not_copied e _ to id r.answer (λ z. cc z) h
@@ -183,7 +187,8 @@ early now con (c ∷ cs) (inl k) a = ⊎_elim (λ f. absurd (a (subst (Fails now
     (let w = d.early in omega (arith, w))) k.1
 early now con (c ∷ cs) (inr k) a = early now con cs k.1 a
 
-copy_of : (setup : Setup) (past : List Entry) (e : Entry) (to : Endpoint) (id : ℕ) → LayerLaw setup past → Stands setup past e
+copy_of : (setup : Setup) (past : List Entry) (e : Entry) (to : Endpoint) (id : ℕ) → LayerLaw setup past
+    → Stands setup past e
     → e.answer ≡ Copied to id → CopyOf past e to id
 copy_of setup past e to id law here h =
     let r : Copies past e = copies_row setup past e e.call to id here.row h in

@@ -1,5 +1,6 @@
 -- The first moment at which a CON has a step, and one of several.
-use Rattle.std.proofs.Common.{◌≡◌, ◌≢◌, ℕ, ◌+◌, ◌-◌, ◌*◌, ◌≤◌, ◌<◌, ◌^◌, nat_le, nat_lt, Bool, true, false, Option, Some}
+use Rattle.std.proofs.Common.{◌≡◌, ◌≢◌, ℕ, ◌+◌, ◌-◌, ◌*◌, ◌≤◌, ◌<◌, ◌^◌, nat_le, nat_lt, Bool, true, false, Option}
+use Rattle.std.proofs.Common.{Some}
 use Rattle.std.proofs.Common.{None, List, [], ◌∷◌, ◌++◌, take, length, refl, ap, sym, ◌∙◌, ◌&&◌, ◌||◌, arith, subst}
 use Rattle.std.proofs.Common.{get_or, add-one, max, IfNone, IfSome}
 use Rattle.std.proofs.lemmas.List.{append-nil}

@@ -145,7 +145,8 @@ five_by : (setup : Setup) (t : List Entry) (c : Open) (n : ℕ) → LayerLaw set
 five_by setup t c zero law h = omega arith
 five_by setup [] c (suc n) law h = absurd h
 five_by setup (e ∷ past) c (suc n) law (inr h) = five_by setup past c (suc n) law.1 h
-five_by setup (e ∷ past) c (suc n) law (inl (inl b, h)) = let k = none_before setup past e c n law b h in omega (arith, k)
+five_by setup (e ∷ past) c (suc n) law (inl (inl b, h)) = let k = none_before setup past e c n law b h in omega
+    (arith, k)
 five_by setup (e ∷ past) c (suc n) law (inl (inr s, h)) =
     let q = some_in (λ x. as_begun x ≡ c) (outstanding past) s.0 in
     let k = counted_in setup past c law.1 q.0 n q.1 q.2 h in

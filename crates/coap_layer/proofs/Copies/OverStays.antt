@@ -46,7 +46,8 @@ module _ (setup : Setup) (e : Entry) (past : List Entry) (con : Open) (law : Lay
 
   here : (EndedAfter con past → IsOpen past con → ⊥) → EndedAfter con (e ∷ past) → IsOpen (e ∷ past) con → ⊥
   here before h is_open = ⊎_elim old not_new
-      (Ever_append (λ x. as_begun x ≡ con) (filter_map (left_by e) (outstanding past)) (option_to_list (begun e)) is_open)
+      (Ever_append (λ x. as_begun x ≡ con) (filter_map (left_by e) (outstanding past)) (option_to_list (begun e))
+      is_open)
     where
       old : Ever (λ x. as_begun x ≡ con) (filter_map (left_by e) (outstanding past)) → ⊥
       old k =

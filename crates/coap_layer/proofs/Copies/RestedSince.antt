@@ -1,5 +1,6 @@
 -- Where nothing was due at a tick, what is outstanding later began less than MAX_TRANSMIT_WAIT before that.
-use Rattle.std.proofs.Common.{◌≡◌, ◌⊎◌, inl, inr, ⊎_elim, ℕ, ◌+◌, ◌*◌, ◌-◌, ◌%◌, ◌≤◌, ◌<◌, Option, Some, None, List, [], ◌∷◌}
+use Rattle.std.proofs.Common.{◌≡◌, ◌⊎◌, inl, inr, ⊎_elim, ℕ, ◌+◌, ◌*◌, ◌-◌, ◌%◌, ◌≤◌, ◌<◌, Option, Some, None, List, []}
+use Rattle.std.proofs.Common.{◌∷◌}
 use Rattle.std.proofs.Common.{ap, sym, subst, arith, option_to_list}
 use Rattle.std.proofs.lemmas.Bool.{cases_lt}
 use Rattle.std.proofs.lemmas.Nat.{mod_below}
@@ -39,7 +40,8 @@ timeout_of at to content wish (Some id) c h =
     let small : wish % timeout_values < timeout_values = mod_below wish timeout_values (omega arith) in
     omega (arith, same, small)
 
-begun_timeout : (at : ℕ) (call : Call) (answer : Answer) (c : Open) → begun_in at call answer ≡ Some c → c.timeout ≤ 3000
+begun_timeout : (at : ℕ) (call : Call) (answer : Answer) (c : Open) → begun_in at call answer ≡ Some c
+    → c.timeout ≤ 3000
 begun_timeout at (Confirm to content wish) answer c h = timeout_of at to content wish (sent_by answer) c h
 begun_timeout at _ answer c h = absurd (cc h)
 
@@ -93,7 +95,8 @@ module _ (setup : Setup) (con : Open) (when : ℕ) where
 
 pub rested_since : (setup : Setup) (t : List Entry) → LayerLaw setup t → RestedSince t
 rested_since setup [] law con when h r = absurd h
-rested_since setup (e ∷ past) law con when h r = elim (Ever_append (λ y. y ≡ con) (filter_map (left_by e) (outstanding past))
+rested_since setup (e ∷ past) law con when h r = elim (Ever_append (λ y. y ≡ con)
+    (filter_map (left_by e) (outstanding past))
     (option_to_list (begun e)) h) [
       | inl old ↦ (
           let q = in_filter_map (left_by e) con (outstanding past) old in

@@ -1,5 +1,6 @@
 -- What a datagram shows, as a relation and as a function.
-use Rattle.std.proofs.Common.{◌≡◌, inl, inr, ℕ, Bool, true, false, Option, Some, None, List, [], ◌∷◌, Result, Ok, Err, refl}
+use Rattle.std.proofs.Common.{◌≡◌, inl, inr, ℕ, Bool, true, false, Option, Some, None, List, [], ◌∷◌, Result, Ok, Err}
+use Rattle.std.proofs.Common.{refl}
 use Rattle.std.proofs.Common.{ap, sym, ◌∙◌, cond}
 use Rattle.std.proofs.lemmas.Bool.{lt-ltb}
 use Rattle.coap_types.specs.declared.message.Id.{Id}
@@ -88,7 +89,8 @@ module _ (bytes : List ℕ) where
 
   pub one_arrival : (what : Arrival) → Shows bytes what → what ≡ arrival_at bytes
   one_arrival (Whole m) h =
-      sym (ap (arrival_of bytes) (spelled_decoded bytes m h) ∙ ap (λ b. cond b (Whole m) Unreadable) (spelled_it bytes m h))
+      sym (ap (arrival_of bytes) (spelled_decoded bytes m h) ∙ ap (λ b. cond b (Whole m) Unreadable)
+      (spelled_it bytes m h))
   one_arrival (Faulted kind id) h = fault_is (Faulted kind id) h
   one_arrival Unreadable (inl h) = fault_is Unreadable h
   one_arrival Unreadable (inr h) = neither_is (decoded bytes) refl h

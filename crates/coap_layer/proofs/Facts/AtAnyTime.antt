@@ -25,7 +25,8 @@ module _ (one other : Setup) (near far : Endpoint) where
   pub earlier : (past : List Hop) (h : Hop) → FairLaw one other near far (h ∷ past) → FairLaw one other near far past
   earlier = any.earlier one other near far
 
-  pub begun_so : (past : List Hop) (x : Entry) (bytes : List ℕ) (m : Message) → FairLaw one other near far (Far x ∷ past)
+  pub begun_so : (past : List Hop) (x : Entry) (bytes : List ℕ) (m : Message)
+      → FairLaw one other near far (Far x ∷ past)
       → x.call ≡ Receive near bytes → Spells bytes m → m.kind ≡ Con → BegunSo far bytes m.id (near_of past)
   begun_so = any.begun_so one other near far
 

@@ -15,7 +15,8 @@ pub free_on : (upcoming : ℕ) (uses : List (Option ℕ)) → HoldsOn (λ now. i
 free_on upcoming uses now later le =
     on (not (upcoming % group_size == 0)) (slice_get uses (upcoming / group_size))
   where
-    on : (b : Bool) (group : Option (Option ℕ)) → (b || is_rested now group) ≡ true → (b || is_rested later group) ≡ true
+    on : (b : Bool) (group : Option (Option ℕ)) → (b || is_rested now group) ≡ true → (b || is_rested later group)
+        ≡ true
     on true group h = refl
     on false (Some (Some last)) h = let less = lt_true (last + id_reuse_after) now h in
         true_lt (last + id_reuse_after) later (omega (arith, less, le))

@@ -8,7 +8,8 @@ use Rattle.coap_codec.specs.Message.{Message, Spells}
 use Rattle.coap_layer.specs.Channel.{Hop, Far, near_of, BegunAs}
 use Rattle.coap_layer.specs.Clocks.{Clocks, turned, one_clock, max_gain, KeepPace}
 use Rattle.coap_layer.specs.OneClock as single
-use Rattle.coap_layer.specs.Paced.{Meanwhile, CanArrive, ChannelLaw, ArrivesAsSent, NonsSent, HandedOnce, OnlyThatCon, ConsApart}
+use Rattle.coap_layer.specs.Paced.{Meanwhile, CanArrive, ChannelLaw, ArrivesAsSent, NonsSent, HandedOnce, OnlyThatCon}
+use Rattle.coap_layer.specs.Paced.{ConsApart}
 use Rattle.coap_layer.specs.Paced.{AcksReplied, AcksTaken, AcksLately, AcksBehind}
 use Rattle.coap_layer.specs.Rested.{RestedSince}
 use Rattle.coap_layer.specs.Rows.{LayerLaw}
@@ -31,7 +32,8 @@ pub near_gap : (c : Clocks) → KeepPace c → (i j n : ℕ) → n ≤ exchange_
     → c.near j ≤ c.near i + n + max_gain
 near_gap = gaps.near_gap
 
-pub arrives_before : (c : Clocks) → KeepPace c → (first at then i : ℕ) → CanArrive c first then → at ≤ then → c.far i ≡ at
+pub arrives_before : (c : Clocks) → KeepPace c → (first at then i : ℕ) → CanArrive c first then → at ≤ then → c.far i
+    ≡ at
     → first ≤ c.near i → CanArrive c first at
 arrives_before = takings.arrives_before
 

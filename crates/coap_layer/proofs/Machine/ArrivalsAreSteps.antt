@@ -309,7 +309,8 @@ module _ (setup : Setup) (t : List Entry) where
         → (e.answer ≡ Becomes (sorted_by h e.at m)) × (e.out ≡ replay h e.at m (sorted_by h e.at m))
     received law le w =
         let a : e.answer ≡ Becomes (sorted_by h e.at m) =
-        answer_is _ _ _ _ (outstanding_is setup t m.from m.message.id) (known_is setup t e.at m.from m.message.id) (full_is setup t e.at)
+        answer_is _ _ _ _ (outstanding_is setup t m.from m.message.id) (known_is setup t e.at m.from m.message.id)
+        (full_is setup t e.at)
         (free_here setup t law e.at) w in
         (a, out_is law le w ∙ ap told a)
 
@@ -355,7 +356,8 @@ module _ (setup : Setup) (t : List Entry) where
     receives : LayerLaw setup t → clock t ≤ e.at → e.answer ≡ Becomes (sorted_by h e.at m)
         → e.out ≡ replay h e.at m (sorted_by h e.at m) → Sorts setup t e m
     receives law le a o =
-        arrives k_is c_is _ _ _ _ refl refl (outstanding_is setup t m.from m.message.id) (known_is setup t e.at m.from m.message.id)
+        arrives k_is c_is _ _ _ _ refl refl (outstanding_is setup t m.from m.message.id)
+        (known_is setup t e.at m.from m.message.id)
         (full_is setup t e.at) (free_here setup t law e.at) a (
           (λ z. o ∙ ap told (sym a ∙ z)),
           (λ z. o ∙ (ap told (sym a ∙ z) ∙ stored_is setup t e.at m law le

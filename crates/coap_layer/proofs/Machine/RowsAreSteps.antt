@@ -166,12 +166,14 @@ module _ (setup : Setup) (t : List Entry) where
   row_of e Pass law le at may a o = (a, o)
 
 -- one answer and one sending for each call
-pub exact : (setup : Setup) (past : List Entry) (e f : Entry) → LayerLaw setup past → Stands setup past e → Stands setup past f
+pub exact : (setup : Setup) (past : List Entry) (e f : Entry) → LayerLaw setup past → Stands setup past e
+    → Stands setup past f
     → e.call ≡ f.call → e.at ≡ f.at → (e.answer ≡ f.answer) × (e.out ≡ f.out)
 exact setup past e f law one two call at =
     let a = right_of setup past e e.call law one.time one.row in
     let b = right_of setup past f f.call law two.time two.row in (
       a.0 ∙ (ap (λ x. answer_of (history setup past) x e.call) at
           ∙ (ap (answer_of (history setup past) f.at) call ∙ sym b.0)),
-      a.1 ∙ (ap (λ x. out_of (history setup past) x e.call) at ∙ (ap (out_of (history setup past) f.at) call ∙ sym b.1)),
+      a.1 ∙ (ap (λ x. out_of (history setup past) x e.call) at
+          ∙ (ap (out_of (history setup past) f.at) call ∙ sym b.1)),
     )

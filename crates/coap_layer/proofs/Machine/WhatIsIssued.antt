@@ -15,7 +15,8 @@ use Rattle.coap_layer.specs.Trace.{Content, Call, Receive, Reply, Confirm, Plain
 use Rattle.coap_layer.specs.Trace.{Pass, Answer, Sent, Entry}
 use Rattle.coap_layer.specs.Words.{Incoming, clock, issued_by, issued, numbers}
 use Rattle.coap_layer.specs.Rows.{LayerLaw, Row, Arrives, Sorts, HandedAs, rejects, drops, takes_ack, takes_reset}
-use Rattle.coap_layer.specs.Rows.{passes_reset, takes_answer, replays, hands_over, SendsAs, RefusesIds, Turns, copies, expires, rests}
+use Rattle.coap_layer.specs.Rows.{passes_reset, takes_answer, replays, hands_over, SendsAs, RefusesIds, Turns, copies}
+use Rattle.coap_layer.specs.Rows.{expires, rests}
 use Rattle.coap_layer.specs.Machine.State.{next_after, uses_after, next_id, uses, is_rested, is_free}
 use Rattle.coap_types.specs.declared.transmission.TheConstants.{ID_REUSE_AFTER_MS as id_reuse_after}
 use Rattle.coap_layer.specs.declared.message_id.TheConstants.{GROUP_SIZE as group_size}
@@ -113,7 +114,8 @@ next_in word (g ∷ gs) past = refl
 
 pub next_is : (setup : Setup) (t : List Entry) → next_id setup t ≡ upcoming setup.word (numbers t)
 next_is setup [] = refl
-next_is setup (e ∷ past) = ap (next_after (issued e)) (next_is setup past) ∙ sym (next_in setup.word (issued e) (numbers past))
+next_is setup (e ∷ past) = ap (next_after (issued e)) (next_is setup past)
+    ∙ sym (next_in setup.word (issued e) (numbers past))
 
 uses_in : (word : ℕ) (gs past : List Issued) (us : List (Option ℕ)) → NumbersLaw word (gs ++ past) → AreUses past us
     → AreUses (gs ++ past) (uses_after gs us)
@@ -133,7 +135,8 @@ none_used (suc n) (suc group) le = none_used n group (omega (arith, le))
 
 pub uses_are : (setup : Setup) (t : List Entry) → LayerLaw setup t → AreUses (numbers t) (uses t)
 uses_are setup [] law = λ group le. none_used 16 group le
-uses_are setup (e ∷ past) law = uses_in setup.word (issued e) (numbers past) (uses past) (numbers_law setup (e ∷ past) law)
+uses_are setup (e ∷ past) law = uses_in setup.word (issued e) (numbers past) (uses past)
+    (numbers_law setup (e ∷ past) law)
     (uses_are setup past law.1)
 
 -- the test, and what it decides

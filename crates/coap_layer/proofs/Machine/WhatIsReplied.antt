@@ -139,7 +139,8 @@ module _ (now : ℕ) (from : Endpoint) (id : ℕ) where
               ∙ shape (reply_in from id e.call) (was_con from id past) (replied from id past)))),
         )
 
-    new_found : (setup : Setup) (m : Incoming) (b : Bool) → is_from from id m ≡ b → taken e ≡ Some m → Stands setup past e
+    new_found : (setup : Setup) (m : Incoming) (b : Bool) → is_from from id m ≡ b → taken e ≡ Some m
+        → Stands setup past e
         → e.at ≤ now
         → list_any (is_of now from id) (stored_xs ++ newly e.at (Some m)) ≡ true
         → (is_remembered now from id (arrivals past) ≡ true → Found past)

@@ -146,7 +146,8 @@ no_plain setup t c at law a b before after =
     both e k = let b = begins_of e c k.0 in let p = k.1.call in let q = b.call_is in cc (p, q)
 
 -- a CON is begun once
-pub begun_once : (setup : Setup) (past : List Entry) (e : Entry) (c : Open) → LayerLaw setup (e ∷ past) → begun e ≡ Some c
+pub begun_once : (setup : Setup) (past : List Entry) (e : Entry) (c : Open) → LayerLaw setup (e ∷ past) → begun e
+    ≡ Some c
     → Ever (IsBegun c) past → ⊥
 begun_once setup past e c law h k = fresh setup past e (number_of c) law (begun_number e c h)
     (given_there (number_of c) (number_of c) refl (omega arith) (IsBegun c) (λ x. begun_number x c) past k)

@@ -14,7 +14,8 @@ use Rattle.coap_layer.specs.Trace.{Take, Room, AsksFree, Pass, Answer, Copied, E
 use Rattle.coap_layer.specs.Words.{Incoming, is_con, was_con, hands_up, reply_in, replied, Open, sent_by, open_of}
 use Rattle.coap_layer.specs.Words.{begun_in, begun, outstanding, numbers, copies_in}
 use Rattle.coap_layer.specs.Rows.{Stands, LayerLaw, Row, Arrives, Sorts, rejects, drops, takes_ack, takes_reset}
-use Rattle.coap_layer.specs.Rows.{passes_reset, takes_answer, replays, hands_over, IsSpelled, Confirms, SendsAs, RefusesIds, copies}
+use Rattle.coap_layer.specs.Rows.{passes_reset, takes_answer, replays, hands_over, IsSpelled, Confirms, SendsAs}
+use Rattle.coap_layer.specs.Rows.{RefusesIds, copies}
 use Rattle.coap_layer.specs.Rows.{expires, rests, HasStep, Fails, CopyDue, Copies}
 use Rattle.coap_layer.specs.Sends.{IsIn, as_begun, SendsIt, packet_of, GoesAlike, AllAlike, SpellsCon, ConsSpelled}
 use Rattle.coap_layer.specs.Sends.{GoesOut, first, copy, plain, reply, reset, EachGoesOut, Begins}
@@ -34,7 +35,8 @@ pub record ConGoes (e : Entry) (c : Open) : Type 0 where
   pub out : e.out ≡ packet_of c ∷ []
   pub spells : SpellsCon c
 
-con_row : (setup : Setup) (past : List Entry) (e : Entry) (c : Open) → Stands setup past e → begun e ≡ Some c → ConGoes e c
+con_row : (setup : Setup) (past : List Entry) (e : Entry) (c : Open) → Stands setup past e → begun e ≡ Some c
+    → ConGoes e c
 con_row setup past e c here h = go row.1
   where
     b : Begins e.at e.call e.answer c
@@ -235,7 +237,8 @@ module _ (setup : Setup) (past : List Entry) (e : Entry) (p : Packet) (law : Lay
         id = r.id;
         call = call;
         answer = r.answer;
-        spells = spelled Non r.id (let k = r.gives.next in let l = small setup.word (numbers past) in omega (arith, k, l));
+        spells = spelled Non r.id (let k = r.gives.next in let l = small setup.word (numbers past) in omega
+            (arith, k, l));
       }))
 
   copied_out : e.call ≡ Ticks → Copies past e → GoesOut past e p

@@ -211,7 +211,8 @@ module _ (c : Clocks) (one other : Setup) (near far : Endpoint) (whole : List Ho
             let b : Meanwhile c y.at (near_of t) (λ when. BegunAs far u.bytes up.message.id when (near_of t)) =
             begun_as c one other near far t y u.bytes w.law call up.message u.spells r.con_there in
             let k_is : c.far b.instant ≡ k.at = b.shown ∙ z.1 in
-            let d = this_con t u.bytes up.message.id (c.near b.instant) (down t (Far y) w) b.so (r.of.id_is ∙ r.id_there)
+            let d = this_con t u.bytes up.message.id (c.near b.instant) (down t (Far y) w) b.so
+            (r.of.id_is ∙ r.id_there)
             (lately b.instant k.at k_is after) in
             record { instant = b.instant; shown = k_is; from = d.0; till = d.1 }
 
@@ -223,11 +224,13 @@ module _ (c : Clocks) (one other : Setup) (near far : Endpoint) (whole : List Ho
 
     -- a stored reply: a copy of the CON came
     again_here : (q : List Hop) (k : Entry) → P (Far k ∷ q) → c.far now ≤ k.at + max_latency
-        → (r : StoredOut (far_of q) k (record { to = near; bytes = bytes })) → r.message.id ≡ m.id → CanArrive c con.first k.at
+        → (r : StoredOut (far_of q) k (record { to = near; bytes = bytes })) → r.message.id ≡ m.id
+        → CanArrive c con.first k.at
     again_here q k p after r is =
         let came_again : Meanwhile c k.at (near_of q) (λ when. BegunAs far r.bytes r.message.id when (near_of q)) =
         begun_as c one other near far q k r.bytes p.law r.call r.message r.spells r.kind in
-        let d = this_con q r.bytes r.message.id (c.near came_again.instant) (down q (Far k) p) came_again.so (is ∙ id_is)
+        let d = this_con q r.bytes r.message.id (c.near came_again.instant) (down q (Far k) p) came_again.so
+        (is ∙ id_is)
         (lately came_again.instant k.at came_again.shown after) in
         record { instant = came_again.instant; shown = came_again.shown; from = d.0; till = d.1 }
 
@@ -267,7 +270,8 @@ module _ (c : Clocks) (one other : Setup) (near far : Endpoint) (whole : List Ho
       till = t.till;
     }
 
-    gave_lately : (q : List Hop) (h : Hop) → P (h ∷ q) → OnFar (GaveOut near bytes (c.far now)) h → Lately c con.first x.at
+    gave_lately : (q : List Hop) (h : Hop) → P (h ∷ q) → OnFar (GaveOut near bytes (c.far now)) h
+        → Lately c con.first x.at
     gave_lately q (Near k) p g = absurd g
     gave_lately q (Far k) p g = go (comes other (far_of q) k packet m p.law.far_law p.law.far_replies spells
         (goes_out other (far_of q) k packet p.law.far_law g.out))
@@ -310,7 +314,8 @@ module _ (c : Clocks) (one other : Setup) (near far : Endpoint) (whole : List Ho
       (by_suffix (Part c one other near far whole) (λ q k. OnFar (GaveOut near h.bytes (c.far came.instant)) k)
       (λ q k. Sometime (OnFarThen (RepliesTo c near con h.bytes)) (k ∷ q))
       (down c one other near far whole x con all_law to_is h.is_outstanding came.instant came.shown)
-      (gave c one other near far whole x con all_law to_is h.is_outstanding came.instant came.shown r.message r.kind r.id_is
+      (gave c one other near far whole x con all_law to_is h.is_outstanding came.instant came.shown r.message r.kind
+      r.id_is
       h.bytes r.spells) whole
       (record { law = earlier c one other near far whole (Near x) all_law; later = []; is = refl })
       (Sometime_of_Ever _ whole came.so))
@@ -332,14 +337,16 @@ module _ (c : Clocks) (one other : Setup) (near far : Endpoint) (whole : List Ho
         (by_suffix (Part c one other near far whole) (λ q k. OnFar (GaveOut near h.bytes (c.far came_in.instant)) k)
         (λ q k. Lately c con.first x.at)
         (down c one other near far whole x con all_law to_is h.is_outstanding came_in.instant came_in.shown)
-        (gave_lately c one other near far whole x con all_law to_is h.is_outstanding came_in.instant came_in.shown r.message
+        (gave_lately c one other near far whole x con all_law to_is h.is_outstanding came_in.instant came_in.shown
+        r.message
         r.kind r.id_is h.bytes r.spells) whole part_whole (Sometime_of_Ever _ whole came_in.so)))
 
     ack_behind : Sometime (RepliedBehind c near con h.bytes) whole
     ack_behind = by_suffix (Part c one other near far whole) (OnFarThen (RepliesTo c near con h.bytes))
         (RepliedBehind c near con h.bytes)
         (down c one other near far whole x con all_law to_is h.is_outstanding came_in.instant came_in.shown)
-        (replied_behind c one other near far whole x con all_law to_is h.is_outstanding came_in.instant came_in.shown h.bytes)
+        (replied_behind c one other near far whole x con all_law to_is h.is_outstanding came_in.instant came_in.shown
+        h.bytes)
         whole part_whole (ack_replied h)
 
 pub acks_lately : (c : Clocks) (one other : Setup) (near far : Endpoint) (all : List Hop)

@@ -18,11 +18,13 @@ use Rattle.coap_layer.proofs.Out.EachGoesOut.{goes_out}
 
 -- what comes in time, by two clocks, comes
 
-on_far : (to : Endpoint) (bytes : List ℕ) (when : ℕ) (h : Hop) → OnFar (GaveOut to bytes when) h → OnFar (WasOut to bytes) h
+on_far : (to : Endpoint) (bytes : List ℕ) (when : ℕ) (h : Hop) → OnFar (GaveOut to bytes when) h
+    → OnFar (WasOut to bytes) h
 on_far to bytes when (Near e) k = absurd k
 on_far to bytes when (Far e) k = k.out
 
-on_near : (to : Endpoint) (bytes : List ℕ) (when : ℕ) (h : Hop) → OnNear (GaveOut to bytes when) h → OnNear (WasOut to bytes) h
+on_near : (to : Endpoint) (bytes : List ℕ) (when : ℕ) (h : Hop) → OnNear (GaveOut to bytes when) h
+    → OnNear (WasOut to bytes) h
 on_near to bytes when (Near e) k = k.out
 on_near to bytes when (Far e) k = absurd k
 
@@ -70,7 +72,8 @@ module _ (one other : Setup) (near far : Endpoint) where
     fair = law.fair.1;
   }
 
-  each_hop : (C : List Hop → Hop → Type 0) → ((past : List Hop) (h : Hop) → FairLaw one other near far (h ∷ past) → C past h)
+  each_hop : (C : List Hop → Hop → Type 0) → ((past : List Hop) (h : Hop) → FairLaw one other near far (h ∷ past)
+      → C past h)
       → (all : List Hop) → FairLaw one other near far all → Always C all
   each_hop C f [] law = tt
   each_hop C f (h ∷ past) law = (f past h law, each_hop C f past (earlier past h law))
@@ -136,7 +139,8 @@ module _ (one other : Setup) (near far : Endpoint) where
       (λ t b l g. goes_out one t b _ l g) (near_of past) law.near_law
       (Sometime_of_Ever _ (near_of past) (near_ever _ past (law.fair.0 bytes call))))
 
-  pub begun_so : (past : List Hop) (x : Entry) (bytes : List ℕ) (m : Message) → FairLaw one other near far (Far x ∷ past)
+  pub begun_so : (past : List Hop) (x : Entry) (bytes : List ℕ) (m : Message)
+      → FairLaw one other near far (Far x ∷ past)
       → x.call ≡ Receive near bytes → Spells bytes m → m.kind ≡ Con → BegunSo far bytes m.id (near_of past)
   begun_so past x bytes m law call spells con = by (came past x bytes m law call spells)
     where
@@ -146,7 +150,8 @@ module _ (one other : Setup) (near far : Endpoint) where
       by (reply_came (inl k)) = absurd (cc (k, con))
       by (reply_came (inr k)) = absurd (cc (k, con))
 
-  pub plain_sent : (past : List Hop) (x : Entry) (bytes : List ℕ) (m : Message) → FairLaw one other near far (Far x ∷ past)
+  pub plain_sent : (past : List Hop) (x : Entry) (bytes : List ℕ) (m : Message)
+      → FairLaw one other near far (Far x ∷ past)
       → x.call ≡ Receive near bytes → Spells bytes m → m.kind ≡ Non
       → Ever (λ b. PlainOut b (record { to = far; bytes = bytes })) (near_of past)
   plain_sent past x bytes m law call spells non = by (came past x bytes m law call spells)
@@ -167,4 +172,5 @@ module _ (one other : Setup) (near far : Endpoint) where
 
   pub nons_sent : (all : List Hop) → FairLaw one other near far all → NonsSent near far all
   nons_sent all law = each_hop one other near far _
-      (λ past h l x bytes m is call spells non. plain_sent past x bytes m (at_hop past h x l is) call spells non) all law
+      (λ past h l x bytes m is call spells non. plain_sent past x bytes m (at_hop past h x l is) call spells non) all
+      law

@@ -1,5 +1,6 @@
 -- What two layers do together that have one clock.
-use Rattle.std.proofs.Common.{◌-◌, ◌≡◌, inl, inr, ℕ, ◌+◌, ◌≤◌, Some, None, List, [], ◌∷◌, refl, ap, sym, subst, ◌∙◌, arith}
+use Rattle.std.proofs.Common.{◌-◌, ◌≡◌, inl, inr, ℕ, ◌+◌, ◌≤◌, Some, None, List, [], ◌∷◌, refl, ap, sym, subst, ◌∙◌}
+use Rattle.std.proofs.Common.{arith}
 use Rattle.coap_types.specs.Past.{Ever, Sometime, Since, Always}
 use Rattle.coap_types.proofs.Facts.Traces.{Ever_map, Sometime_map}
 use Rattle.coap_types.specs.declared.endpoint.Endpoint.{Endpoint}
@@ -7,7 +8,8 @@ use Rattle.coap_types.specs.declared.message.Kind.TheVariants.{Con, Non}
 use Rattle.coap_types.specs.declared.transmission.TheConstants.{ID_REUSE_AFTER_MS as id_reuse_after}
 use Rattle.coap_types.specs.declared.transmission.TheConstants.{LAST_ARRIVAL_MS as last_arrival}
 use Rattle.coap_codec.specs.Message.{Message, Spells}
-use Rattle.coap_layer.specs.Channel.{Hop, Near, Far, near_of, far_of, OnFarThen, SentSo, ArrivesAsSent, BegunAs, ConsBegun}
+use Rattle.coap_layer.specs.Channel.{Hop, Near, Far, near_of, far_of, OnFarThen, SentSo, ArrivesAsSent, BegunAs}
+use Rattle.coap_layer.specs.Channel.{ConsBegun}
 use Rattle.coap_layer.specs.Channel.{PlainSent, NonsSent, Takes, RepliesTo, AcksReplied}
 use Rattle.coap_layer.specs.Clocks.{Clocks, turned, one_clock, max_gain, KeepsPace, KeepPace}
 use Rattle.coap_layer.specs.Machine.Calls.{IsBegun}
@@ -90,7 +92,8 @@ module _ (one other : Setup) (near far : Endpoint) (whole past : List Hop) (x : 
       → x.at ≤ con.first + id_reuse_after → con.first ≤ x.at + (id_reuse_after - last_arrival) → Takes near con x
   takes_it m up place id after before = takes_now near con x
       (takings.takes_it one_clock one other near far whole past x con near_law law lift begun m up place id (record {
-        after = λ i is. (let s : i ≡ x.at = is in let k : i ≤ con.first + id_reuse_after = omega (arith, after, s) in k);
+        after = λ i is. (let s : i ≡ x.at = is in let k : i ≤ con.first + id_reuse_after = omega (arith, after, s) in
+            k);
         before = λ i is. (let s : i ≡ x.at = is in
             let k : con.first ≤ i + (id_reuse_after - last_arrival) = omega (arith, before, s) in k);
       }))
@@ -135,7 +138,8 @@ module _ (one other : Setup) (near far : Endpoint) where
 
   pub nons_sent : (all : List Hop) → ChannelLaw one other near far all → NonsSent near far all
   nons_sent all law = facts.each_hop one_clock one other near far _
-      (λ past h l x bytes m is call spells non. plain_sent past x bytes m (at_hop past h x l is) call spells non) all law
+      (λ past h l x bytes m is call spells non. plain_sent past x bytes m (at_hop past h x l is) call spells non) all
+      law
 
   pub acks_replied : (all : List Hop) → ChannelLaw one other near far all → AcksReplied near far all
   acks_replied all law = always_map _ _ all (acks.acks_replied one_clock one other near far all law)
@@ -144,7 +148,8 @@ module _ (one other : Setup) (near far : Endpoint) where
   pub replied_once : (all : List Hop) → ChannelLaw one other near far all → RepliedOnce near all
   replied_once all law con begun bytes other_bytes = always_map _ _ all
       (replied.replied_once one_clock one other near far all law con begun bytes other_bytes)
-      (λ past h r now before. r (replies_then near con bytes past h now) (replied_then near con other_bytes past before))
+      (λ past h r now before. r (replies_then near con bytes past h now)
+      (replied_then near con other_bytes past before))
 
   pub resets_meant : (all : List Hop) → ChannelLaw one other near far all → ResetsMeant near far all
   resets_meant all law =

@@ -51,7 +51,8 @@ first_begun : (old new : Open) (t : List Entry) → Sometime (Order old new) t �
 first_begun old new t h = Ever_of_Sometime (Order old new) (IsBegun old) (λ p e z. inr z.1) t h
 
 -- where another CON to its place was begun since, it isn't outstanding
-not_open : (setup : Setup) (old new : Open) (t : List Entry) → old.to ≡ new.to → LayerLaw setup t → Sometime (Order old new) t
+not_open : (setup : Setup) (old new : Open) (t : List Entry) → old.to ≡ new.to → LayerLaw setup t
+    → Sometime (Order old new) t
     → IsOpen t old → ⊥
 not_open setup old new [] to law h o = h
 not_open setup old new (e ∷ past) to law h o =
@@ -93,12 +94,14 @@ not_open setup old new (e ∷ past) to law h o =
     before (inr k) f z = f k (still (outstanding past) z)
 
 -- so it isn't sent any more, and not by that entry
-not_sent : (setup : Setup) (old new : Open) (past : List Entry) (e : Entry) → old.to ≡ new.to → LayerLaw setup (e ∷ past)
+not_sent : (setup : Setup) (old new : Open) (past : List Entry) (e : Entry) → old.to ≡ new.to
+    → LayerLaw setup (e ∷ past)
     → Sometime (Order old new) past → SendsIt old past e → ⊥
 not_sent setup old new past e to law h (inl b) = begun_once setup past e old law b (first_begun old new past h)
 not_sent setup old new past e to law h (inr o) = not_open setup old new past to law.1 h o.0
 
-not_both : (setup : Setup) (old new : Open) (past : List Entry) (e : Entry) → LayerLaw setup (e ∷ past) → Order old new past e
+not_both : (setup : Setup) (old new : Open) (past : List Entry) (e : Entry) → LayerLaw setup (e ∷ past)
+    → Order old new past e
     → SendsIt old past e → ⊥
 not_both setup old new past e law k (inl b) = begun_once setup past e old law b k.1
 not_both setup old new past e law k (inr o) = let c = copied_by e.call e.answer old.to old.id o.1 in let s =
@@ -202,11 +205,13 @@ module _ (c : Clocks) (one other : Setup) (near far : Endpoint) (old new : Open)
   same_place_is past h = forget (old.to ≡ new.to) past
       (Ever_of_Sometime (OnNearAfter (Follows c near old new)) (λ x. old.to ≡ new.to) to_here past h)
     where
-      to_here : (p : List Hop) (x : Hop) → OnNearAfter (Follows c near old new) p x → Ever (λ y. old.to ≡ new.to) (x ∷ p)
+      to_here : (p : List Hop) (x : Hop) → OnNearAfter (Follows c near old new) p x
+          → Ever (λ y. old.to ≡ new.to) (x ∷ p)
       to_here p (Near e) k = inl k.to_is
       to_here p (Far e) k = absurd k
 
-  old_begun : (past : List Hop) → Sometime (OnNearAfter (Follows c near old new)) past → Ever (IsBegun old) (near_of past)
+  old_begun : (past : List Hop) → Sometime (OnNearAfter (Follows c near old new)) past
+      → Ever (IsBegun old) (near_of past)
   old_begun [] h = absurd h
   old_begun (Near e ∷ past) (inl h) = inr h.begun_before
   old_begun (Near e ∷ past) (inr h) = inr (old_begun past h)
@@ -241,7 +246,8 @@ module _ (c : Clocks) (one other : Setup) (near far : Endpoint) (old new : Open)
           (λ p e l k. let f = (begins_of e new k.0.0.0).first_is in too_old e p (omega (arith, f, since)) k.0.1 k.1)
           past law
 
-  new_begun : (past : List Hop) → Sometime (OnNearAfter (Follows c near old new)) past → Ever (IsBegun new) (near_of past)
+  new_begun : (past : List Hop) → Sometime (OnNearAfter (Follows c near old new)) past
+      → Ever (IsBegun new) (near_of past)
   new_begun [] h = absurd h
   new_begun (Near e ∷ past) (inl h) = inl h.begins
   new_begun (Near e ∷ past) (inr h) = inr (new_begun past h)

@@ -183,7 +183,8 @@ module _ (c : Clocks) (one other : Setup) (near far : Endpoint) (whole : List Ho
             go (reply_came (inl kind)) = absurd (⊎_elim (λ a. cc (a, kind)) (λ a. cc (a, kind)) u.kind)
             go (reply_came (inr kind)) = absurd (⊎_elim (λ a. cc (a, kind)) (λ a. cc (a, kind)) u.kind)
 
-    replied : (q : List Hop) (k : Entry) (id : ℕ) → P (Far k ∷ q) → IsNear c con.first k.at → k.call ≡ Reply near id bytes
+    replied : (q : List Hop) (k : Entry) (id : ℕ) → P (Far k ∷ q) → IsNear c con.first k.at → k.call
+        ≡ Reply near id bytes
         → awaits (far_of q) ≡ Some (record { from = near; id = id }) → (a : RepliesAtOnce (far_of q) k.at id bytes)
         → Replied q k id
     replied q k id p close call awaited a =
@@ -213,7 +214,8 @@ module _ (c : Clocks) (one other : Setup) (near far : Endpoint) (whole : List Ho
         → (r : ReplyOut (far_of q) k (record { to = near; bytes = bytes })) → R q (Far k)
     given q k p before after r =
         let close = close_to k.at before after in
-        replies_to q k r.id p (replied q k r.id p close r.call r.awaited (p.law.far_replies.0 near r.id bytes r.call)) close
+        replies_to q k r.id p (replied q k r.id p close r.call r.awaited (p.law.far_replies.0 near r.id bytes r.call))
+        close
 
     -- a stored reply
     stored_again : (q : List Hop) (k : Entry) → P (Far k ∷ q) → c.far now ≤ k.at + max_latency
@@ -231,7 +233,8 @@ module _ (c : Clocks) (one other : Setup) (near far : Endpoint) (whole : List Ho
 
         here : CanArrive c con.first k.at
         here =
-            let d = this_con q r.bytes r.message.id (c.near came_again.instant) (down q (Far k) p) came_again.so (is ∙ id_is)
+            let d = this_con q r.bytes r.message.id (c.near came_again.instant) (down q (Far k) p) came_again.so
+            (is ∙ id_is)
             (lately came_again.instant k.at came_again.shown after) in
             record { instant = came_again.instant; shown = came_again.shown; from = d.0; till = d.1 }
 
@@ -290,7 +293,8 @@ module _ (c : Clocks) (one other : Setup) (near far : Endpoint) (whole : List Ho
         packet : Packet
         packet = record { to = near; bytes = bytes }
 
-        not_con_out : (d : Open) → (s : SpellsCon d) → packet ≡ record { to = d.to; bytes = d.bytes } → Sometime R (Far k ∷ q)
+        not_con_out : (d : Open) → (s : SpellsCon d) → packet ≡ record { to = d.to; bytes = d.bytes }
+            → Sometime R (Far k ∷ q)
         not_con_out d s is =
             let same : s.0 ≡ m = one_message bytes s.0 m
             (subst (λ (y : List ℕ). Spells y s.0) (sym (ap (λ (y : Packet). y.bytes) is)) s.1) spells in
@@ -305,8 +309,10 @@ module _ (c : Clocks) (one other : Setup) (near far : Endpoint) (whole : List Ho
 
         out : GoesOut (far_of q) k packet → Sometime R (Far k ∷ q)
         out (first r) = not_con_out r.con (spelled_begun other (k ∷ far_of q) r.con p.law.far_law (inl r.begins)) r.is
-        out (copy r) = not_con_out r.con (spelled_begun other (k ∷ far_of q) r.con p.law.far_law (inr r.begun_before)) r.is
-        out (plain r) = let same : with_head Non r.id r.content ≡ m = one_message bytes (with_head Non r.id r.content) m r.spells spells in
+        out (copy r) = not_con_out r.con (spelled_begun other (k ∷ far_of q) r.con p.law.far_law (inr r.begun_before))
+            r.is
+        out (plain r) = let same : with_head Non r.id r.content
+            ≡ m = one_message bytes (with_head Non r.id r.content) m r.spells spells in
             let kind : Non ≡ m.kind = ap (λ (y : Message). y.kind) same in absurd (cc (kind, rst))
         out (reply r) = inl (given q k p g.from g.till r)
         out (stored r) = inr (stored_again q k p g.till r (stored_id r))
@@ -327,7 +333,8 @@ module _ (c : Clocks) (one other : Setup) (near far : Endpoint) (whole : List Ho
       (by_suffix (Part c one other near far whole) (λ q k. OnFar (GaveOut near h.bytes (c.far came.instant)) k)
       (λ q k. Sometime (OnFarThen (RepliesTo c near con h.bytes)) (k ∷ q))
       (down c one other near far whole x con all_law to_is h.is_outstanding told h.young came.instant came.shown)
-      (gave c one other near far whole x con all_law to_is h.is_outstanding told h.young came.instant came.shown r.message
+      (gave c one other near far whole x con all_law to_is h.is_outstanding told h.young came.instant came.shown
+      r.message
       r.kind r.id_is h.bytes r.spells) whole
       (record { law = earlier c one other near far whole (Near x) all_law; later = []; is = refl })
       (Sometime_of_Ever _ whole came.so))

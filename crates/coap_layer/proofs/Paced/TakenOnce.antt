@@ -11,7 +11,8 @@ use Rattle.coap_types.specs.declared.transmission.TheConstants.{LAST_ARRIVAL_MS 
 use Rattle.coap_layer.specs.Channel.{HandedBy, Hop, Near, Far, near_of, far_of, OnFar, BegunAs}
 use Rattle.coap_layer.specs.Clocks.{Clocks, KeepPace}
 use Rattle.coap_layer.specs.Machine.Calls.{IsBegun}
-use Rattle.coap_layer.specs.Paced.{Meanwhile, ChannelLaw, CanArrive, Takes, HandsUpAs, TakenOnce, OnlyThatCon, HandedOnce}
+use Rattle.coap_layer.specs.Paced.{Meanwhile, ChannelLaw, CanArrive, Takes, HandsUpAs, TakenOnce, OnlyThatCon}
+use Rattle.coap_layer.specs.Paced.{HandedOnce}
 use Rattle.coap_layer.specs.Rows.{LayerLaw}
 use Rattle.coap_layer.specs.Trace.{Setup, Receive, Entry}
 use Rattle.coap_layer.specs.Words.{Incoming, handed, hands_up, HandsUpSince, Open}

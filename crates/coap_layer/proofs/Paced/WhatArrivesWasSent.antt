@@ -134,9 +134,11 @@ module _ (c : Clocks) (one other : Setup) (near far : Endpoint) (past : List Hop
     plain_sent non = meanwhile_map c x.at (near_of past) (λ when. Sometime (SentSo far bytes when) (near_of past))
         (λ when. Ever (PlainSent far bytes when) (near_of past)) by sent_so
       where
-        by : (when : ℕ) → Sometime (SentSo far bytes when) (near_of past) → Ever (PlainSent far bytes when) (near_of past)
+        by : (when : ℕ) → Sometime (SentSo far bytes when) (near_of past)
+            → Ever (PlainSent far bytes when) (near_of past)
         by when sent =
-            Ever_of_Sometime (λ t b. PlainSent far bytes when b) (PlainSent far bytes when) (λ t b z. inl z) (near_of past)
+            Ever_of_Sometime (λ t b. PlainSent far bytes when b) (PlainSent far bytes when) (λ t b z. inl z)
+            (near_of past)
             (by_suffix (Lawful one) (SentSo far bytes when) (λ t b. PlainSent far bytes when b)
             (λ t b l. record { law = l.law.1; replies = l.replies.1 })
             (λ t b l s. plain_here one t b far bytes m when l spells non s) (near_of past) lawful sent)
@@ -157,5 +159,6 @@ module _ (c : Clocks) (one other : Setup) (near far : Endpoint) where
 
   pub nons_sent : (all : List Hop) → ChannelLaw c one other near far all → NonsSent c near far all
   nons_sent all law = each_hop c one other near far _
-      (λ past h l x bytes m is call spells non. plain_sent c one other near far past x bytes (at_hop past h x l is) call m
+      (λ past h l x bytes m is call spells non. plain_sent c one other near far past x bytes (at_hop past h x l is) call
+      m
       spells non) all law

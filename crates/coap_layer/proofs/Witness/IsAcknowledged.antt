@@ -87,7 +87,8 @@ abbrev far_run : List Asked
 far_run = far_replies ∷ far_takes ∷ []
 
 near_steps : Steps (start began) near_run (left_after (start began) near_run)
-unfolding decoded frame_fault body_at walk walk_of option_at nibbles_at value_at extended payload_at is_spelled has_spelling options_bytes
+unfolding decoded frame_fault body_at walk walk_of option_at nibbles_at value_at extended payload_at is_spelled
+    has_spelling options_bytes
 near_steps = (
   _,
   (_, refl, record { may = get_spelled; right = refl; new_is = refl }),
@@ -95,7 +96,8 @@ near_steps = (
 )
 
 far_steps : Steps (start began) far_run (left_after (start began) far_run)
-unfolding decoded frame_fault body_at walk walk_of option_at nibbles_at value_at extended payload_at is_spelled has_spelling options_bytes
+unfolding decoded frame_fault body_at walk walk_of option_at nibbles_at value_at extended payload_at is_spelled
+    has_spelling options_bytes
 far_steps = (
   _,
   (
@@ -130,7 +132,8 @@ hops =
     []
 
 reply_once : RepliesAtOnce (made (start began) 10 far_takes.call ∷ []) 10 0 ack
-unfolding decoded frame_fault body_at walk walk_of option_at nibbles_at value_at extended payload_at is_spelled has_spelling options_bytes
+unfolding decoded frame_fault body_at walk walk_of option_at nibbles_at value_at extended payload_at is_spelled
+    has_spelling options_bytes
 reply_once = record {
   to_what = record { from = client; message = request_message };
   latest = inl (refl, refl);
@@ -148,11 +151,13 @@ unfolding options_bytes
 request_out = record { out = inl refl; from = omega arith; till = omega arith }
 
 ack_out : GaveOut client ack 20 (made (left_after (start began) (far_takes ∷ [])) 10 far_replies.call)
-unfolding decoded frame_fault body_at walk walk_of option_at nibbles_at value_at extended payload_at is_spelled has_spelling options_bytes
+unfolding decoded frame_fault body_at walk walk_of option_at nibbles_at value_at extended payload_at is_spelled
+    has_spelling options_bytes
 ack_out = record { out = inl refl; from = omega arith; till = omega arith }
 
 channel : ChannelLaw began began client server hops
-unfolding decoded frame_fault body_at walk walk_of option_at nibbles_at value_at extended payload_at is_spelled has_spelling options_bytes
+unfolding decoded frame_fault body_at walk walk_of option_at nibbles_at value_at extended payload_at is_spelled
+    has_spelling options_bytes
 channel = record {
   pace = one_pace;
   near_law = near_lawful;
@@ -195,11 +200,13 @@ con = record { to = server; id = 0; bytes = request; timeout = 3000; first = 0; 
 
 hears : HearsAck con (made (start began) 0 near_begins.call ∷ [])
     (made (left_after (start began) (near_begins ∷ [])) 20 near_hears.call)
-unfolding decoded frame_fault body_at walk walk_of option_at nibbles_at value_at extended payload_at is_spelled has_spelling options_bytes
+unfolding decoded frame_fault body_at walk walk_of option_at nibbles_at value_at extended payload_at is_spelled
+    has_spelling options_bytes
 hears = record { is_outstanding = inl refl; bytes = ack; call = refl; answer = inl refl }
 
 takes : Takes client con (made (start began) 10 far_takes.call)
-unfolding decoded frame_fault body_at walk walk_of option_at nibbles_at value_at extended payload_at is_spelled has_spelling options_bytes
+unfolding decoded frame_fault body_at walk walk_of option_at nibbles_at value_at extended payload_at is_spelled
+    has_spelling options_bytes
 takes = record { call = refl; up = refl; from = omega arith; till = omega arith }
 
 pub acknowledged : IsAcknowledged

@@ -81,4 +81,5 @@ runs = (
 )
 
 pub witness : LayerLaw began (entries (start began) run ++ [])
-witness = (led_steps began [] (start began) (left_after (start began) run) run (record { law = tt; kept = refl }) runs).law
+witness = (led_steps began [] (start began) (left_after (start began) run) run (record { law = tt; kept = refl })
+    runs).law

@@ -1,5 +1,6 @@
 -- The registration of one endpoint and token in the list after each change.
-use Rattle.std.proofs.Common.{◌≡◌, ◌∙◌, ℕ, Bool, true, false, not, ◌&&◌, ◌<◌, ◌++◌, List, [], ◌∷◌, length, filter, find, map}
+use Rattle.std.proofs.Common.{◌≡◌, ◌∙◌, ℕ, Bool, true, false, not, ◌&&◌, ◌<◌, ◌++◌, List, [], ◌∷◌, length, filter, find}
+use Rattle.std.proofs.Common.{map}
 use Rattle.std.proofs.Common.{Option, None, Some, option_map, if◌then◌else◌, Decides, refl, ap, sym, subst, arith}
 use Rattle.std.specs.Cmp.Lexicographic.{bytes_decides}
 use Rattle.std.proofs.lemmas.Bool.Decides.{Decides-and}
@@ -266,7 +267,8 @@ registrations-noted at to token id os r =
     let same = length-map os (noted_by at to token id) in
     record { few = omega (arith, same, r.few); distinct = distinct_noted at to token id os r.distinct }
 
-without_stay : (found : Option Observer) (os : List Observer) → AreRegistrations os → AreRegistrations (without found os)
+without_stay : (found : Option Observer) (os : List Observer) → AreRegistrations os
+    → AreRegistrations (without found os)
 without_stay None os r = r
 without_stay (Some o) os r = registrations-removed o.to o.token os r
 

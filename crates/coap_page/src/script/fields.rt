@@ -1,8 +1,8 @@
 //! The words of a line of a script.
 
 use crate::script::refusal::LineRefusal;
+use coap_run::Side;
 use coap_types::{MAX_SEGMENT_LEN, MAX_SEGMENTS, Path};
-use coap_world::Side;
 use std::alloc::Allocator;
 use std::str;
 

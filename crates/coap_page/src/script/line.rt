@@ -4,8 +4,8 @@ use crate::script::fields::{cut, last_word, number, path, side};
 use crate::script::refusal::LineRefusal;
 use bytes::Bytes;
 use coap_ends::CallId;
+use coap_run::{Event, What};
 use coap_types::{Endpoint, Method, Moment, Path, Request, Tags};
-use coap_world::{Event, What};
 use std::alloc::Allocator;
 
 // The format of what the server's own side sets: text/plain (RFC 7252, section 12.3).

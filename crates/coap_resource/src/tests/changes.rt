@@ -1,3 +1,4 @@
+//! Tests of changes, their versions and their rate.
 use super::path_of;
 use crate::{ListStore, MAX_PATHS, MapStore, Store, StoreRefusal, rate_law, served_law, since_law};
 use StoreRefusal::{RateExceeded, TooLarge, TooManyPaths};

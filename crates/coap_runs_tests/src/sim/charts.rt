@@ -2,10 +2,10 @@
 //! delivered twice, late, and from and for elsewhere.
 use super::{name_of, parts_of};
 use crate::rows::check_row;
+use coap_arguments::StoreKind;
 use coap_commands::{Status, Stop, sim_with};
 use coap_types::{Path, Remembered};
-use coap_words::StoreKind;
-use failing::Failing;
+use failing_allocator::Failing;
 use std::alloc::{Allocator, Global};
 use std::fs;
 use std::io::Write;

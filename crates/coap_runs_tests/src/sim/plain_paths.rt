@@ -1,8 +1,8 @@
 //! Observations of a path whose observers are told in Non-confirmable messages (RFC 7641, section 4.5).
 use crate::rows::{check_row, words_of};
+use coap_arguments::{StoreKind, path_of_text};
 use coap_commands::{Status, command, sim_with};
 use coap_types::Remembered;
-use coap_words::{StoreKind, path_of_text};
 use std::alloc::{AllocError, Global};
 use std::fs;
 use std::process::Abort;

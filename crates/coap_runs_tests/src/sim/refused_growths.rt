@@ -1,10 +1,10 @@
 //! Each growth of a script refused in turn: an input that meets that inside an end counts as lost, and
 //! elsewhere the script ends for want of memory.
 use super::{calls, name_of, observations, parts_of, plain_paths, strangers};
+use coap_arguments::StoreKind;
 use coap_commands::{Stop, close, sim_with};
 use coap_types::{Path, Remembered};
-use coap_words::StoreKind;
-use failing::Failing;
+use failing_allocator::Failing;
 use std::alloc::{Allocator, Global};
 use std::test::Fail;
 

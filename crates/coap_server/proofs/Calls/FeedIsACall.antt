@@ -14,7 +14,7 @@ use Rattle.coap_exchange.proofs.Facts.ServerSide.{exchanged_join, none_ended}
 use Rattle.coap_server.specs.Trace.{Handling, Call, Feeds}
 use Rattle.coap_server.specs.Observers.{unless_ended, unless_rejected}
 use Rattle.coap_exchange.specs.AnswererSteps.{unmatched_by}
-use Rattle.coap_server.proofs.Observing.RejectedNons.{none_rejected}
+use Rattle.coap_server.proofs.Facts.Calls.NoneRejected.{none_rejected}
 use Rattle.coap_server.specs.Handling.{incoming, heard, HandlesCame}
 use Rattle.coap_server.specs.Asks.{answering}
 use Rattle.coap_server.specs.Steps.{came_after}

@@ -6,7 +6,7 @@ use Rattle.coap_exchange.specs.AnswererLaw as X
 use Rattle.coap_server.specs.Trace.{Own, NextOut}
 use Rattle.coap_server.specs.Led.{State, Step}
 use Rattle.coap_server.specs.Turns.Work.{WasLed}
-use Rattle.coap_common.proofs.Facts.FirstOut.{layer_empty, layer_none, layer_some, only_live}
+use Rattle.coap_exchange.proofs.Facts.FirstOut.{layer_empty, layer_none, layer_some, only_live}
 
 module _ (old new : State) where
   layer_step : (answer : Option L.Packet) → Step old (NextOut answer) new

@@ -21,7 +21,8 @@ use Rattle.coap_exchange.specs.declared.answerer.Due.TheVariants as due
 use Rattle.coap_exchange.specs.AnswererSteps.{failed_by}
 use Rattle.coap_exchange.specs.AnswererTrace as E
 use Rattle.coap_exchange.specs.Machine.Rests.{AnswererRests, AnswererTurns, has_due}
-use Rattle.coap_exchange.proofs.Facts.ServerSide.{exchanged_split, takes, rests_led, turns_led, ready_answer, ready_same}
+use Rattle.coap_exchange.proofs.Facts.ServerSide.{exchanged_split, takes, rests_led, turns_led, ready_answer}
+use Rattle.coap_exchange.proofs.Facts.ServerSide.{ready_same}
 use Rattle.coap_exchange.proofs.Facts.ServerSide.{idle_below, idle_same}
 use Rattle.coap_server.specs.Asks.{responding}
 use Rattle.coap_server.specs.Handling.{HandlesDue, heard, is_done, ticking}

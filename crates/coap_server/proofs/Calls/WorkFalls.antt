@@ -10,8 +10,8 @@ use Rattle.coap_resource.specs.Limits.{Limits}
 use Rattle.coap_exchange.specs.declared.answerer.Due.{Due}
 use Rattle.coap_server.specs.Trace.{Handling, Call, Ticks}
 use Rattle.coap_server.specs.Led.{State, Led, Step}
-use Rattle.coap_server.proofs.Exact.Leads.{led_further, led_lawful, led_state}
-use Rattle.coap_server.proofs.Rest.Ending.{size, less, size_is}
+use Rattle.coap_server.proofs.Facts.Exact.Leads.{led_further, led_lawful, led_state}
+use Rattle.coap_server.proofs.Facts.Rest.Ending.{size, less, size_is}
 use Rattle.coap_server.specs.declared.server.delays.DelayRefusal.{DelayRefusal}
 use Rattle.coap_server.specs.declared.server.delays.DelayRefusal.TheVariants as delay_refusals
 use Rattle.coap_server.specs.declared.server.plain.PlainRefusal.{PlainRefusal}

@@ -16,7 +16,7 @@ use Rattle.coap_resource.proofs.Facts.Outcomes.{removed, Got, got_by, not_there,
 use Rattle.coap_server.specs.Follows.Holds.{Does, IsApplied}
 use Rattle.coap_server.specs.Follows.Serves.{Serving}
 use Rattle.coap_server.specs.Serving.{is_applied}
-use Rattle.coap_server.proofs.Observing.StoreChanges.{IsKept, kept_by, unchanged_by}
+use Rattle.coap_server.proofs.Facts.Observing.StoreChanges.{IsKept, kept_by, unchanged_by}
 
 -- which codes say so
 

@@ -9,8 +9,8 @@ use Rattle.coap_resource.specs.Content.{Held}
 use Rattle.coap_exchange.specs.declared.answerer.Ended.{Ended}
 use Rattle.coap_server.specs.Observers.{unless_ended}
 use Rattle.coap_server.specs.Notifying.{marked, notified}
-use Rattle.coap_server.proofs.Observing.MarkedObservers.{IsThere}
-use Rattle.coap_server.proofs.Observing.ObserverLists.{notified_left}
+use Rattle.coap_server.proofs.Facts.Observing.MarkedObservers.{IsThere}
+use Rattle.coap_server.proofs.Facts.Observing.ObserverLists.{notified_left}
 
 abbrev pub marks : List Observer → ℕ
 marks os = length (marked os)

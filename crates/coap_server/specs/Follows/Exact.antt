@@ -37,7 +37,8 @@ pub record IsExact (limits : Limits) (szx : ℕ) (setup : Setup) (past : List Ca
   pub sets :
       (now : ℕ) (path : List (List ℕ)) (format : Option ℕ) (body : List ℕ) (answer another : Result ℕ StoreRefusal)
       (left other : Content) → ServerLaw limits szx setup (Sets now path format body answer left ∷ past)
-      → ServerLaw limits szx setup (Sets now path format body another other ∷ past) → (answer ≡ another) × (left ≡ other)
+      → ServerLaw limits szx setup (Sets now path format body another other ∷ past) → (answer ≡ another)
+      × (left ≡ other)
   pub removes :
       (now : ℕ) (path : List (List ℕ)) (answer another : Result Bool StoreRefusal) (left other : Content)
       → ServerLaw limits szx setup (Removes now path answer left ∷ past)
@@ -69,7 +70,8 @@ pub record IsExact (limits : Limits) (szx : ℕ) (setup : Setup) (past : List Ca
       (Ticks now w other space due skipped k number another)
   pub next_out : (answer another : Option L.Packet) → ServerLaw limits szx setup (NextOut answer ∷ past)
       → ServerLaw limits szx setup (NextOut another ∷ past) → answer ≡ another
-  pub gets : (path : List (List ℕ)) (answer another : Option Held) → ServerLaw limits szx setup (Gets path answer ∷ past)
+  pub gets : (path : List (List ℕ)) (answer another : Option Held)
+      → ServerLaw limits szx setup (Gets path answer ∷ past)
       → ServerLaw limits szx setup (Gets path another ∷ past) → answer ≡ another
   pub tells_applied : (answer another : List Applied) → ServerLaw limits szx setup (TellsApplied answer ∷ past)
       → ServerLaw limits szx setup (TellsApplied another ∷ past) → answer ≡ another

@@ -11,7 +11,7 @@ use Rattle.coap_resource.specs.Limits.{Limits}
 use Rattle.coap_exchange.specs.declared.answerer.Ended.{Ended}
 use Rattle.coap_exchange.specs.AnswererSteps.{reset_by, failed_by, unmatched_by}
 use Rattle.coap_exchange.specs.AnswererTrace.{Sending}
-use Rattle.coap_common.specs.SuccessCodes.{content}
+use Rattle.coap_exchange.specs.SuccessCodes.{content}
 use Rattle.coap_server.specs.Trace.{Own, Notifies, Call, Feeds, Ticks}
 use Rattle.coap_server.specs.Handling.{heard, ticking}
 use Rattle.coap_server.specs.Observers.{observes}
@@ -104,7 +104,8 @@ module _ (limits : Limits) (szx : ℕ) where
     is_told : (x : Ended) → ends_in (own_of limits szx past) c ≡ Some x → x.observe ≡ true → x.to ≡ to → x.token ≡ token
         → Ends to token past c
     is_rejected : (x : Sending) (o : Observer) → rejects_in c ≡ Some x
-        → rejected (own_of limits szx (c ∷ past)).clock x.to x.id (own_of limits szx past).observers ≡ Some o → o.to ≡ to
+        → rejected (own_of limits szx (c ∷ past)).clock x.to x.id (own_of limits szx past).observers ≡ Some o → o.to
+        ≡ to
         → o.token ≡ token → Ends to token past c
     cancels : (x : Serving) → serving (own_of limits szx past) c ≡ Some x → observes 1 x.question ≡ true
         → x.asked.from ≡ to → x.asked.token ≡ token → Ends to token past c

@@ -5,7 +5,7 @@ use Rattle.coap_layer.specs.declared.setup.Setup.{Setup}
 use Rattle.coap_block.specs.Whole.{Each}
 use Rattle.coap_resource.specs.Limits.{Limits}
 use Rattle.coap_exchange.specs.declared.answerer.Due.{Due}
-use Rattle.coap_common.specs.Endings.{UpToIdle, all_taken}
+use Rattle.coap_exchange.specs.Endings.{UpToIdle, all_taken}
 use Rattle.coap_server.specs.Trace.{Handling, Call, Ticks, NextOut}
 use Rattle.coap_server.specs.Law.{ServerLaw}
 use Rattle.coap_server.specs.Led.{state_left}

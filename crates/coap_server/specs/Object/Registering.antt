@@ -5,7 +5,7 @@ use Rattle.coap_observe.specs.declared.observers.TheConstants.{MAX_OBSERVERS as 
 use Rattle.coap_resource.specs.RequestOptions.{block_of, szx_by}
 use Rattle.coap_resource.specs.Serves.{Question, Reply}
 use Rattle.coap_exchange.specs.declared.answerer.Asked.{Asked}
-use Rattle.coap_common.specs.SuccessCodes.{content}
+use Rattle.coap_exchange.specs.SuccessCodes.{content}
 use Rattle.coap_server.specs.Observers.{observes}
 
 abbrev pub may_register : Question → Reply → Bool

@@ -3,7 +3,7 @@ use Rattle.std.specs.Prelude.{ℕ, ◌+◌, ◌*◌, max, List, length}
 use Rattle.coap_layer.specs.declared.setup.Setup.{Setup}
 use Rattle.coap_observe.specs.declared.observers.TheConstants.{MAX_OBSERVERS as max_observers}
 use Rattle.coap_resource.specs.Limits.{Limits}
-use Rattle.coap_common.specs.StepsDue.{due_count}
+use Rattle.coap_exchange.specs.StepsDue.{due_count}
 use Rattle.coap_server.specs.Notifying.{marked}
 use Rattle.coap_server.specs.Trace.{Call}
 use Rattle.coap_server.specs.Led.{State, Led}

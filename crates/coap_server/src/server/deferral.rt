@@ -1,3 +1,4 @@
+//! A whole request is served now, or deferred where its path has a delay (RFC 7252, section 5.2.2).
 ghost use Rattle.std.specs.Prelude.{◌≡◌, ◌≤◌, ◌++◌, ◌∷◌, [], Ok, true, false, IfOk, OnErr, OnOk, length, map};
 ghost use Rattle.coap_types.specs.declared.token.TheConstants.{MAX_TOKEN_LEN as max_token_len};
 ghost use Rattle.coap_types.specs.CoapOption.{options_of};

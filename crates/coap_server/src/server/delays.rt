@@ -7,6 +7,7 @@ ghost use Rattle.coap_server.specs.Trace.{Delays};
 ghost use Rattle.coap_server.specs.Object.Shown.{kept_of, seen};
 ghost use Rattle.coap_server.specs.Turns.DelaysShown.{delays_as, delays_of_others};
 ghost use Rattle.coap_server.specs.declared.server.delays.DelayRefusal.TheVariants.{Full, Memory};
+ghost use Rattle.coap_server.specs.RefusalNumbers.{delay_refusal_number};
 
 use crate::MAX_DELAYS;
 use crate::server::parts::{Delay, Parts, push_within};
@@ -22,6 +23,19 @@ pub enum DelayRefusal {
     Full,
     /// 2: the allocator refused.
     Memory,
+}
+
+impl DelayRefusal {
+    /// The number of the refusal, 1 or 2, in the order of the variants.
+    pub fn number(self) -> u8
+        // The number of a delay's refusal is its place among the two.
+        ensures { result ≡ delay_refusal_number self }
+    {
+        match self {
+            DelayRefusal::Full => 1,
+            DelayRefusal::Memory => 2,
+        }
+    }
 }
 
 // How many other paths have a delay.

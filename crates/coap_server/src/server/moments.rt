@@ -1,3 +1,4 @@
+//! The moment that counts, and what the failure or the Reset of a notification ends.
 ghost use Rattle.std.specs.Prelude.{◌≡◌, ◌≤◌, max};
 ghost use Rattle.coap_exchange.specs.Machine.AnswererShown.{sending_as};
 ghost use Rattle.coap_server.specs.Observers.{unless_ended, unless_rejected};

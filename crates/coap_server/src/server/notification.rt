@@ -1,5 +1,6 @@
 //! Which observer is notified next, and of what (RFC 7641, sections 4.2, 4.4 and 4.5).
-ghost use Rattle.std.specs.Prelude.{◌≡◌, ◌≤◌, ℕ, Option, true, false, None, is_some, IfOk, IfSome, IsOk, OnErr, OnOk, length};
+ghost use Rattle.std.specs.Prelude.{◌≡◌, ◌≤◌, ℕ, Option, true, false, None, is_some, IfOk, IfSome, IsOk, OnErr, OnOk};
+ghost use Rattle.std.specs.Prelude.{length};
 ghost use Rattle.std.specs.Option.{option_map};
 ghost use Rattle.coap_observe.specs.Notices.{but_noted, told, told_due};
 ghost use Rattle.coap_observe.specs.Observers.{Observer};

@@ -1,3 +1,4 @@
+//! What a GET says of an observation (RFC 7641, section 2).
 ghost use Rattle.std.specs.Prelude.{◌≡◌, ◌≤◌, Ok, true, false, IfOk, OnErr, OnOk};
 ghost use Rattle.coap_types.specs.CoapOption.{options_of};
 ghost use Rattle.coap_types.specs.OptionValues.{uint_at};

@@ -1,3 +1,4 @@
+//! The options of a response in order, without memory.
 ghost use Rattle.std.specs.Prelude.{◌≡◌, ◌<◌, ◌++◌, [], length, option_copied};
 ghost use Rattle.coap_types.specs.CoapOption.{options_of};
 ghost use Rattle.coap_types.specs.OptionValues.{option_with};

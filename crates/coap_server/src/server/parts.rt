@@ -1,3 +1,4 @@
+//! The parts of a server.
 ghost use Rattle.std.specs.Prelude.{◌≡◌, ◌<◌, ◌++◌, ◌∷◌, [], vec_len, vec_capacity};
 
 use bytes::Bytes;

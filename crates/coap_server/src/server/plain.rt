@@ -6,6 +6,7 @@ ghost use Rattle.coap_server.specs.Object.Shown.{kept_of, seen};
 ghost use Rattle.coap_server.specs.Plain.{is_plain, may_be_plain, plains_with};
 ghost use Rattle.coap_server.specs.Trace.{Plains};
 ghost use Rattle.coap_server.specs.declared.server.plain.PlainRefusal.TheVariants.{Full, Memory};
+ghost use Rattle.coap_server.specs.RefusalNumbers.{plain_refusal_number};
 
 use crate::MAX_PLAINS;
 use crate::server::parts::{Parts, push_within};
@@ -21,6 +22,19 @@ pub enum PlainRefusal {
     Full,
     /// 2: the allocator refused.
     Memory,
+}
+
+impl PlainRefusal {
+    /// The number of the refusal, 1 or 2, in the order of the variants.
+    pub fn number(self) -> u8
+        // The number of a plain path's refusal is its place among the two.
+        ensures { result ≡ plain_refusal_number self }
+    {
+        match self {
+            PlainRefusal::Full => 1,
+            PlainRefusal::Memory => 2,
+        }
+    }
 }
 
 /// Whether the path is plain.

@@ -1,3 +1,4 @@
+//! A request that the store serves, and the observers that its change marks.
 ghost use Rattle.std.specs.Prelude.{◌≡◌, ◌≤◌, ◌==◌, ◌∷◌, [], false, IfOk, IfSome, OnErr, if◌then◌else◌};
 ghost use Rattle.std.specs.Option.{option_map};
 ghost use Rattle.coap_types.specs.BlockValue.{block_value};

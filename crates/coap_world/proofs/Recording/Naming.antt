@@ -9,28 +9,28 @@ use Rattle.coap_types.proofs.Facts.Endpoints.{same_endpoint-decides}
 use Rattle.coap_exchange.specs.Tokens.{same_token}
 use Rattle.coap_exchange.specs.declared.answerer.Asked.{Asked}
 use Rattle.coap_block.specs.Sizes.{Sizes}
-use Rattle.coap_client.specs.Follows.Begins.{WasSent}
+use Rattle.coap_client_laws.specs.Follows.Begins.{WasSent}
 use Rattle.coap_client.specs.Law.{own_of}
-use Rattle.coap_client.specs.Follows.Order.{call_of}
+use Rattle.coap_client_laws.specs.Follows.Order.{call_of}
 use Rattle.coap_client.specs.Own.{Operation, Calling, operation_number}
-use Rattle.coap_client.specs.Follows.Tokens.{Deregisters}
+use Rattle.coap_client_laws.specs.Follows.Tokens.{Deregisters}
 use Rattle.coap_client.specs.Trace as C
-use Rattle.coap_client.specs.Follows.Words.{Sending, sends}
+use Rattle.coap_client.specs.Sendings.{Sending, sends}
 use Rattle.coap_server.specs.Serving.{is_applied}
 use Rattle.coap_server.specs.Trace as S
 use Rattle.coap_server.specs.Follows.Serves.{Serving}
-use Rattle.coap_client.proofs.Facts.Laws as client_facts
-use Rattle.coap_server.proofs.Facts.Laws as server_facts
-use Rattle.coap_world.specs.Events.{Config}
-use Rattle.coap_world.specs.Record.{Entry, OfClient, OfServer, client_of, server_trace}
-use Rattle.coap_world.specs.Run.Log.{call_if}
+use Rattle.coap_client_laws.proofs.Facts.Laws as client_facts
+use Rattle.coap_server_laws.proofs.Facts.Laws as server_facts
+use Rattle.coap_record.specs.Events.{Config}
+use Rattle.coap_record.specs.Record.{Entry, OfClient, OfServer, client_of, server_trace}
+use Rattle.coap_run.specs.Run.Log.{call_if}
 use Rattle.coap_world.specs.Run.Named.{EachNamed, named}
-use Rattle.coap_world.specs.Run.Senders.{noted, number_if, sender_of, sent_as}
-use Rattle.coap_world.specs.Words.{SentFor, ServesAt}
-use Rattle.coap_world.proofs.Requests.Belongs.{each_belongs}
-use Rattle.coap_world.proofs.Requests.OfACall.{Lawful, lawful_back, no_call, no_call_behind}
-use Rattle.coap_world.proofs.Requests.Traced.{traced, brought_in}
-use Rattle.coap_world.proofs.Requests.AtAnyTime.{at_any_time}
+use Rattle.coap_run.specs.Run.Senders.{noted, number_if, sender_of, sent_as}
+use Rattle.coap_promise.specs.Words.{SentFor, ServesAt}
+use Rattle.coap_promise.proofs.Facts.Requests.Belongs.{each_belongs}
+use Rattle.coap_promise.proofs.Facts.Requests.OfACall.{Lawful, lawful_back, no_call, no_call_behind}
+use Rattle.coap_promise.proofs.Facts.Requests.Traced.{traced, brought_in}
+use Rattle.coap_promise.proofs.Facts.Requests.AtAnyTime.{at_any_time}
 
 number_of_call : (op : Operation) (k : ℕ) → call_of op ≡ Some k → operation_number op ≡ Some k
 number_of_call (Calling number r t) k is = is

@@ -3,11 +3,11 @@ use Rattle.std.specs.Prelude.{◌≡◌, ◌↔◌, ℕ, true, Option, Some, Lis
 use Rattle.coap_types.specs.Past.{Always}
 use Rattle.coap_server.specs.Serving.{is_applied}
 use Rattle.coap_server.specs.Follows.Serves.{Serving}
-use Rattle.coap_world.specs.Events.{Config}
-use Rattle.coap_world.specs.Record.{Entry, client_of}
-use Rattle.coap_world.specs.Words.{SentFor, ServesAt}
-use Rattle.coap_world.specs.Run.Log.{applied_as, call_for}
-use Rattle.coap_world.specs.Run.Senders.{sender_of}
+use Rattle.coap_record.specs.Events.{Config}
+use Rattle.coap_record.specs.Record.{Entry, client_of}
+use Rattle.coap_promise.specs.Words.{SentFor, ServesAt}
+use Rattle.coap_run.specs.Run.Log.{applied_as, call_for}
+use Rattle.coap_run.specs.Run.Senders.{sender_of}
 
 module _ (config : Config) where
   -- the call that is named in the line of a request that is applied

@@ -6,8 +6,8 @@ use super::words::{
 use bytes::Bytes;
 use coap_ends::CallId;
 use coap_resource::MAX_CHANGES_PER_WINDOW;
+use coap_run::{Event, Side, What, WorldConfig};
 use coap_types::{DEFAULT_BODY_LIMIT, MAX_SZX, Moment, Request, Tags};
-use coap_world::{Event, Side, What, WorldConfig};
 use std::alloc::{Allocator, Global};
 use std::test::Fail;
 

@@ -1,8 +1,8 @@
 //! What a record tells, as text.
 use super::reports::report_text;
 use coap_resource::Representation;
+use coap_run::{AppliedRequest, CLIENT_END, Change, Given, Kind, Record, RunRefusal, SERVER_END};
 use coap_types::{Endpoint, Method, Path};
-use coap_world::{AppliedRequest, CLIENT_END, Change, Given, Kind, Record, RunRefusal, SERVER_END};
 use std::alloc::{Allocator, Global};
 use std::str;
 use std::test::Fail;

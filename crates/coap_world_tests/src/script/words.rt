@@ -1,6 +1,6 @@
 //! What the words of a line mean.
+use coap_run::{CLIENT_END, SERVER_END};
 use coap_types::{BodyLimit, Endpoint, Method, Path, Szx, Tag, Tags};
-use coap_world::{CLIENT_END, SERVER_END};
 use std::alloc::{Allocator, Global};
 use std::test::Fail;
 

@@ -1,3 +1,4 @@
+//! The turns of an assembly that a test takes, and what each leads to.
 ghost use Rattle.std.specs.Prelude.{IsSome, OnOk};
 
 use crate::tests::{body_of, part};

@@ -9,5 +9,5 @@ pub returns : goal.returns
 returns g c =
     let request = shown_request c.args.request in
     told (λ server sizes w. Led server sizes w [] c.args.client.now)
-    (λ server sizes w. Becomes server sizes w c.args.give_up request) (status_after request.method)
+    (λ server sizes w. Becomes server sizes w c.args.terms.now.give_up request) (status_after request.method)
     c.in_ok-outcome.outcome c.tell.result c.in_ok-outcome.ensures c.tell.ensures

@@ -7,9 +7,10 @@ use Rattle.coap_commands.proofs.ask.outcome_of.Goals as goal
 pub returns-in-Ok : goal.returns-in-Ok
 returns-in-Ok g c =
     taken_becomes (λ server sizes w. Led server sizes w [] c.args.client.now) c.in_ok-begin.begin.0
-    (shown_request c.args.request) c.args.give_up _ c.in-Ok.id _ c.awaited.result c.in-Ok.is
+    (shown_request c.args.request) c.args.terms.now.give_up _ c.in-Ok.id _ c.awaited.result c.in-Ok.is
     (λ server sizes w led. c.in_ok-id.ensures.led server sizes w [] led) c.awaited.ensures
 
 pub returns-in-Err : goal.returns-in-Err
 returns-in-Err g c = λ server sizes w led.
-    refused_becomes server sizes w _ _ c.args.give_up _ _ _ c.in-Err.is (c.in_ok-id.ensures.led server sizes w [] led)
+    refused_becomes server sizes w _ _ c.args.terms.now.give_up _ _ _ c.in-Err.is
+    (c.in_ok-id.ensures.led server sizes w [] led)

@@ -1,13 +1,14 @@
 use Rattle.std.proofs.Common.{◌≡◌, ℕ, List, Result, Ok, Err, IfOk, subst}
 use Rattle.hex.specs.Hex.{decode_of}
 use Rattle.coap_commands.specs.Dumps.{IsLineStatus, IsShown}
-use Rattle.coap_commands.specs.declared.status.Status.{Status}
-use Rattle.coap_commands.specs.declared.status.Status.TheVariants as status
-use Rattle.coap_commands.specs.declared.status.Stop.{Stop}
+use Rattle.coap_scripts.specs.declared.status.Status.{Status}
+use Rattle.coap_scripts.specs.declared.status.Status.TheVariants as status
+use Rattle.coap_scripts.specs.declared.status.Stop.{Stop}
 use Rattle.coap_commands.proofs.dump.dump_line.Goals as goal
 
 -- a line is shown as the datagram is that it is the hex of
-shown_line : (line datagram : List ℕ) (r : Result Status Stop) → decode_of line ≡ Ok datagram → IfOk r (IsShown datagram)
+shown_line : (line datagram : List ℕ) (r : Result Status Stop) → decode_of line ≡ Ok datagram
+    → IfOk r (IsShown datagram)
     → IfOk r (IsLineStatus line)
 shown_line line datagram (Ok status.Done) is h = (datagram, is, h)
 shown_line line datagram (Ok status.Refused) is h = (datagram, is, h)

@@ -4,7 +4,8 @@ use Rattle.coap_commands.proofs.pair.ask.Goals as goal
 
 pub returns-in_ok-report-in-Ok : goal.returns-in_ok-report-in-Ok
 returns-in_ok-report-in-Ok g c =
-    taken_handed c.in_ok-now.now.0 (shown_request c.args.request) _ c.in-Ok.id c.args.client.now _ _ c.in_ok-report-in-Ok.report
+    taken_handed c.in_ok-now.now.0 (shown_request c.args.request) _ c.in-Ok.id c.args.client.now _ _
+    c.in_ok-report-in-Ok.report
     c.in-Ok.is c.in_ok-id.ensures.led c.in_ok-report-in-Ok.ensures
 
 pub returns-in-Err : goal.returns-in-Err

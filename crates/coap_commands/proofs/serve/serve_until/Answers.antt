@@ -10,8 +10,10 @@ loop-turn-init g c =
     let link = g.L.Link in
     let at = end.state c.args.server.now in
     subst (λ (t : Tally). Turning
-    (Turns end.waiting end.gives link.sends link.receives link.fault_count end.quiet_feed end.feeds end.quiet_tick end.ticks)
-    c.args.count at c.args.link.now (nothing_fed c.args.word) at c.args.link.now t) (sym c.fresh_tally-tally.ensures) none
+    (Turns end.waiting end.gives link.sends link.receives link.fault_count end.quiet_feed end.feeds end.quiet_tick
+    end.ticks)
+    c.args.count at c.args.link.now (nothing_fed c.args.word) at c.args.link.now t) (sym c.fresh_tally-tally.ensures)
+    none
 
 pub loop-turn-preserved : goal.loop-turn-preserved
 loop-turn-preserved g c =

@@ -7,5 +7,6 @@ abbrev pub invariant-loop-turn : goal.invariant-loop-turn
 invariant-loop-turn g l =
     let end = g.E.End in
     let link = g.L.Link in
-    Turning (Turns end.waiting end.gives link.sends link.receives link.fault_count end.quiet_feed end.feeds end.quiet_tick end.ticks)
+    Turning (Turns end.waiting end.gives link.sends link.receives link.fault_count end.quiet_feed end.feeds
+    end.quiet_tick end.ticks)
     l.fn.count (end.state l.fn.server) l.fn.link (nothing_fed l.fn.word) (end.state l.server) l.link l.tally

@@ -5,9 +5,9 @@ use Rattle.coap_server.specs.Led.{Led}
 use Rattle.coap_server.specs.Object.Shown.{state_of}
 use Rattle.coap_server.specs.Trace.{Call}
 use Rattle.coap_types.specs.declared.szx.TheConstants.{MAX_SZX as max_szx}
-use Rattle.coap_words.specs.declared.orders.Delay.{Delay}
+use Rattle.coap_arguments.specs.declared.orders.Delay.{Delay}
 use Rattle.coap_commands.specs.SettingUp.{with_delay}
-use Rattle.coap_commands.proofs.SettingUpCalls.{fold_item}
+use Rattle.coap_scripts.proofs.Facts.FoldedItems.{fold_item}
 use Rattle.coap_commands.proofs.setting_up.delay_all.Goals as goal
 
 pub loop-delay-init : goal.loop-delay-init
@@ -23,5 +23,6 @@ loop-delay-preserved g c = λ limits setup t led.
 
 pub returns : goal.returns
 returns g c = λ limits setup t led.
-    subst (λ (ds : List Delay). Led limits max_szx setup (fold with_delay t ds) (state_of content_of c.loop-delay.server))
+    subst (λ (ds : List Delay). Led limits max_szx setup (fold with_delay t ds)
+    (state_of content_of c.loop-delay.server))
     (take_all c.loop-delay.delay-index c.args.delays.now (omega arith)) (c.loop-delay.invariant limits setup t led)

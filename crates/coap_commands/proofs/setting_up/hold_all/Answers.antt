@@ -1,9 +1,9 @@
 use Rattle.std.proofs.Common.{◌∷◌, ap, refl, subst, arith, List, Some, Ok}
 use Rattle.std.proofs.lemmas.List.{take_all}
 use Rattle.coap_server.specs.Trace.{Sets}
-use Rattle.coap_words.specs.declared.orders.Hold.{Hold}
+use Rattle.coap_arguments.specs.declared.orders.Hold.{Hold}
 use Rattle.coap_commands.specs.SettingUp.{Holds}
-use Rattle.coap_commands.specs.declared.ends.TheConstants.{TEXT_PLAIN as text_plain}
+use Rattle.coap_scripts.specs.declared.usual.TheConstants.{TEXT_PLAIN as text_plain}
 use Rattle.coap_commands.proofs.SettingUpCalls.{none_is, one_hold}
 use Rattle.coap_commands.proofs.setting_up.hold_all.Goals as goal
 
@@ -15,15 +15,20 @@ loop-held-preserved g c = λ limits setup t led.
     let so = c.loop-held.invariant limits setup t led in
     let next = none_is _ _ (c.in_ok-refusal.ensures.holds limits setup so.0 so.2) c.in_default.is in (
       _,
-      one_hold c.args.holds.now c.loop-held.held-index c.held-item.result c.held-item.is c.loop-held-test.true t so.0 _ so.1 (
-        next.0,
-        next.1,
-        ap (λ b. Sets 0 c.held-item.result.path (Some text_plain) b (Ok next.0) next.1 ∷ so.0) c.as_slice.ensures.value,
-      ),
+      one_hold c.args.holds.now c.loop-held.held-index c.held-item.result c.held-item.is c.loop-held-test.true t so.0 _
+          so.1 (
+            next.0,
+            next.1,
+            ap (λ b. Sets 0 c.held-item.result.path (Some text_plain) b (Ok next.0) next.1 ∷ so.0) c.as_slice.ensures.value,
+          ),
       next.2,
     )
 
 pub returns : goal.returns
 returns g c = λ limits setup t led.
-    let so = c.loop-held.invariant limits setup t led in
-    (so.0, subst (λ (hs : List Hold). Holds hs t so.0) (take_all c.loop-held.held-index c.args.holds.now (omega arith)) so.1, so.2)
+    let so = c.loop-held.invariant limits setup t led in (
+      so.0,
+      subst (λ (hs : List Hold). Holds hs t so.0) (take_all c.loop-held.held-index c.args.holds.now (omega arith))
+          so.1,
+      so.2,
+    )

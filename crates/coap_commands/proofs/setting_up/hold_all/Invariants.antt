@@ -13,4 +13,5 @@ use Rattle.coap_commands.proofs.setting_up.hold_all.Given as goal
 abbrev pub invariant-loop-held : goal.invariant-loop-held
 invariant-loop-held g l = (limits : Limits) (setup : Setup) (t : List Call)
     → Led limits max_szx setup t (state_of content_of l.fn.server)
-    → (after : List Call) × Holds (take l.held-index l.holds) t after × Led limits max_szx setup after (state_of content_of l.server)
+    → (after : List Call) × Holds (take l.held-index l.holds) t after
+    × Led limits max_szx setup after (state_of content_of l.server)

@@ -1,6 +1,6 @@
 use Rattle.std.proofs.Common.{◌∷◌, ap, Some, Ok}
 use Rattle.coap_server.specs.Trace.{Sets}
-use Rattle.coap_commands.specs.declared.ends.TheConstants.{TEXT_PLAIN as text_plain}
+use Rattle.coap_scripts.specs.declared.usual.TheConstants.{TEXT_PLAIN as text_plain}
 use Rattle.coap_commands.proofs.SettingUpCalls.{where_none}
 use Rattle.coap_commands.proofs.setting_up.hold_resource.Goals as goal
 

@@ -6,7 +6,7 @@ use Rattle.coap_server.specs.Object.Shown.{state_of}
 use Rattle.coap_server.specs.Trace.{Call}
 use Rattle.coap_types.specs.declared.szx.TheConstants.{MAX_SZX as max_szx}
 use Rattle.coap_commands.specs.SettingUp.{with_plain}
-use Rattle.coap_commands.proofs.SettingUpCalls.{fold_item}
+use Rattle.coap_scripts.proofs.Facts.FoldedItems.{fold_item}
 use Rattle.coap_commands.proofs.setting_up.make_plain.Goals as goal
 
 pub loop-path-init : goal.loop-path-init
@@ -22,5 +22,6 @@ loop-path-preserved g c = λ limits setup t led.
 
 pub returns : goal.returns
 returns g c = λ limits setup t led.
-    subst (λ (ps : List (List (List ℕ))). Led limits max_szx setup (fold with_plain t ps) (state_of content_of c.loop-path.server))
+    subst (λ (ps : List (List (List ℕ))). Led limits max_szx setup (fold with_plain t ps)
+    (state_of content_of c.loop-path.server))
     (take_all c.loop-path.path-index c.args.paths.now (omega arith)) (c.loop-path.invariant limits setup t led)

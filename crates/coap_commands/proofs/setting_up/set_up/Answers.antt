@@ -1,5 +1,5 @@
 use Rattle.std.proofs.Common.{ap₂, fold, subst, List}
-use Rattle.coap_words.specs.declared.orders.Hold.{Hold}
+use Rattle.coap_arguments.specs.declared.orders.Hold.{Hold}
 use Rattle.coap_commands.specs.SettingUp.{Holds, with_delay, with_plain}
 use Rattle.coap_commands.proofs.SettingUpCalls.{none_is}
 use Rattle.coap_commands.proofs.setting_up.set_up.Goals as goal
@@ -15,7 +15,8 @@ returns g c = λ limits setup t led.
         held.0,
         own.1,
         subst (λ (hs : List Hold). Holds hs own.0 held.0) c.as_slice.ensures.value held.1,
-        ap₂ (λ ds ps. fold with_plain (fold with_delay held.0 ds) ps) c.as_slice-2.ensures.value c.as_slice-3.ensures.value,
+        ap₂ (λ ds ps. fold with_plain (fold with_delay held.0 ds) ps) c.as_slice-2.ensures.value
+            c.as_slice-3.ensures.value,
       ),
       c.in_ok-make_plain.ensures limits setup _ delayed,
     )

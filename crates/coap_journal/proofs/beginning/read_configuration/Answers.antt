@@ -26,6 +26,7 @@ returns-in_err-changes-clause-none c =
 pub returns-in_err-configuration-clause-none : goal.returns-in_err-configuration-clause-none
 returns-in_err-configuration-clause-none c =
     no_configuration c.from_residual-in_err-configuration.result c.args.bytes.now c.in_ok-szx.behind.now
-    c.in_ok-limit.behind.now c.in_ok-remembered.behind.now c.in_ok-szx.szx c.in_ok-limit.limit c.in_ok-remembered.remembered
+    c.in_ok-limit.behind.now c.in_ok-remembered.behind.now c.in_ok-szx.szx c.in_ok-limit.limit
+    c.in_ok-remembered.remembered
     c.in_ok-changes.changes (search rules) (search rules) (search rules) c.in_ok-szx.ensures.some
     c.in_ok-limit.ensures.some c.in_ok-remembered.ensures.some c.in_err-configuration.ensures.none

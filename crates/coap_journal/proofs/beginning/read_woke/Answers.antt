@@ -15,5 +15,6 @@ returns-in_err-life-clause-none c =
 pub returns-clause-some : goal.returns-clause-some
 returns-clause-some c =
     ap (λ (xs : List ℕ). 8 ∷ xs)
-    (all_taken c.args.bytes.now (life_bytes c.in_ok-life.life) _ (omega (arith, c.if-bytes-ne-LIFE_LEN.false, length-life c.in_ok-life.life))
+    (all_taken c.args.bytes.now (life_bytes c.in_ok-life.life) _
+    (omega (arith, c.if-bytes-ne-LIFE_LEN.false, length-life c.in_ok-life.life))
     c.in_ok-life.ensures.some)

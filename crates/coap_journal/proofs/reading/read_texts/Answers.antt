@@ -16,7 +16,8 @@ loop-preserved g c =
 
 pub returns-in-Err-SegmentTooLong-clause-written : goal.returns-in-Err-SegmentTooLong-clause-written
 returns-in-Err-SegmentTooLong-clause-written g c path rest ok len e =
-    absurd (long_text c.args.bytes.now c.loop.rest.now c.in-Some.behind.now c.in-Some.segment.now c.loop.path c.args.count
+    absurd (long_text c.args.bytes.now c.loop.rest.now c.in-Some.behind.now c.in-Some.segment.now c.loop.path
+    c.args.count
     c.loop.invariant.2 c.loop.invariant.1 (omega (arith, c.loop.invariant.0, c.loop-test.true)) c.in-Some.ensures.some
     c.in-Some.ensures.short (search rules) path rest ok len e)
 

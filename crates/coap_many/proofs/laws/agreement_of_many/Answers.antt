@@ -1,6 +1,6 @@
 use Rattle.std.proofs.Common.{subst}
-use Rattle.coap_world.specs.Agrees.{Agrees}
-use Rattle.coap_world.specs.Bounds.{AreBounded}
+use Rattle.coap_promise.specs.Agrees.{Agrees}
+use Rattle.coap_promise.specs.Bounds.{AreBounded}
 use Rattle.coap_many.proofs.Pointed.{has_point, at_most_one}
 use Rattle.coap_many.proofs.FailedAnswers.{failed, never}
 use Rattle.coap_many.proofs.Goes.{goes_on}
@@ -82,4 +82,12 @@ returns-clause-smooth c = λ clocks config events turns run legal one k client g
     c.agreement.ensures.smooth (world_of config k) _ _ v.seen.made
     (by_one_clock (world_of config k) _ _ v.legal
     (λ n. one k.at (is_member k config.clients client) (place config k.at turns n))) goes.smooth goes.few_told
+    goes.none_observed
+
+pub returns-clause-eight : goal.returns-clause-eight
+returns-clause-eight c = λ clocks config events turns run legal one none k client goes.
+    let v = views_are_runs clocks config events turns run legal k client in
+    c.agreement.ensures.eight (world_of config k) _ _ v.seen.made
+    (by_one_clock (world_of config k) _ _ v.legal
+    (λ n. one k.at (is_member k config.clients client) (place config k.at turns n))) none goes.smooth goes.few_told
     goes.none_observed

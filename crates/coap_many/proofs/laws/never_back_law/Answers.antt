@@ -1,4 +1,4 @@
-use Rattle.coap_server.proofs.Facts.Laws.{stamped}
+use Rattle.coap_server_laws.proofs.Facts.Laws.{stamped}
 use Rattle.coap_many.specs.Entries.{entries_of, server_trace}
 use Rattle.coap_many.proofs.NeverBack.{never_back}
 use Rattle.coap_many.proofs.laws.never_back_law.Goals as goal

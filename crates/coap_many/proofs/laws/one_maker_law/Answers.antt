@@ -1,4 +1,4 @@
-use Rattle.coap_server.proofs.Facts.Laws.{right}
+use Rattle.coap_server_laws.proofs.Facts.Laws.{right}
 use Rattle.coap_many.specs.Entries.{entries_of, server_trace}
 use Rattle.coap_many.proofs.OneMaker.{one_maker}
 use Rattle.coap_many.proofs.OneRequestMakes.{requests_make}

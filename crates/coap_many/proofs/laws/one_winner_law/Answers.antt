@@ -1,4 +1,4 @@
-use Rattle.coap_server.proofs.Facts.Laws.{right, stamped}
+use Rattle.coap_server_laws.proofs.Facts.Laws.{right, stamped}
 use Rattle.coap_many.specs.Entries.{client_of, entries_of, server_trace}
 use Rattle.coap_many.proofs.OneCallWins.{one_call_wins}
 use Rattle.coap_many.proofs.OneRequestWins.{one_request_wins}

@@ -1,4 +1,4 @@
-use Rattle.coap_server.proofs.Facts.Laws.{stamped}
+use Rattle.coap_server_laws.proofs.Facts.Laws.{stamped}
 use Rattle.coap_many.specs.Entries.{entries_of, server_trace}
 use Rattle.coap_many.proofs.DoneReads.{reads_what_was_done, observes_what_was_done}
 use Rattle.coap_many.proofs.laws.reads_what_was_done_law.Goals as goal

@@ -1,5 +1,5 @@
 use Rattle.std.proofs.Common.{rules, arith, map}
-use Rattle.coap_world.specs.Run.Happening.{event_of}
+use Rattle.coap_run.specs.Run.Happening.{event_of}
 use Rattle.coap_page.proofs.telling.run_told.Goals as goal
 
 pub returns-in_ok-text-in-Err-NotLegal : goal.returns-in_ok-text-in-Err-NotLegal

@@ -30,7 +30,8 @@ loop-body-preserved g c =
         place = omega (
           arith,
           so_far.2.place,
-          rest_is_less c.loop-body.at c.in-Some.body.now c.loop-body.rest.now c.in-Some.behind.now c.in-Some.ensures.some,
+          rest_is_less c.loop-body.at c.in-Some.body.now c.loop-body.rest.now c.in-Some.behind.now
+              c.in-Some.ensures.some,
         );
         life = next.4 ∙ ap (λ (l : Life). last_life l (next.0 ∷ [])) so_far.2.life
             ∙ sym (last_life_more c.args.life so_far.0 next.0);

@@ -3,7 +3,8 @@ use Rattle.coap_layer.specs.Trace.{Packet}
 use Rattle.coap_journal.specs.Frames.{frames}
 use Rattle.coap_journal.specs.Records.{Record}
 use Rattle.coap_server.specs.Object.Shown.{state_of}
-use Rattle.coap_replay.specs.Replaying.{Replays, bodies, last_life, latest_moment}
+use Rattle.coap_replay.specs.Doing.{bodies}
+use Rattle.coap_replay.specs.Replaying.{Replays, last_life, latest_moment}
 use Rattle.coap_replay.proofs.replay.replay_frames.Given as goal
 
 abbrev pub invariant-loop-body : goal.invariant-loop-body

@@ -1,10 +1,10 @@
-use Rattle.coap_world.proofs.Age.Promised.{fresh_in_pace}
-use Rattle.coap_world.proofs.Progress.EachPosition.{never_faults}
-use Rattle.coap_world.proofs.Reported.EightCalls.{eight_reported}
-use Rattle.coap_world.proofs.Reports.Promised.{agrees_by, exchanges_bounded_by}
-use Rattle.coap_world.specs.Record.{entries_of}
-use Rattle.coap_world.specs.SmoothAnswers.{AllAnswer, EndByAnswers}
-use Rattle.coap_world.specs.Young.{AreYoung}
+use Rattle.coap_promise.proofs.Facts.Age.Promised.{fresh_in_pace}
+use Rattle.coap_promise.proofs.Facts.Promised.{never_faults}
+use Rattle.coap_smooth.proofs.Facts.Reported.EightCalls.{eight_reported}
+use Rattle.coap_promise.proofs.Facts.Promised.{agrees_by, exchanges_bounded_by}
+use Rattle.coap_record.specs.Record.{entries_of}
+use Rattle.coap_smooth.specs.SmoothAnswers.{AllAnswer, EndByAnswers}
+use Rattle.coap_smooth.specs.Young.{AreYoung}
 use Rattle.coap_world.proofs.laws.agreement.Goals as goal
 
 pub returns-clause-agrees : goal.returns-clause-agrees

@@ -1,5 +1,5 @@
 use Rattle.std.proofs.Common.{ap}
-use Rattle.coap_client.proofs.Turning.Leading.{led_client}
+use Rattle.coap_client.proofs.Facts.Turning.Leading.{led_client}
 use Rattle.coap_client.specs.Object.Happens.{left}
 use Rattle.coap_client.specs.Object.Held.{seen}
 use Rattle.coap_client.proofs.Calls.IsLed.{closes_call, same_led, seen_step}

@@ -1,4 +1,4 @@
-use Rattle.coap_client.proofs.Turning.Leading.{led_client}
+use Rattle.coap_client.proofs.Facts.Turning.Leading.{led_client}
 use Rattle.coap_client.specs.Object.Held.{seen}
 use Rattle.coap_client.proofs.Calls.IsLed.{seen_step}
 use Rattle.coap_client.proofs.Calls.Watched.{led_step}

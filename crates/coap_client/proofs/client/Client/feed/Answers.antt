@@ -1,8 +1,8 @@
 use Rattle.std.proofs.Common.{refl, sym, subst, ◌∙◌}
-use Rattle.coap_client.proofs.Turning.Leading.{led_client}
+use Rattle.coap_client.proofs.Facts.Turning.Leading.{led_client}
 use Rattle.coap_client.specs.Object.Happens.{Watched}
 use Rattle.coap_client.specs.Object.Held.{own_of, seen}
-use Rattle.coap_client.proofs.Calls.Happening.{err_of, fed_by, ok_of, on_ok}
+use Rattle.coap_client.proofs.Facts.Calls.Happening.{err_of, fed_by, ok_of, on_ok}
 use Rattle.coap_client.proofs.Calls.Watched.{apart, led_step, undone, watched}
 use Rattle.coap_client.proofs.client.Client.feed.Goals as goal
 

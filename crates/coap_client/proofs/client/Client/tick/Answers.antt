@@ -1,8 +1,8 @@
-use Rattle.coap_client.proofs.Turning.Leading.{led_client}
+use Rattle.coap_client.proofs.Facts.Turning.Leading.{led_client}
 use Rattle.coap_client.specs.Object.Held.{own_of, seen}
 use Rattle.coap_client.proofs.Calls.IsLed.{both_err, closes_if, if_ok, on_err, same_led, same_left, seen_step}
 use Rattle.coap_client.proofs.Calls.Watched.{apart, led_step}
-use Rattle.coap_client.proofs.Calls.WorkFalls.{ticks_fall}
+use Rattle.coap_client.proofs.Facts.Calls.WorkFalls.{ticks_fall}
 use Rattle.coap_client.proofs.client.Client.tick.Goals as goal
 
 pub tick-requires : goal.tick-requires

@@ -5,7 +5,7 @@ use Rattle.coap_operations.specs.Listed.{running_map}
 use Rattle.coap_client.specs.declared.client.operation.Waiting.{Waiting}
 use Rattle.coap_client.specs.Object.Held.{own_of}
 use Rattle.coap_client.specs.Object.Shown.{shown_operation}
-use Rattle.coap_client.proofs.Calls.PassingLemmas.{shown_none, shown_some}
+use Rattle.coap_client.proofs.Facts.Calls.PassingLemmas.{shown_none, shown_some}
 use Rattle.coap_client.proofs.Calls.DueLemmas.{begins_never, begins_now, begins_first}
 use Rattle.coap_client.proofs.client.due.begins_from.Goals as goal
 

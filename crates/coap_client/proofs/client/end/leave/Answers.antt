@@ -6,7 +6,7 @@ use Rattle.coap_client.specs.declared.client.operation.Observation as B
 use Rattle.coap_client.specs.declared.client.operation.Waiting.{Waiting}
 use Rattle.coap_client.specs.Own.{Observation}
 use Rattle.coap_client.specs.Observations.{observation_of}
-use Rattle.coap_client.specs.Follows.Places.{in_observations}
+use Rattle.coap_client.specs.Places.{in_observations}
 use Rattle.coap_client.specs.Object.Happens.{IsDone, releasing}
 use Rattle.coap_client.specs.Object.Held.{own_of}
 use Rattle.coap_client.specs.Object.Shown.{shown_observation, shown_operation}

@@ -1,5 +1,5 @@
 use Rattle.coap_client.specs.Object.Held.{own_of}
-use Rattle.coap_client.proofs.Calls.Happening.{failed_happens}
+use Rattle.coap_client.proofs.Facts.Calls.Happening.{failed_happens}
 use Rattle.coap_client.proofs.client.event.failed.Goals as goal
 
 pub returns-clause-happens : goal.returns-clause-happens

@@ -1,6 +1,6 @@
 use Rattle.std.proofs.Common.{refl}
 use Rattle.coap_client.specs.Object.Held.{own_of}
-use Rattle.coap_client.proofs.Calls.Happening.{nothing_comes}
+use Rattle.coap_client.proofs.Facts.Calls.Happening.{nothing_comes}
 use Rattle.coap_client.proofs.client.event.happen.Goals as goal
 
 pub returns-in_default-clause-happens : goal.returns-in_default-clause-happens

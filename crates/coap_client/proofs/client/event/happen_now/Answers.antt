@@ -1,6 +1,6 @@
 use Rattle.std.proofs.Common.{sym}
 use Rattle.coap_client.specs.Object.Held.{own_of}
-use Rattle.coap_client.proofs.Calls.Happening.{event_happens}
+use Rattle.coap_client.proofs.Facts.Calls.Happening.{event_happens}
 use Rattle.coap_client.proofs.client.event.happen_now.Goals as goal
 
 pub returns-in-Timeout-clause-happens : goal.returns-in-Timeout-clause-happens

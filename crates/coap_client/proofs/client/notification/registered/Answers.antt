@@ -7,7 +7,7 @@ use Rattle.coap_client.specs.Trace.{Ended}
 use Rattle.std.specs.Option.{option_map}
 use Rattle.coap_client.specs.Object.Held.{own_of}
 use Rattle.coap_client.specs.Object.Shown.{shown_operation}
-use Rattle.coap_client.proofs.Calls.Happening.{begun_own, not_registered, registered_number, was_registered}
+use Rattle.coap_client.proofs.Facts.Calls.Happening.{begun_own, not_registered, registered_number, was_registered}
 use Rattle.coap_client.proofs.client.notification.registered.Goals as goal
 
 pub returns-in_default-clause-happens : goal.returns-in_default-clause-happens

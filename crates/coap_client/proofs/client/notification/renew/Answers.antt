@@ -4,7 +4,7 @@ use Rattle.coap_operations.specs.Listed.{Listed}
 use Rattle.coap_client.specs.declared.client.operation.Observation as B
 use Rattle.coap_client.specs.declared.client.operation.Waiting.{Waiting}
 use Rattle.coap_client.specs.Own.{Own}
-use Rattle.coap_client.specs.Follows.Places.{in_observations}
+use Rattle.coap_client.specs.Places.{in_observations}
 use Rattle.coap_client.specs.Object.Held.{own_of}
 use Rattle.coap_client.specs.Object.Shown.{shown_observation, shown_operation, shown_queued}
 use Rattle.coap_client.proofs.Calls.HeldLemmas.{dropped_shown}

@@ -5,12 +5,12 @@ use Rattle.coap_client.specs.Observations.{observation_of, rest_of, with_rest}
 use Rattle.coap_client.specs.Effects.{Rests, of}
 use Rattle.coap_client.specs.Fetching.{fetch_answered}
 use Rattle.coap_client.specs.Own.{Fetching}
-use Rattle.coap_client.specs.Follows.Places.{in_observations}
+use Rattle.coap_client.specs.Places.{in_observations}
 use Rattle.coap_client.specs.Steps.{reporting}
 use Rattle.coap_client.specs.Object.Happens.{Apart, Happens, left, resting, running}
 use Rattle.coap_client.specs.Object.Held.{own_of}
 use Rattle.coap_client.specs.Object.Shown.{shown_asked, shown_observation, shown_report, shown_rest}
-use Rattle.coap_client.proofs.Calls.Happening.{on_err}
+use Rattle.coap_client.proofs.Facts.Calls.Happening.{on_err}
 use Rattle.coap_client.proofs.Calls.HeldLemmas.{fetched_own, idle_own, one_observation, rested_apart, set_one}
 use Rattle.coap_client.proofs.Calls.HeldLemmas.{taken_own}
 use Rattle.coap_client.proofs.Calls.FetchingLemmas.{asks_back, asks_next, asks_rest, fetch_held, if_ok, rest_there}

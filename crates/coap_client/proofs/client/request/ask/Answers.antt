@@ -1,5 +1,5 @@
 use Rattle.std.proofs.Common.{sym, ◌∙◌}
-use Rattle.coap_client.proofs.Calls.Happening.{refused_sends}
+use Rattle.coap_client.proofs.Facts.Calls.Happening.{refused_sends}
 use Rattle.coap_client.proofs.client.request.ask.Goals as goal
 
 pub returns-in-Err-Running-clause-sends : goal.returns-in-Err-Running-clause-sends

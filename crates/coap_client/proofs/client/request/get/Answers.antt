@@ -1,7 +1,7 @@
 use Rattle.std.proofs.Common.{[], sym, subst, ◌∙◌}
 use Rattle.std.specs.Option.{option_map}
 use Rattle.coap_exchange.specs.Machine.AskerShown.{IsAskable}
-use Rattle.coap_client.proofs.Calls.AskableRequests.{get_askable}
+use Rattle.coap_client.proofs.Facts.Calls.AskableRequests.{get_askable}
 use Rattle.coap_client.proofs.client.request.get.Goals as goal
 
 pub ask-requires : goal.ask-requires

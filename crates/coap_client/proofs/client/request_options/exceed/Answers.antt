@@ -1,7 +1,7 @@
 use Rattle.std.proofs.Common.{◌<◌, ℕ, List, length, subst}
 use Rattle.std.specs.Prelude.{◌^◌}
 use Rattle.coap_codec.specs.Options.{Options}
-use Rattle.coap_client.proofs.Calls.AskableRequests.{uncounted}
+use Rattle.coap_client.proofs.Facts.Calls.AskableRequests.{uncounted}
 use Rattle.coap_client.proofs.client.request_options.exceed.Goals as goal
 
 pub returns-in-None : goal.returns-in-None

@@ -2,7 +2,7 @@ use Rattle.std.proofs.Common.{◌≤◌, ℕ, None, Some, [], ◌∷◌, List, l
 use Rattle.std.specs.List.{All}
 use Rattle.coap_types.specs.Path.{segments_of}
 use Rattle.coap_client.specs.Object.CallShown.{IsGood}
-use Rattle.coap_client.proofs.Calls.AskableRequests.{good_get}
+use Rattle.coap_client.proofs.Facts.Calls.AskableRequests.{good_get}
 use Rattle.coap_client.proofs.client.request_options.is_long_path.Goals as goal
 
 pub exceed-requires : goal.exceed-requires

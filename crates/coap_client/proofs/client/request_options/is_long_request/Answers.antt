@@ -1,6 +1,6 @@
 use Rattle.std.proofs.Common.{Some, [], ◌∷◌, subst, sym, arith}
 use Rattle.coap_client.specs.Object.CallShown.{IsGood, shown_request}
-use Rattle.coap_client.proofs.Calls.AskableRequests.{good_call, good_tail, ranges_of}
+use Rattle.coap_client.proofs.Facts.Calls.AskableRequests.{good_call, good_tail, ranges_of}
 use Rattle.coap_client.proofs.client.request_options.is_long_request.Goals as goal
 
 pub exceed-requires : goal.exceed-requires

@@ -2,7 +2,7 @@ use Rattle.std.proofs.Common.{map, ap, sym, ◌∙◌}
 use Rattle.std.specs.Prelude.{is_some}
 use Rattle.coap_client.specs.Object.Shown.{shown_observation, shown_rest}
 use Rattle.coap_client.proofs.Calls.LiveLemmas.{behind, fetch_behind, fetch_here}
-use Rattle.coap_client.proofs.Calls.PassingLemmas.{shown_none, shown_some}
+use Rattle.coap_client.proofs.Facts.Calls.PassingLemmas.{shown_none, shown_some}
 use Rattle.coap_client.proofs.client.scheduler.+to_fetch_from.Goals as goal
 
 pub returns-then-is_some : goal.returns-then-is_some

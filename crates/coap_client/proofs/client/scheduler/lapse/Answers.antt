@@ -4,8 +4,8 @@ use Rattle.coap_client.specs.Events.{failed}
 use Rattle.std.specs.Prelude.{None}
 use Rattle.coap_client.specs.Object.Held.{own_of}
 use Rattle.coap_client.specs.Object.Shown.{shown_report}
-use Rattle.coap_client.proofs.Calls.Happening.{deed_happens}
-use Rattle.coap_client.proofs.Calls.PassingLemmas.{fails_silently}
+use Rattle.coap_client.proofs.Facts.Calls.Happening.{deed_happens}
+use Rattle.coap_client.proofs.Facts.Calls.PassingLemmas.{fails_silently}
 use Rattle.coap_client.proofs.client.scheduler.lapse.Goals as goal
 
 pub returns-clause-comes : goal.returns-clause-comes

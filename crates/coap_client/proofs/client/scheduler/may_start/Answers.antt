@@ -3,7 +3,7 @@ use Rattle.std.specs.Option.{option_map}
 use Rattle.coap_operations.specs.Listed.{queued_map}
 use Rattle.coap_client.specs.declared.client.operation.Waiting.{Waiting}
 use Rattle.coap_client.specs.Object.Held.{own_of}
-use Rattle.coap_client.proofs.Calls.PassingLemmas.{may_cancel, may_first, may_nothing}
+use Rattle.coap_client.proofs.Facts.Calls.PassingLemmas.{may_cancel, may_first, may_nothing}
 use Rattle.coap_client.proofs.client.scheduler.may_start.Goals as goal
 
 pub returns-in-Some-Starts : goal.returns-in-Some-Starts

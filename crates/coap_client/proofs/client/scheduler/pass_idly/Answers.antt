@@ -11,8 +11,8 @@ use Rattle.coap_client.specs.Object.Happens.{Comes}
 use Rattle.coap_client.specs.Object.Held.{own_of, seen}
 use Rattle.coap_client.specs.Object.Shown.{shown_operation}
 use Rattle.coap_client.specs.Object.Starts.{idle_now}
-use Rattle.coap_client.proofs.Calls.PassingLemmas.{idle_fetches, idle_starts, idle_stays, rest_comes, shown_none}
-use Rattle.coap_client.proofs.Calls.PassingLemmas.{shown_some}
+use Rattle.coap_client.proofs.Facts.Calls.PassingLemmas.{idle_fetches, idle_starts, idle_stays, rest_comes, shown_none}
+use Rattle.coap_client.proofs.Facts.Calls.PassingLemmas.{shown_some}
 use Rattle.coap_client.proofs.client.scheduler.pass_idly.Goals as goal
 
 pub returns-then-is_some-clause-happens : goal.returns-then-is_some-clause-happens

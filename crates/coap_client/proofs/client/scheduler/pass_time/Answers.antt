@@ -5,7 +5,7 @@ use Rattle.coap_client.specs.Events.{failed, passes}
 use Rattle.coap_client.specs.Object.Happens.{Comes}
 use Rattle.coap_client.specs.Object.Held.{own_of, seen}
 use Rattle.coap_client.specs.Object.Shown.{shown_report, shown_reported}
-use Rattle.coap_client.proofs.Calls.PassingLemmas.{rest_comes}
+use Rattle.coap_client.proofs.Facts.Calls.PassingLemmas.{rest_comes}
 use Rattle.coap_client.proofs.client.scheduler.pass_time.Goals as goal
 
 pub returns-in-Copied-clause-happens : goal.returns-in-Copied-clause-happens

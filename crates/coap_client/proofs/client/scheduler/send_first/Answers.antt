@@ -7,7 +7,7 @@ use Rattle.coap_client.specs.Requests.{message_of}
 use Rattle.coap_client.specs.Object.Sends.{Sends}
 use Rattle.coap_client.specs.Object.Shown.{shown_observation}
 use Rattle.coap_client.proofs.Calls.WaitingLemmas.{if_map}
-use Rattle.coap_client.proofs.Calls.PassingLemmas.{first_shown}
+use Rattle.coap_client.proofs.Facts.Calls.PassingLemmas.{first_shown}
 use Rattle.coap_client.proofs.client.scheduler.send_first.Goals as goal
 
 pub returns-in-Some-Starts-clause-sends : goal.returns-in-Some-Starts-clause-sends

@@ -6,7 +6,7 @@ use Rattle.coap_client.specs.Object.Happens.{Comes}
 use Rattle.coap_client.specs.Object.Held.{own_of, seen}
 use Rattle.coap_client.specs.Object.Shown.{shown_reported}
 use Rattle.coap_client.specs.Object.Starts.{starts_now}
-use Rattle.coap_client.proofs.Calls.PassingLemmas.{rest_comes, starts_ask, starts_rests}
+use Rattle.coap_client.proofs.Facts.Calls.PassingLemmas.{rest_comes, starts_ask, starts_rests}
 use Rattle.coap_client.proofs.client.scheduler.start_first.Goals as goal
 
 pub returns-in_ok-given-clause-happens : goal.returns-in_ok-given-clause-happens

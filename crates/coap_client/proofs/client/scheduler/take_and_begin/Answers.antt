@@ -7,7 +7,8 @@ use Rattle.coap_client.specs.Object.Happens.{Apart, Comes}
 use Rattle.coap_client.specs.Object.Held.{own_of, seen}
 use Rattle.coap_client.specs.Object.Sends.{Sends}
 use Rattle.coap_client.specs.Object.Shown.{shown_observation, shown_operation}
-use Rattle.coap_client.proofs.Calls.PassingLemmas.{drop_shown, first_runs_shown, may_some, started_apart, starts_first}
+use Rattle.coap_client.proofs.Facts.Calls.PassingLemmas.{drop_shown, first_runs_shown, may_some, started_apart}
+use Rattle.coap_client.proofs.Facts.Calls.PassingLemmas.{starts_first}
 use Rattle.coap_client.proofs.client.scheduler.take_and_begin.Goals as goal
 
 pub returns-clause-begun : goal.returns-clause-begun

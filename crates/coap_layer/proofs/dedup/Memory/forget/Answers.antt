@@ -27,7 +27,8 @@ invariant_of-self g c =
       omega arith,
       omega (arith, len, left, bound, less),
       subst (IsTurned c.self.inside.turn (earlier - passed)) (sym c.let_go.ensures.entries)
-          (turned_left c.self.inside.turn es passed (earlier - passed) earlier (omega (arith, less)) c.self.invariant.5),
+          (turned_left c.self.inside.turn es passed (earlier - passed) earlier (omega (arith, less))
+          c.self.invariant.5),
       subst (λ xs. IsDistinct same_key (keys_of (drop 0 xs))) (sym c.let_go.ensures.entries)
           (distinct_further es c.self.inside.passed passed c.passed_by-passed.ensures.further c.self.invariant.6),
       apart_filtered c.args.now.0 (option_map arrived_as c.self.inside.newest) _ _ _ _ c.self.invariant.7

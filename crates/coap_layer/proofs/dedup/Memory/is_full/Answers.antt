@@ -19,7 +19,8 @@ returns-then-others-settled g c =
     let len = c.len.ensures.len in
     let known = c.live_newest-newest.ensures in
     ap not (c.is_passed_at.ensures ∙ ap (λ n. is_passed_at now es (n - others)) c.len-then-others-settled.ensures.len)
-    ∙ (full_is now passed others c.args.most es ns (omega (arith, few)) (omega (arith, one, known, number, some)) c.self.invariant.1
+    ∙ (full_is now passed others c.args.most es ns (omega (arith, few)) (omega (arith, one, known, number, some))
+    c.self.invariant.1
     (omega (arith, len, c.if-others-settled.true))
     ∙ ap (λ xs. nat_le c.args.most (length (filter (is_live now) (xs ++ ns)))) (ap (λ m. m.settled) c.self.view_is))
 
@@ -38,6 +39,7 @@ returns-else-others-settled g c =
     let known = c.live_newest-newest.ensures in
     let less = c.if-others-settled.false in
     let no : nat_le others (c.len.result - passed) ≡ false = grind (arith, nat_tests, less) in
-    no ∙ (sym (not_full_is now passed others c.args.most es ns (omega (arith, few)) (omega (arith, one, known, number, some))
+    no ∙ (sym (not_full_is now passed others c.args.most es ns (omega (arith, few))
+    (omega (arith, one, known, number, some))
     (omega (arith, len, less)))
     ∙ ap (λ xs. nat_le c.args.most (length (filter (is_live now) (xs ++ ns)))) (ap (λ m. m.settled) c.self.view_is))

@@ -21,7 +21,8 @@ use Rattle.coap_layer.proofs.layer.Layer.confirm.Goals as goal
 
 pub returns-in-Some-clause-step : goal.returns-in-Some-clause-step
 returns-in-Some-clause-step g c _ =
-    let h : State = held c.self.inside.most c.self.inside.clock.0 c.self.inside.awaits c.self.inside.ids c.self.inside.lists in
+    let h : State = held c.self.inside.most c.self.inside.clock.0 c.self.inside.awaits c.self.inside.ids
+    c.self.inside.lists in
     let busy : c.is_busy-busy.result ≡ is_busy c.args.to h.open_cons
     = c.is_busy-busy.ensures ∙ (ap (λ cs. list_any (λ x. is_some x.last && same_endpoint x.to c.args.to) cs)
     c.deref.ensures.value ∙ busy_is c.args.to c.self.inside.lists.sendings.items) in
@@ -70,7 +71,8 @@ invariant_of-self-2 g c =
 
 pub returns-clause-step : goal.returns-clause-step
 returns-clause-step g c _ =
-    let h : State = held c.self.inside.most c.self.inside.clock.0 c.self.inside.awaits c.self.inside.ids c.self.inside.lists in
+    let h : State = held c.self.inside.most c.self.inside.clock.0 c.self.inside.awaits c.self.inside.ids
+    c.self.inside.lists in
     let busy : c.is_busy-busy.result ≡ is_busy c.args.to h.open_cons
     = c.is_busy-busy.ensures ∙ (ap (λ cs. list_any (λ x. is_some x.last && same_endpoint x.to c.args.to) cs)
     c.deref.ensures.value ∙ busy_is c.args.to c.self.inside.lists.sendings.items) in
@@ -102,7 +104,8 @@ returns-clause-before g c =
       to = c.args.to;
       bytes = message_bytes (with_head Con c.give-id.result.0 c.args.content.now);
     } ∷ [] in
-    before_same c.self.inside.most c.self.inside.mark _ _ c.self.inside.lists.entries.settled c.send_con.new.lists.entries.settled
+    before_same c.self.inside.most c.self.inside.mark _ _ c.self.inside.lists.entries.settled
+    c.send_con.new.lists.entries.settled
     c.self.inside.lists.sendings.items c.send_con.new.lists.sendings.items c.self.inside.lists.waiting.items
     c.send_con.new.lists.waiting.items out
     c.self.invariant.0 (ap (λ m. m.settled) (c.send_con.ensures.entries ∙ c.make_room.ensures.entries))
@@ -113,7 +116,8 @@ returns-clause-before g c =
 
 pub returns-in_default-make_room-clause-quiet : goal.returns-in_default-make_room-clause-quiet
 returns-in_default-make_room-clause-quiet g c quiet _ =
-    let h : State = held c.self.inside.most c.self.inside.clock.0 c.self.inside.awaits c.self.inside.ids c.self.inside.lists in
+    let h : State = held c.self.inside.most c.self.inside.clock.0 c.self.inside.awaits c.self.inside.ids
+    c.self.inside.lists in
     let busy : c.is_busy-busy.result ≡ is_busy c.args.to h.open_cons
     = c.is_busy-busy.ensures ∙ (ap (λ cs. list_any (λ x. is_some x.last && same_endpoint x.to c.args.to) cs)
     c.deref.ensures.value ∙ busy_is c.args.to c.self.inside.lists.sendings.items) in

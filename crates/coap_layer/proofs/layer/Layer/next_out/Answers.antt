@@ -14,7 +14,8 @@ invariant_of-self g c =
 
 pub returns-clause-step : goal.returns-clause-step
 returns-clause-step g c =
-    let h : State = held c.self.inside.most c.self.inside.clock.0 c.self.inside.awaits c.self.inside.ids c.self.inside.lists in
+    let h : State = held c.self.inside.most c.self.inside.clock.0 c.self.inside.awaits c.self.inside.ids
+    c.self.inside.lists in
     step_of h c.args.self.now.state _ 0 h.clock Take (Gives c.pop_front.result) []
     (ap (λ s. s.state) c.self.view_is) tt refl
     (ap Gives (first_is c.pop_front.result c.self.inside.lists.waiting.items c.pop_front.new.self.items

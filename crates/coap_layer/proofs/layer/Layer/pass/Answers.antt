@@ -13,7 +13,8 @@ invariant_of-self g c =
 
 pub returns-clause-step : goal.returns-clause-step
 returns-clause-step g c =
-    let h : State = held c.self.inside.most c.self.inside.clock.0 c.self.inside.awaits c.self.inside.ids c.self.inside.lists in
+    let h : State = held c.self.inside.most c.self.inside.clock.0 c.self.inside.awaits c.self.inside.ids
+    c.self.inside.lists in
     let at = c.later-self-inside.result.0 in
     step_of h c.args.self.now.state _ c.args.now.0 at Pass Nothing [] (ap (λ s. s.state) c.self.view_is) tt
     (search rules) refl refl

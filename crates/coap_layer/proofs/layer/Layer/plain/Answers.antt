@@ -12,14 +12,16 @@ use Rattle.coap_layer.proofs.layer.Layer.plain.Goals as goal
 
 pub returns-in-Some-clause-step : goal.returns-in-Some-clause-step
 returns-in-Some-clause-step g c _ =
-    let h : State = held c.self.inside.most c.self.inside.clock.0 c.self.inside.awaits c.self.inside.ids c.self.inside.lists in
+    let h : State = held c.self.inside.most c.self.inside.clock.0 c.self.inside.awaits c.self.inside.ids
+    c.self.inside.lists in
     non_refused h c.args.self.now.state c.args.now.0 c.later-at.result.0 c.args.to c.args.content.now
     (ap (λ s. s.state) c.self.view_is) c.requires.spelled (search rules)
     c.would_give.result c.in-Some.refusal c.would_give.ensures (sym c.refusal.ensures ∙ c.in-Some.is)
 
 pub returns-clause-step : goal.returns-clause-step
 returns-clause-step g c _ =
-    let h : State = held c.self.inside.most c.self.inside.clock.0 c.self.inside.awaits c.self.inside.ids c.self.inside.lists in
+    let h : State = held c.self.inside.most c.self.inside.clock.0 c.self.inside.awaits c.self.inside.ids
+    c.self.inside.lists in
     let out : List Packet = record {
       to = c.args.to;
       bytes = message_bytes (with_head Non c.give-id.result.0 c.args.content.now);
@@ -35,7 +37,8 @@ returns-clause-step g c _ =
 
 pub returns-in_default-make_room-clause-quiet : goal.returns-in_default-make_room-clause-quiet
 returns-in_default-make_room-clause-quiet g c quiet _ =
-    let h : State = held c.self.inside.most c.self.inside.clock.0 c.self.inside.awaits c.self.inside.ids c.self.inside.lists in
+    let h : State = held c.self.inside.most c.self.inside.clock.0 c.self.inside.awaits c.self.inside.ids
+    c.self.inside.lists in
     not_without h c.args.self.now.state c.args.now.0 c.later-at.result.0 c.would_give.result
     (ap (λ s. s.state) c.self.view_is) (search rules) c.would_give.ensures
     (sym c.refusal.ensures ∙ c.in_default.is) quiet

@@ -22,7 +22,8 @@ take_in-mark-requires-clause-up_to g c = subst (IsUpTo c.self.inside.clock.0)
 
 pub take_in-mark-requires-clause-unknown : goal.take_in-mark-requires-clause-unknown
 take_in-mark-requires-clause-unknown g c up =
-    let h : State = held c.self.inside.most c.self.inside.clock.0 c.self.inside.awaits c.self.inside.ids c.self.inside.lists in
+    let h : State = held c.self.inside.most c.self.inside.clock.0 c.self.inside.awaits c.self.inside.ids
+    c.self.inside.lists in
     let at : ℕ = c.later.result.0 in
     let a = c.judge-arriving.result in
     let judged = c.judge-arriving.ensures h refl refl refl (sym c.would_give-free.ensures) in
@@ -33,7 +34,8 @@ take_in-mark-requires-clause-unknown g c up =
 
 pub returns-clause-step : goal.returns-clause-step
 returns-clause-step g c =
-    let h : State = held c.self.inside.most c.self.inside.clock.0 c.self.inside.awaits c.self.inside.ids c.self.inside.lists in
+    let h : State = held c.self.inside.most c.self.inside.clock.0 c.self.inside.awaits c.self.inside.ids
+    c.self.inside.lists in
     let at : ℕ = c.later.result.0 in
     let a = c.judge-arriving.result in
     let shows = c.read-datagram.ensures in
@@ -54,7 +56,8 @@ returns-clause-step g c =
 
 pub returns-in_err-sent-clause-quiet : goal.returns-in_err-sent-clause-quiet
 returns-in_err-sent-clause-quiet g c quiet =
-    let h : State = held c.self.inside.most c.self.inside.clock.0 c.self.inside.awaits c.self.inside.ids c.self.inside.lists in
+    let h : State = held c.self.inside.most c.self.inside.clock.0 c.self.inside.awaits c.self.inside.ids
+    c.self.inside.lists in
     let at : ℕ = c.later.result.0 in
     let a = c.judge-arriving.result in
     let judged = c.judge-arriving.ensures h refl refl refl (sym c.would_give-free.ensures) in
@@ -66,7 +69,8 @@ returns-in_err-sent-clause-quiet g c quiet =
 
 pub returns-in_err-grow-clause-quiet : goal.returns-in_err-grow-clause-quiet
 returns-in_err-grow-clause-quiet g c quiet =
-    let h : State = held c.self.inside.most c.self.inside.clock.0 c.self.inside.awaits c.self.inside.ids c.self.inside.lists in
+    let h : State = held c.self.inside.most c.self.inside.clock.0 c.self.inside.awaits c.self.inside.ids
+    c.self.inside.lists in
     let at : ℕ = c.later.result.0 in
     let a = c.judge-arriving.result in
     let judged = c.judge-arriving.ensures h refl refl refl (sym c.would_give-free.ensures) in
@@ -100,7 +104,8 @@ invariant_of-self-2 g c =
 
 pub returns-clause-may_reply : goal.returns-clause-may_reply
 returns-clause-may_reply g c m up =
-    let h : State = held c.self.inside.most c.self.inside.clock.0 c.self.inside.awaits c.self.inside.ids c.self.inside.lists in
+    let h : State = held c.self.inside.most c.self.inside.clock.0 c.self.inside.awaits c.self.inside.ids
+    c.self.inside.lists in
     let at : ℕ = c.later.result.0 in
     let a = c.judge-arriving.result in
     let shows = c.read-datagram.ensures in

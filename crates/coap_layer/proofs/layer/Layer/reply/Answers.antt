@@ -29,7 +29,8 @@ invariant_of-self g c =
 
 pub returns-clause-step : goal.returns-clause-step
 returns-clause-step g c =
-    let h : State = held c.self.inside.most c.self.inside.clock.0 c.self.inside.awaits c.self.inside.ids c.self.inside.lists in
+    let h : State = held c.self.inside.most c.self.inside.clock.0 c.self.inside.awaits c.self.inside.ids
+    c.self.inside.lists in
     let old = c.self.inside.lists.entries in
     let id = c.args.id.0 in
     let bytes = c.args.bytes.now in
@@ -51,7 +52,8 @@ returns-clause-step g c =
 
 pub returns-clause-before : goal.returns-clause-before
 returns-clause-before g c =
-    before_same c.self.inside.most c.self.inside.mark _ _ c.self.inside.lists.entries.settled c.store_reply.new.self.settled
+    before_same c.self.inside.most c.self.inside.mark _ _ c.self.inside.lists.entries.settled
+    c.store_reply.new.self.settled
     c.self.inside.lists.sendings.items c.self.inside.lists.sendings.items c.self.inside.lists.waiting.items
     c.push_within.new.waiting.items _
     c.self.invariant.0 c.store_reply.ensures.settled refl c.push_within.ensures.items refl

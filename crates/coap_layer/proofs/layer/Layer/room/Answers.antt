@@ -14,7 +14,8 @@ use Rattle.coap_layer.proofs.layer.Layer.room.Goals as goal
 
 pub returns-clause-step : goal.returns-clause-step
 returns-clause-step g c =
-    let h : State = held c.self.inside.most c.self.inside.clock.0 c.self.inside.awaits c.self.inside.ids c.self.inside.lists in
+    let h : State = held c.self.inside.most c.self.inside.clock.0 c.self.inside.awaits c.self.inside.ids
+    c.self.inside.lists in
     let at : ℕ = c.later-at.result.0 in
     let told = so_told h c.args.self.now.state c.args.to c.args.now.0 at c.would_confirm-may.result
     (ap (λ s. s.state) c.self.view_is) (search rules) c.would_confirm-may.ensures in

@@ -23,7 +23,8 @@ invariant_of-self g c =
 
 pub returns-clause-step : goal.returns-clause-step
 returns-clause-step g c =
-    let h : State = held c.self.inside.most c.self.inside.clock.0 c.self.inside.awaits c.self.inside.ids c.self.inside.lists in
+    let h : State = held c.self.inside.most c.self.inside.clock.0 c.self.inside.awaits c.self.inside.ids
+    c.self.inside.lists in
     let there : c.is_outstanding-open.result ≡ is_outstanding c.args.to c.args.id.0
     (open_now c.self.inside.lists.sendings.items)
     = c.is_outstanding-open.ensures ∙ (ap (λ cs. list_any
@@ -37,7 +38,8 @@ returns-clause-step g c =
 
 pub returns-clause-before : goal.returns-clause-before
 returns-clause-before g c =
-    before_ended c.self.inside.most c.self.inside.mark _ c.self.inside.lists.entries.settled c.self.inside.lists.sendings.items
+    before_ended c.self.inside.most c.self.inside.mark _ c.self.inside.lists.entries.settled
+    c.self.inside.lists.sendings.items
     c.end_all.new.sendings.items c.self.inside.lists.waiting.items
     (ap open_before c.end_all.ensures.items ∙ ended_before c.args.to c.args.id.0 c.self.inside.lists.sendings.items)
     ∙ ap (λ s. s.before) c.self.view_is

@@ -17,7 +17,8 @@ use Rattle.coap_layer.proofs.layer.Layer.tick.Goals as goal
 
 pub returns-clause-step : goal.returns-clause-step
 returns-clause-step g c =
-    let h : State = held c.self.inside.most c.self.inside.clock.0 c.self.inside.awaits c.self.inside.ids c.self.inside.lists in
+    let h : State = held c.self.inside.most c.self.inside.clock.0 c.self.inside.awaits c.self.inside.ids
+    c.self.inside.lists in
     let at : ℕ = c.later.result.0 in
     let due = c.take_tick-due.result.1 in
     let out = option_to_list c.in_ok-sent.sent in

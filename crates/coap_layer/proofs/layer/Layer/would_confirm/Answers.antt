@@ -9,7 +9,8 @@ use Rattle.coap_layer.proofs.layer.Layer.would_confirm.Goals as goal
 
 pub returns : goal.returns
 returns g c =
-    let h : State = held c.self.inside.most c.self.inside.clock.0 c.self.inside.awaits c.self.inside.ids c.self.inside.lists in
+    let h : State = held c.self.inside.most c.self.inside.clock.0 c.self.inside.awaits c.self.inside.ids
+    c.self.inside.lists in
     let at = c.later-at.result.0 in
     let busy : c.is_busy-busy.result ≡ is_busy c.args.to h.open_cons
     = c.is_busy-busy.ensures ∙ (ap (λ cs. list_any (λ x. is_some x.last && same_endpoint x.to c.args.to) cs)

@@ -1,6 +1,6 @@
 use Rattle.coap_server.proofs.Calls.FeedIsACall.{on_ok, seen_step}
 use Rattle.coap_server.proofs.Calls.WorkFalls.{closes, led_on, on_err, same_led, same_timed}
-use Rattle.coap_server.proofs.Exact.Leads.{led_further}
+use Rattle.coap_server.proofs.Facts.Exact.Leads.{led_further}
 use Rattle.coap_server.proofs.server.Server.feed.Goals as goal
 
 pub invariant_of-self : goal.invariant_of-self

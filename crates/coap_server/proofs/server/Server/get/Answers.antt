@@ -1,6 +1,6 @@
 use Rattle.std.proofs.Common.{refl, ap, ◌∙◌}
 use Rattle.coap_server.specs.Object.Shown.{Kept}
-use Rattle.coap_server.proofs.Exact.Leads.{led_further}
+use Rattle.coap_server.proofs.Facts.Exact.Leads.{led_further}
 use Rattle.coap_server.proofs.server.Server.get.Goals as goal
 
 pub returns-clause-step : goal.returns-clause-step

@@ -15,7 +15,8 @@ invariant_of-self g c = (
 )
 
 pub returns-clause-none : goal.returns-clause-none
-returns-clause-none g c = if_none c.next_out.result _ _ (seen_led g.S.Store.content _ _ c.self.view_is c.self.invariant.0)
+returns-clause-none g c = if_none c.next_out.result _ _ (seen_led g.S.Store.content _ _ c.self.view_is
+    c.self.invariant.0)
     (returns-clause-step g c)
 
 pub returns-clause-some : goal.returns-clause-some

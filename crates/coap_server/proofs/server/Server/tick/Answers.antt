@@ -1,7 +1,7 @@
 use Rattle.coap_server.proofs.Calls.FeedIsACall.{seen_step}
 use Rattle.coap_server.proofs.Calls.WorkFalls.{closes, closes_if, if_ok, led_on, on_err, same_led, same_timed}
 use Rattle.coap_server.proofs.Calls.WorkFalls.{seen_led, ticks_fall}
-use Rattle.coap_server.proofs.Exact.Leads.{led_further}
+use Rattle.coap_server.proofs.Facts.Exact.Leads.{led_further}
 use Rattle.coap_server.proofs.server.Server.tick.Goals as goal
 
 pub invariant_of-self : goal.invariant_of-self

@@ -1,6 +1,6 @@
 use Rattle.std.proofs.Common.{rules, [], sym, subst}
 use Rattle.coap_server.specs.Led.{Led}
-use Rattle.coap_server.proofs.Exact.Leads.{led_empty}
+use Rattle.coap_server.proofs.Facts.Exact.Leads.{led_empty}
 use Rattle.coap_server.proofs.server.Server.with_setup.Goals as goal
 
 pub returns-clause-start : goal.returns-clause-start

@@ -20,5 +20,6 @@ returns-clause-first g c =
     let dues : IsFirstMoment (has_due x) from c.due.result =
     subst (λ (n : ℕ). IsFirstMoment (has_due x) n c.due.result) same c.due.ensures.first in
     let here : IsFirstMoment (has_work s) from c.earlier.result =
-    c.earlier.ensures (has_due x) (λ now. takes_notice x now p.observers.list) from dues (c.notices_from.ensures late) in
+    c.earlier.ensures (has_due x) (λ now. takes_notice x now p.observers.list) from dues
+    (c.notices_from.ensures late) in
     subst (λ (n : ℕ). IsFirstMoment (has_work s) n c.earlier.result) at here

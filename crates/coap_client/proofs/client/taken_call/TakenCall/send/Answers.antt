@@ -4,7 +4,7 @@ use Rattle.coap_types.specs.OptionValues.{option_with}
 use Rattle.coap_exchange.specs.Machine.AskerShown.{IsAskable}
 use Rattle.coap_client.specs.Requests.{block_option, options_of}
 use Rattle.coap_client.specs.Object.CallShown.{shown_request, shown_transfer}
-use Rattle.coap_client.proofs.Calls.AskableRequests.{call_askable, ranges_of}
+use Rattle.coap_client.proofs.Facts.Calls.AskableRequests.{call_askable, ranges_of}
 use Rattle.coap_client.proofs.client.taken_call.TakenCall.send.Goals as goal
 
 pub ask-requires : goal.ask-requires

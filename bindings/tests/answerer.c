@@ -1,0 +1,162 @@
+/* A server whose answers the application computes: its rows, byte for byte, and calls in any order. Says how many calls were
+ * answered how; status 1 at the first thing that is not as it should be. */
+#include "knifesilver_exchange.h"
+#include <stdio.h>
+#include <stdlib.h>
+
+#define WANT(holds) \
+    do { \
+        if (!(holds)) return fprintf(stderr, "%s:%d: not so: %s\n", __FILE__, __LINE__, #holds), 1; \
+    } while (0)
+
+static const ks_address client = {{127, 0, 0, 1}, 40001};
+static const ks_seed seed = {0, 1, 2};
+
+static bool sends(ks_answerer *server, const void *bytes, size_t len) {
+    uint8_t room[KS_DATAGRAM_ROOM];
+    ks_address to;
+    size_t n;
+    return ks_answerer_next_out(server, &to, room, sizeof room, &n) == KS_DONE && n == len && memcmp(room, bytes, n) == 0
+        && to.port == client.port;
+}
+
+/* An answer goes out once, and a copy gets it again; what was answered, or not asked, is refused by name. */
+static int answers(void) {
+    static const uint8_t get[] = {0x40, 1, 0, 1}, other[] = {0x40, 1, 0, 2}, reply[] = {0x60, 0x45, 0, 1, 0xff, 'h', 'i'};
+    ks_answerer server = {0};
+    ks_request_told request, second;
+    ks_draft draft;
+    WANT(ks_answerer_feed(&server, 0, &client, get, sizeof get, &request) == KS_NOT_LIVE);
+    WANT(ks_answerer_new(&server, 1048577, &seed) == KS_BAD_REMEMBERED);
+    WANT(ks_answerer_new(&server, 0, &seed) == KS_OK);
+    WANT(ks_answerer_feed(&server, 0, &client, get, sizeof get, &request) == KS_DONE);
+    WANT(request.code == 1 && request.payload_len == 0 && request.asked.id == 1 && request.asked.kind == KS_CON);
+    ks_draft_begin(&draft, 0x45);
+    WANT(ks_draft_payload(&draft, "hi", 2) == KS_OK);
+    WANT(ks_answerer_answer(&server, &request.asked, draft.bytes, 3) == KS_BAD_ARGUMENT);
+    WANT(ks_answerer_answer(&server, &request.asked, draft.bytes, draft.len) == KS_OK);
+    WANT(ks_answerer_answer(&server, &request.asked, draft.bytes, draft.len) == KS_ANSWER_GIVEN);
+    WANT(ks_answerer_defer(&server, 0, &request.asked, 0) == KS_ANSWER_GIVEN);
+    WANT(sends(&server, reply, sizeof reply));
+    WANT(ks_answerer_feed(&server, 1, &client, get, sizeof get, &second) == KS_OK);
+    WANT(sends(&server, reply, sizeof reply));
+    WANT(ks_answerer_answer(&server, &request.asked, draft.bytes, draft.len) == KS_ANSWER_NOT_ASKED);
+    WANT(ks_answerer_feed(&server, 1, &client, other, sizeof other, &second) == KS_DONE);
+    WANT(ks_answerer_answer(&server, &request.asked, draft.bytes, draft.len) == KS_ANSWER_NOT_ASKED);
+    ks_draft_begin(&draft, 1);
+    WANT(ks_answerer_answer(&server, &second.asked, draft.bytes, draft.len) == KS_ANSWER_BAD_RESPONSE);
+    ks_answerer_free(&server);
+    ks_answerer_free(&server);
+    return 0;
+}
+
+/* A deferred request is acknowledged, ready when its delay has passed, and answered once. */
+static int deferrals(void) {
+    static const uint8_t ack[] = {0x60, 0, 0, 7}, later[] = {0x41, 0x45, 0, 0, 9, 0xff, 'h', 'i'};
+    static const uint8_t get[] = {0x41, 5, 0, 7, 9}, non[] = {0x50, 1, 0, 8};
+    ks_answerer server = {0};
+    ks_request_told request;
+    ks_asked ready;
+    ks_draft draft;
+    uint64_t at;
+    ks_draft_begin(&draft, 0x45);
+    ks_draft_payload(&draft, "hi", 2);
+    WANT(ks_answerer_new(&server, 0, &seed) == KS_OK);
+    WANT(ks_answerer_feed(&server, 0, &client, non, sizeof non, &request) == KS_DONE);
+    WANT(ks_answerer_defer(&server, 0, &request.asked, 0) == KS_ANSWER_NOT_CONFIRMABLE);
+    WANT(ks_answerer_feed(&server, 0, &client, get, sizeof get, &request) == KS_DONE && request.code == 5);
+    WANT(ks_answerer_defer(&server, 0, &request.asked, 1000) == KS_OK);
+    WANT(sends(&server, ack, sizeof ack));
+    WANT(ks_answerer_due(&server, 0, &at) == KS_DONE && at == 1000);
+    WANT(ks_answerer_tick(&server, 999, &ready) == KS_OK);
+    WANT(ks_answerer_tick(&server, 1000, &ready) == KS_READY && memcmp(&ready.token, &request.asked.token, 1) == 0);
+    WANT(ks_answerer_respond(&server, &ready, draft.bytes, draft.len, 0) == KS_OK);
+    WANT(ks_answerer_respond(&server, &ready, draft.bytes, draft.len, 0) == KS_ANSWER_GIVEN);
+    WANT(sends(&server, later, sizeof later));
+    ready.id = 8;
+    WANT(ks_answerer_respond(&server, &ready, draft.bytes, draft.len, 0) == KS_ANSWER_NOT_READY);
+    ks_answerer_free(&server);
+    return 0;
+}
+
+/* Options, by hand after RFC 7252, section 3.1. */
+static int options(void) {
+    static const uint16_t known[] = {11, 15};
+    static const uint8_t written[] = {0x40, 0x45, 0, 0, 0xc1, 40, 0x21, 5, 0xe0, 0x06, 0xe6};
+    uint8_t value[8];
+    ks_draft draft;
+    size_t place = 0, len;
+    uint16_t number;
+    ks_draft_begin(&draft, 0x45);
+    WANT(ks_draft_uint(&draft, 12, 40) == KS_OK && ks_draft_uint(&draft, 14, 5) == KS_OK);
+    WANT(ks_draft_uint(&draft, 12, 0) == KS_OPTION_ORDER);
+    WANT(ks_draft_option(&draft, 2049, "", 0) == KS_OK);
+    WANT(draft.len == sizeof written && memcmp(draft.bytes, written, sizeof written) == 0);
+    WANT(ks_unknown_critical(draft.bytes, draft.len, known, 2, &number) == KS_DONE && number == 2049);
+    WANT(ks_next_option(draft.bytes, draft.len, &place, &number, value, 0, &len) == KS_SMALL_ROOM && place == 0 && len == 1);
+    WANT(ks_next_option(draft.bytes, draft.len, &place, &number, value, sizeof value, &len) == KS_DONE && value[0] == 40);
+    WANT(ks_next_option(draft.bytes, draft.len, &place, &number, value, sizeof value, &len) == KS_DONE && number == 14);
+    WANT(ks_next_option(draft.bytes, draft.len, &place, &number, value, sizeof value, &len) == KS_DONE && number == 2049);
+    WANT(ks_next_option(draft.bytes, draft.len, &place, &number, value, sizeof value, &len) == KS_OK);
+    return 0;
+}
+
+static uint64_t drawn = 88172645463325252u;
+
+static uint64_t draw(uint64_t most) {
+    drawn ^= drawn << 13;
+    drawn ^= drawn >> 7;
+    drawn ^= drawn << 17;
+    return drawn % most;
+}
+
+/* Calls in any order, with what was asked now, before, or never: each is answered by a number that the header has. */
+static int any_order(long calls) {
+    static const int32_t answers_of[] = {KS_OK, KS_DONE, KS_READY, KS_BAD_ARGUMENT, KS_ANSWER_NOT_ASKED, KS_ANSWER_GIVEN,
+        KS_ANSWER_DEFERRALS_FULL, KS_ANSWER_NOT_READY, KS_ANSWER_NOT_CONFIRMABLE, KS_ANSWER_BAD_RESPONSE};
+    enum { ANSWERS = sizeof answers_of / sizeof *answers_of };
+    long counted[ANSWERS] = {0};
+    ks_answerer server = {0};
+    ks_asked asked[8] = {0};
+    uint64_t now = 0;
+    WANT(ks_answerer_new(&server, 0, &seed) == KS_OK);
+    for (long n = 0; n < calls; n++) {
+        uint8_t bytes[64], room[KS_DATAGRAM_ROOM];
+        ks_request_told request = {0};
+        ks_asked *one = &asked[draw(8)];
+        ks_address to;
+        ks_draft draft;
+        uint16_t id;
+        size_t len = draw(2) ? 4 : draw(sizeof bytes);
+        int32_t answer = KS_OK;
+        for (size_t i = 0; i < len; i++) bytes[i] = (uint8_t)draw(256);
+        if (len == 4) bytes[0] = draw(4) ? 0x40 : 0x50, bytes[1] = (uint8_t)(1 + draw(7)), bytes[2] = 0;
+        ks_draft_begin(&draft, draw(16) ? 0x45 : (uint8_t)draw(256));
+        now += draw(50);
+        switch (draw(8)) {
+        case 0:
+        case 1: answer = ks_answerer_feed(&server, now, &client, bytes, len, &request);
+            if (answer == KS_DONE) *one = request.asked;
+            break;
+        case 2: answer = ks_answerer_answer(&server, one, draft.bytes, draft.len); break;
+        case 3: answer = ks_answerer_defer(&server, now, one, draw(100)); break;
+        case 4: answer = ks_answerer_tick(&server, now, one); break;
+        case 5: answer = ks_answerer_respond(&server, one, draft.bytes, draft.len, draw(1000)); break;
+        case 6: answer = ks_answerer_notify(&server, now, &client, bytes, draw(10), draft.bytes, draft.len, 0, &id); break;
+        default: while (ks_answerer_next_out(&server, &to, room, sizeof room, &len) == KS_DONE) {} break;
+        }
+        int i = 0;
+        while (i < ANSWERS && answers_of[i] != answer) i++;
+        WANT(i < ANSWERS);
+        counted[i]++;
+    }
+    ks_answerer_free(&server);
+    printf("%ld calls:", calls);
+    for (int i = 0; i < ANSWERS; i++) printf(" %d %ld times%s", (int)answers_of[i], counted[i], i + 1 < ANSWERS ? "," : "\n");
+    for (int i = 0; i < ANSWERS; i++) WANT(counted[i] > 0);
+    return 0;
+}
+
+int main(void) {
+    return answers() || deferrals() || options() || any_order(100000);
+}

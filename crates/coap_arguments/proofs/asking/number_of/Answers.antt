@@ -1,0 +1,14 @@
+use Rattle.std.proofs.Common.{◌∙◌, ap, sym, inl, inr, arith}
+use Rattle.clap.specs.Words.{first_of, found_of, rows_of}
+use Rattle.coap_arguments.proofs.asking.number_of.Goals as goal
+
+pub returns-in-None : goal.returns-in-None
+returns-in-None c = (
+  c.in-Some.text.now,
+  ap (λ name. first_of name (rows_of (found_of c.args.given.now))) (sym c.name.ensures) ∙ c.in-Some.ensures,
+  λ n is. elim is [
+    | inl digits ↦ inr (let most = c.requires.most in let over = c.in-None.ensures n digits in omega
+        (arith, most, over))
+    | inr word ↦ absurd (c.requires.digits _ n word)
+  ],
+)

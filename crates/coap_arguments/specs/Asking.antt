@@ -1,0 +1,106 @@
+-- What the words of a subcommand ask of a server.
+use Rattle.std.specs.Prelude.{ℕ, Bool, ◌↔◌, IsTrue, List, ◌≡◌, ◌⊎◌, ◌<◌, ◌≤◌, Option, Some, None, Ok}
+use Rattle.std.specs.Prelude.{codes, length}
+use Rattle.clap.specs.Words.{Row, Text, first_of}
+use Rattle.coap_types.specs.declared.tag.TheConstants.{MAX_TAG_LEN as max_tag_len, MAX_TAGS as max_tags}
+use Rattle.hex.specs.Hex.{decode_of}
+use Rattle.coap_arguments.specs.Addresses.{HasAddress}
+use Rattle.coap_arguments.specs.Numbers.{argument_of}
+use Rattle.coap_arguments.specs.Sizes.{HasSize}
+use Rattle.coap_arguments.specs.Texts.{AreTexts, SomeSaysNone, texts_of}
+use Rattle.coap_arguments.specs.Values.{HasLimit, HasNumber, HasRemembered, HasWord, IsValue}
+use Rattle.coap_arguments.specs.declared.refusals.AddressRefusal.TheVariants.{Host}
+use Rattle.coap_arguments.specs.declared.orders.AskOptions.{AskOptions}
+use Rattle.coap_arguments.specs.declared.orders.Content.{Content}
+use Rattle.coap_arguments.specs.declared.orders.Content.TheVariants as content
+use Rattle.coap_arguments.specs.declared.refusals.NumberRefusal.{NumberRefusal}
+use Rattle.coap_arguments.specs.declared.refusals.NumberRefusal.TheVariants.{Format, Accept, Times, Seconds, GiveUp}
+use Rattle.coap_arguments.specs.declared.refusals.TagsRefusal.{TagsRefusal}
+use Rattle.coap_arguments.specs.declared.refusals.TagsRefusal.TheVariants.{Etag, IfMatch}
+use Rattle.coap_arguments.specs.declared.orders.What.{What}
+use Rattle.coap_arguments.specs.declared.orders.What.TheVariants.{Get, Put, Post, Delete, Observe}
+use Rattle.coap_arguments.specs.declared.orders.WordChoice.TheVariants.{Random}
+
+-- ---- which subcommand asks for what
+
+-- it sends a body
+abbrev pub SendsBody : Text → Type 0
+SendsBody subcommand = (subcommand ≡ codes "put") ⊎ (subcommand ≡ codes "post")
+
+-- it asks for a change
+abbrev pub AsksChange : Text → Type 0
+AsksChange subcommand = (subcommand ≡ codes "delete") ⊎ SendsBody subcommand
+
+-- it asks something of a server
+abbrev pub IsAsk : Text → Type 0
+IsAsk subcommand = (subcommand ≡ codes "get") ⊎ ((subcommand ≡ codes "observe") ⊎ AsksChange subcommand)
+
+-- ---- the body: BODY, or what the file of this name holds, where the other is left out
+abbrev pub HasContent : List Row → Content → Type 0
+HasContent values (content.Text text) = IsValue (codes "BODY") values text.now × (first_of (codes "file") values ≡ None)
+HasContent values (content.File name) = (first_of (codes "BODY") values ≡ None) × IsValue (codes "file") values name.now
+
+-- both are there, or neither
+abbrev pub HasNoContent : List Row → Type 0
+HasNoContent values = ((first_of (codes "BODY") values ≡ None) × (first_of (codes "file") values ≡ None))
+    ⊎ ((body : Text) × (name : Text) × IsValue (codes "BODY") values body × IsValue (codes "file") values name)
+
+-- what the subcommand with these values asks for
+abbrev pub IsWhat : Text → List Row → What → Type 0
+IsWhat subcommand values Get = subcommand ≡ codes "get"
+IsWhat subcommand values (Put content) = (subcommand ≡ codes "put") × HasContent values content
+IsWhat subcommand values (Post content) = (subcommand ≡ codes "post") × HasContent values content
+IsWhat subcommand values Delete = subcommand ≡ codes "delete"
+IsWhat subcommand values Observe = subcommand ≡ codes "observe"
+
+-- ---- entity-tags (RFC 7252, section 5.10.6)
+
+-- the argument that is refused so, by its name in clap
+abbrev pub tags_argument_of : TagsRefusal → Text
+tags_argument_of Etag = codes "etag"
+tags_argument_of IfMatch = codes "if-match"
+
+-- the text is the hex of this entity-tag
+abbrev pub IsTagText : Text → List ℕ → Type 0
+IsTagText text tag = (decode_of text ≡ Ok tag) × (1 ≤ length tag) × (length tag ≤ max_tag_len)
+
+-- the argument has these entity-tags, in order
+abbrev pub HasTags : TagsRefusal → List Row → List (List ℕ) → Type 0
+HasTags argument values tags = AreTexts IsTagText (texts_of (tags_argument_of argument) values) tags
+    × (length tags ≤ max_tags)
+
+-- there are more than a request has, or a text is the hex of none
+abbrev pub AreNoTags : List Text → Type 0
+AreNoTags texts = (max_tags < length texts) ⊎ SomeSaysNone IsTagText texts
+
+abbrev pub HasNoTags : TagsRefusal → List Row → Type 0
+HasNoTags argument values = AreNoTags (texts_of (tags_argument_of argument) values)
+
+-- ---- options
+
+-- the argument has this number, or is left out
+abbrev pub HasOptionalNumber : NumberRefusal → List Row → Option ℕ → Type 0
+HasOptionalNumber argument values None = first_of (argument_of argument) values ≡ None
+HasOptionalNumber argument values (Some n) = HasNumber argument values n
+
+-- the flag is given, or left out
+abbrev pub HasFlag : Text → List Row → Bool → Type 0
+HasFlag name values set = IsTrue set ↔ IsValue name values (codes "true")
+
+-- the word where none is given is a random one
+pub record HasOptions (values : List Row) (options : AskOptions) : Type 0 where
+  pub host : HasAddress Host values options.host
+  pub size : HasSize values options.size
+  pub trace : HasFlag (codes "trace") values options.trace
+  pub format : HasOptionalNumber Format values options.format
+  pub accept : HasOptionalNumber Accept values options.accept
+  pub etags : HasTags Etag values options.etags
+  pub if_match : HasTags IfMatch values options.if_match
+  pub if_none_match : HasFlag (codes "if-none-match") values options.if_none_match
+  pub times : HasOptionalNumber Times values options.times
+  pub seconds : HasOptionalNumber Seconds values options.seconds
+  pub hex : HasFlag (codes "hex") values options.hex
+  pub give_up : HasOptionalNumber GiveUp values options.give_up
+  pub word : HasWord Random values options.word
+  pub limit : HasLimit values options.limit
+  pub remembered : HasRemembered values options.remembered

@@ -1,0 +1,114 @@
+-- The command line of the program, as a value: the arguments of each subcommand. The program builds it of tables of its
+-- own.
+use Rattle.std.specs.Prelude.{List, [], ◌∷◌, Some, true, false, codes}
+use Rattle.clap.specs.Simple.{new_shape}
+use Rattle.clap.specs.Words.{App, Rule, Text, new_app, new_rule}
+use Rattle.clap.specs.declared.builder.ArgAction.TheVariants.{Append, Set, SetTrue}
+
+-- a word that has to be there
+abbrev pub required_word : Text → Rule
+required_word name = record (new_rule name) { action = Some Set; required = true }
+
+-- a word that may be left out
+abbrev pub optional_word : Text → Rule
+optional_word name = record (new_rule name) { action = Some Set }
+
+-- `--NAME` and a value of it, which may be left out
+abbrev pub option_of : Text → Rule
+option_of name = record (new_rule name) { long = Some name; action = Some Set; value_names = 1 }
+
+-- `--NAME` and a value of it, any number of times
+abbrev pub repeated_of : Text → Rule
+repeated_of name = record (new_rule name) { long = Some name; action = Some Append; value_names = 1 }
+
+-- `--NAME`, which may be left out
+abbrev pub flag_of : Text → Rule
+flag_of name = record (new_rule name) { long = Some name; action = Some SetTrue }
+
+-- what each subcommand takes that makes an end: `--word N`, `--limit N` and `--remember N`
+abbrev pub of_an_end : List Rule
+of_an_end = option_of (codes "word") ∷ option_of (codes "limit") ∷ option_of (codes "remember") ∷ []
+
+-- what each subcommand takes besides that asks something of a server: `--host A.B.C.D`, `--size N`, `--trace` and
+-- `--give-up SECONDS`
+abbrev pub of_a_client : List Rule
+of_a_client = option_of (codes "host") ∷ option_of (codes "size") ∷ flag_of (codes "trace") ∷ option_of
+    (codes "give-up")
+    ∷ of_an_end
+
+-- on what a change is made: `--if-match HEX`, again and again, and `--if-none-match`
+abbrev pub conditions : List Rule → List Rule
+conditions rest = repeated_of (codes "if-match") ∷ flag_of (codes "if-none-match") ∷ rest
+
+-- a body, as a word or in a file, and its format
+abbrev pub with_body : List Rule → List Rule
+with_body rest = optional_word (codes "BODY") ∷ option_of (codes "file") ∷ option_of (codes "format") ∷ rest
+
+-- what each subcommand takes first that asks something of a server
+abbrev pub asking : List Rule → List Rule
+asking rest = required_word (codes "PORT") ∷ required_word (codes "PATH") ∷ rest
+
+-- how a server is set up: `--address A.B.C.D`, and `--hold PATH=BODY`, `--delay PATH=MS` and `--plain PATH`, each again
+-- and again, `--trace` and `--changes`
+abbrev pub setting_up : List Rule → List Rule
+setting_up rest = option_of (codes "address") ∷ repeated_of (codes "hold") ∷ repeated_of (codes "delay")
+    ∷ repeated_of (codes "plain") ∷ flag_of (codes "trace") ∷ flag_of (codes "changes") ∷ rest
+
+-- a command with these arguments and no subcommand
+abbrev pub leaf : Text → List Rule → App
+leaf name rules = record { top = record (new_shape name) { rules = rules }; subs = [] }
+
+abbrev pub show_app : App
+show_app = leaf (codes "show") (required_word (codes "HEX") ∷ [])
+
+abbrev pub dump_app : App
+dump_app = leaf (codes "dump") []
+
+abbrev pub answer_app : App
+answer_app = leaf (codes "answer")
+    (required_word (codes "PATH") ∷ required_word (codes "BODY") ∷ required_word (codes "HEX") ∷ [])
+
+abbrev pub pair_app : App
+pair_app = leaf (codes "pair") (required_word (codes "PATH") ∷ required_word (codes "BODY") ∷ of_an_end)
+
+-- `coap serve PORT COUNT`, of which COUNT may be left out, and the options by which a server is set up
+abbrev pub serve_app : App
+serve_app = leaf (codes "serve") (required_word (codes "PORT") ∷ optional_word (codes "COUNT") ∷ setting_up of_an_end)
+
+-- `coap get PORT PATH --accept N --etag HEX`, the latter again and again, and the options of a client
+abbrev pub get_app : App
+get_app = leaf (codes "get") (asking (option_of (codes "accept") ∷ repeated_of (codes "etag") ∷ of_a_client))
+
+abbrev pub put_app : App
+put_app = leaf (codes "put") (asking (with_body (conditions of_a_client)))
+
+abbrev pub post_app : App
+post_app = leaf (codes "post") (asking (with_body (conditions of_a_client)))
+
+abbrev pub delete_app : App
+delete_app = leaf (codes "delete") (asking (conditions of_a_client))
+
+-- `coap observe PORT PATH --count N --seconds N --hex`, and the options of a client
+abbrev pub observe_app : App
+observe_app = leaf (codes "observe")
+    (asking (option_of (codes "count") ∷ option_of (codes "seconds") ∷ flag_of (codes "hex") ∷ of_a_client))
+
+-- `coap sim FILE --store list|map`, `--plain PATH`, again and again, `--remember N` and `--chart`
+abbrev pub sim_app : App
+sim_app = leaf (codes "sim")
+    (required_word (codes "FILE") ∷ option_of (codes "store") ∷ repeated_of (codes "plain")
+    ∷ option_of (codes "remember") ∷ flag_of (codes "chart") ∷ [])
+
+-- the program, without its subcommands: one has to be there, and where nothing is, help is the answer
+abbrev pub base_app : App
+base_app = record (new_app (codes "coap")) {
+  top = record (new_app (codes "coap")).top { subcommand_required = true; arg_required_else_help = true };
+}
+
+-- the program, whose words name one of its subcommands
+abbrev pub coap_app : App
+coap_app = record {
+  top = record base_app.top { is_leaf = false };
+  subs = show_app.top ∷ dump_app.top ∷ answer_app.top ∷ pair_app.top ∷ serve_app.top ∷ sim_app.top ∷ get_app.top
+      ∷ put_app.top ∷ post_app.top ∷ delete_app.top ∷ observe_app.top ∷ [];
+}

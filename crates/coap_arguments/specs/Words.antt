@@ -1,0 +1,111 @@
+-- What the words of the program say, as clap reads them.
+use Rattle.std.specs.Prelude.{ℕ, List, ◌≡◌, ◌⊎◌, ⊤, codes}
+use Rattle.clap.specs.Words.{IsAmong, Row, Text, fault_of, kind_of}
+use Rattle.clap.specs.declared.error.Error.{Error}
+use Rattle.coap_types.specs.Path.{HoldsAtMost}
+use Rattle.coap_types.specs.declared.path.TheConstants.{MAX_SEGMENT_LEN as max_segment_len}
+use Rattle.coap_types.specs.declared.path.TheConstants.{MAX_SEGMENTS as max_segments}
+use Rattle.coap_arguments.specs.Addresses.{HasNoAddress}
+use Rattle.coap_arguments.specs.Asking.{HasFlag, HasNoContent, HasNoTags, HasOptions, IsAsk, IsWhat, SendsBody}
+use Rattle.coap_arguments.specs.CommandLine.{coap_app}
+use Rattle.coap_arguments.specs.Plains.{HasNoPlain, HasPlains, HasTooManyPlains}
+use Rattle.coap_arguments.specs.Serving.{HasNoSetting, HasServeOptions, serving_word}
+use Rattle.coap_arguments.specs.Sizes.{HasNoSize}
+use Rattle.coap_arguments.specs.Taking.{MakesEnd, TakesAddress, TakesNumber, TakesPath, TakesPlains, TakesTags}
+use Rattle.coap_arguments.specs.Values.{Enters, HasBytes, HasCount, HasLimit, HasNoBytes, HasNoNumber, HasNoPath}
+use Rattle.coap_arguments.specs.Values.{HasNoStore}
+use Rattle.coap_arguments.specs.Values.{HasNoWord, HasNumber, HasPath, HasRemembered, HasStore, HasWord, IsValue}
+use Rattle.coap_arguments.specs.declared.orders.Order.{Order}
+use Rattle.coap_arguments.specs.declared.orders.Order.TheVariants.{Show, Dump, Answer, Pair, Serve, Ask, Sim}
+use Rattle.coap_arguments.specs.declared.refusals.NumberRefusal.TheVariants.{Port}
+use Rattle.coap_arguments.specs.declared.orders.TheConstants.{DEFAULT_WORD as default_word}
+use Rattle.coap_arguments.specs.declared.orders.WordChoice.TheVariants.{Given}
+use Rattle.coap_arguments.specs.declared.orders.Wrong.{Wrong}
+use Rattle.coap_arguments.specs.declared.orders.Wrong.TheVariants.{Words, Path, Number, Word, Address, Size, Tags}
+use Rattle.coap_arguments.specs.declared.orders.Wrong.TheVariants.{Setting, Body, Store, Plains}
+use Rattle.coap_arguments.specs.declared.orders.Wrong.TheVariants.{Hex, Memory}
+
+-- the subcommand with these values says this order
+abbrev pub AsksForIn : Text → List Row → Order → Type 0
+AsksForIn subcommand values (Show datagram) = (subcommand ≡ codes "show") × HasBytes values datagram.items
+AsksForIn subcommand values Dump = subcommand ≡ codes "dump"
+AsksForIn subcommand values (Answer path body datagram) =
+    (subcommand ≡ codes "answer") × HasPath values path × HoldsAtMost max_segments max_segment_len path
+    × IsValue (codes "BODY") values body.now × HasBytes values datagram.items
+AsksForIn subcommand values (Pair path body word limit remembered) =
+    (subcommand ≡ codes "pair") × HasPath values path × HoldsAtMost max_segments max_segment_len path
+    × IsValue (codes "BODY") values body.now × HasWord (Given default_word) values word × HasLimit values limit
+    × HasRemembered values remembered
+AsksForIn subcommand values (Serve port count options) =
+    (subcommand ≡ codes "serve") × HasNumber Port values port × HasCount values count
+    × HasServeOptions (serving_word count) values options
+AsksForIn subcommand values (Ask port path what options) =
+    IsWhat subcommand values what × HasNumber Port values port × HasPath values path
+    × HoldsAtMost max_segments max_segment_len path × HasOptions values options
+AsksForIn subcommand values (Sim file store plains remembered chart) =
+    (subcommand ≡ codes "sim") × IsValue (codes "FILE") values file.now × HasStore values store
+    × HasPlains values plains.items × HasRemembered values remembered × HasFlag (codes "chart") values chart
+
+-- the words say this order
+abbrev pub AsksFor : List Text → Order → Type 0
+AsksFor words order = (subcommand : Text) × (values : List Row) × Enters words subcommand values
+    × AsksForIn subcommand values order
+
+-- the subcommand takes no PATH, or its PATH is a text of a path
+abbrev pub IsPathFine : Text → List Row → Type 0
+IsPathFine subcommand values = (subcommand ≡ codes "show")
+    ⊎ ((subcommand ≡ codes "answer") × (segments : List (List ℕ)) × HasPath values segments
+    × HoldsAtMost max_segments max_segment_len segments)
+
+-- clap refuses the words, and the error is of a kind that they call for
+abbrev pub IsRefusedBy : Error → List Text → Type 0
+IsRefusedBy error words = IsAmong (kind_of error) (fault_of coap_app words)
+
+-- this is wrong in the values of the subcommand; of memory that is refused they say nothing
+abbrev pub IsWrongIn : Text → List Row → Wrong → Type 0
+IsWrongIn subcommand values (Words error) = ⊥
+-- the PATH, or a value of `--plain`, is a text of no path, for this reason
+IsWrongIn subcommand values (Path refusal) = (TakesPath subcommand × HasNoPath values refusal)
+    ⊎ (TakesPlains subcommand × HasNoPlain values refusal)
+-- this argument is no number in its range
+IsWrongIn subcommand values (Number refusal) = TakesNumber refusal subcommand × HasNoNumber refusal values
+-- `--word` is no choice of a word
+IsWrongIn subcommand values Word = MakesEnd subcommand × HasNoWord values
+-- this argument is no address of IPv4
+IsWrongIn subcommand values (Address refusal) = TakesAddress refusal subcommand × HasNoAddress refusal values
+-- `--size` is no size of a block
+IsWrongIn subcommand values Size = IsAsk subcommand × HasNoSize values
+-- this argument is no entity-tag, or is given too often
+IsWrongIn subcommand values (Tags refusal) = TakesTags refusal subcommand × HasNoTags refusal values
+-- this argument says nothing of how a server is set up, or is given too often
+IsWrongIn subcommand values (Setting refusal) = (subcommand ≡ codes "serve") × HasNoSetting refusal values
+-- BODY and `--file` are both there, or neither
+IsWrongIn subcommand values Body = SendsBody subcommand × HasNoContent values
+-- `--store` names no store
+IsWrongIn subcommand values Store = (subcommand ≡ codes "sim") × HasNoStore values
+-- `--plain` names more paths than a server takes
+IsWrongIn subcommand values Plains = TakesPlains subcommand × HasTooManyPlains values
+-- a PATH is a text of a path, and HEX is the hex of no list of bytes
+IsWrongIn subcommand values Hex = IsPathFine subcommand values × HasNoBytes values
+IsWrongIn subcommand values Memory = ⊤
+
+-- clap takes the words, and this is wrong in the values of the subcommand that they enter
+abbrev pub EntersWrong : List Text → Wrong → Type 0
+EntersWrong words wrong =
+    (subcommand : Text) × (values : List Row) × Enters words subcommand values × IsWrongIn subcommand values wrong
+
+-- this is wrong in the words; of memory that is refused they say nothing
+abbrev pub IsWrong : List Text → Wrong → Type 0
+IsWrong words (Words error) = IsRefusedBy error words
+IsWrong words (Path refusal) = EntersWrong words (Path refusal)
+IsWrong words (Number refusal) = EntersWrong words (Number refusal)
+IsWrong words Word = EntersWrong words Word
+IsWrong words (Address refusal) = EntersWrong words (Address refusal)
+IsWrong words Size = EntersWrong words Size
+IsWrong words (Tags refusal) = EntersWrong words (Tags refusal)
+IsWrong words (Setting refusal) = EntersWrong words (Setting refusal)
+IsWrong words Body = EntersWrong words Body
+IsWrong words Store = EntersWrong words Store
+IsWrong words Plains = EntersWrong words Plains
+IsWrong words Hex = EntersWrong words Hex
+IsWrong words Memory = ⊤

@@ -1,0 +1,4 @@
+pub mod AskableRequests
+pub mod Happening
+pub mod PassingLemmas
+pub mod WorkFalls

@@ -1,0 +1,3 @@
+pub mod ExchangeCame
+pub mod Leading
+pub mod Moves

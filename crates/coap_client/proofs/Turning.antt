@@ -1,9 +1,0 @@
-pub mod AllWaiting
-pub mod BlockByBlock
-pub mod ExchangeCame
-pub mod Fates
-pub mod Leading
-pub mod LeftRunning
-pub mod Moves
-pub mod Origins
-pub mod Turns

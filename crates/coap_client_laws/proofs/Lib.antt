@@ -1,0 +1,15 @@
+pub mod Facts
+pub mod Counting
+pub mod Exact
+pub mod Fetching
+pub mod Hearing
+pub mod Observing
+pub mod Places
+pub mod Progress
+pub mod Queueing
+pub mod Reporting
+pub mod Rest
+pub mod Sending
+pub mod Turning
+pub mod Uploading
+pub mod Witness

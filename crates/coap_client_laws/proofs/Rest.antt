@@ -1,0 +1,3 @@
+pub mod ComesToRest
+pub mod Ending
+pub mod Resting

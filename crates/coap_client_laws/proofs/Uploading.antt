@@ -1,0 +1,14 @@
+pub mod BlocksApart
+pub mod HoldSteps
+pub mod Causes
+pub mod Continued
+pub mod FirstBlocks
+pub mod Holds
+pub mod SentSoFar
+pub mod NextSent
+pub mod AllSent
+pub mod Pieces
+pub mod TransferSteps
+pub mod UploadSteps
+pub mod UploadsHold
+pub mod Fate

@@ -1,0 +1,3 @@
+pub mod ClientHolds
+pub mod Follows
+pub mod Examples

@@ -1,7 +1,0 @@
-use Rattle.std.proofs.Common.{◌≡◌, take}
-use Rattle.coap_commands.specs.Sims.{sim_config}
-use Rattle.coap_commands.proofs.sim.config_with.Given as goal
-
--- so far the first of them are plain
-abbrev pub invariant-loop-path : goal.invariant-loop-path
-invariant-loop-path g l = l.config ≡ sim_config l.fn.remembered (take l.path-index l.plains)

@@ -1,9 +1,0 @@
-pub mod Adds
-pub mod AskerGoing
-pub mod AskerReplies
-pub mod ComesUp
-pub mod Comparisons
-pub mod Ending
-pub mod FirstOut
-pub mod LastStep
-pub mod StepsDue

@@ -1,0 +1,4 @@
+pub mod AnswersKept
+pub mod CopiesAnswered
+pub mod RepliesAreAnswers
+pub mod TheAnswerIsTold

@@ -1,0 +1,3 @@
+pub mod IsSendableSo
+pub mod StillHeld
+pub mod WhyRefused

@@ -1,0 +1,14 @@
+use Rattle.std.proofs.Common.{ap}
+use Rattle.coap_handlers.specs.Shown.{Shown}
+use Rattle.coap_handlers.proofs.WhyRefused.{no_response}
+use Rattle.coap_handlers.proofs.responder.Responder.respond.Goals as goal
+
+pub returns-in-None-clause-why : goal.returns-in-None-clause-why
+returns-in-None-clause-why g c =
+    no_response c.args.self.now c.args.asked.now c.args.response.now c.self.inside.given c.self.inside.ready
+    c.why_not.result
+    (ap (λ (x : Shown). x.given) c.self.view_is) (ap (λ (x : Shown). x.ready) c.self.view_is)
+    (c.is_response.ensures.0 c.if-not-is_response.false) c.in-None.ensures.none c.why_not.ensures
+
+pub respond-id-requires-clause-may : goal.respond-id-requires-clause-may
+respond-id-requires-clause-may g c = c.self.invariant.ready _ c.in-Some.ensures.some

@@ -1,0 +1,4 @@
+pub mod Due
+pub mod Journal
+pub mod Runs
+pub mod Synced

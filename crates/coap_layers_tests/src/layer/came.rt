@@ -1,0 +1,53 @@
+//! What an arrival came to, in a form that tests compare.
+ghost use Rattle.std.specs.Prelude.{IsSome, OnOk};
+
+use coap_layer::{Layer, Up};
+use coap_types::{Endpoint, Id, Moment};
+use std::alloc::{AllocError, Global};
+use std::hash::BuildHasher;
+
+/// What an arrival came to, without the message.
+#[derive(Clone, Copy, Debug, PartialEq, Eq)]
+pub(super) enum Came {
+    Dropped,
+    Replayed,
+    Rejected,
+    Request,
+    Unremembered,
+    Response,
+    Acked(Id),
+    Reset(Id),
+    Unmatched(Id),
+}
+
+fn outcome(up: &Up<'_>) -> Came {
+    match up {
+        Up::Dropped => Came::Dropped,
+        Up::Replayed => Came::Replayed,
+        Up::Rejected => Came::Rejected,
+        Up::Request { remembered, .. } => {
+            if *remembered {
+                Came::Request
+            } else {
+                Came::Unremembered
+            }
+        }
+        Up::Response(_) => Came::Response,
+        Up::Acked(id) => Came::Acked(*id),
+        Up::Reset(id) => Came::Reset(*id),
+        Up::Unmatched(id) => Came::Unmatched(*id),
+    }
+}
+
+/// Hands in a datagram: what it came to.
+pub(super) fn received<S: BuildHasher>(
+    layer: &mut Layer<Global, S>,
+    now: u64,
+    from: Endpoint,
+    bytes: &[u8],
+) -> Result<Came, AllocError>
+    ensures { OnOk result (IsSome layer.new.before) }
+{
+    let up = layer.receive(Moment(now), from, bytes)?;
+    Ok(outcome(&up))
+}

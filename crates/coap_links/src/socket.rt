@@ -1,0 +1,148 @@
+//! A socket of UDP, whose calls that failed are counted.
+ghost use Rattle.std.specs.Prelude.{Ok, ◌≡◌, ◌≤◌, ◌⊎◌, ◌↔◌, IfOk, IfSome, IsErrAnd, length, true};
+ghost use Rattle.std.specs.IoError.{error_kind};
+ghost use Rattle.coap_links.specs.Faults.{MayRaise, raised};
+
+use crate::link::raise;
+use std::io;
+use std::io::ErrorKind;
+use std::net::{Net, SocketAddr, UdpSocket};
+use std::time::Duration;
+
+// How long a receive waits for a datagram.
+const RECEIVE_WAIT_MS: u64 = 10;
+
+const _: () = prove!(RECEIVE_WAIT_MS == 10);
+
+/// A socket, how many of its calls failed, and whether the system said that nobody listens where its datagrams go.
+#[derive(Drop)]
+pub(crate) struct Socket {
+    socket: UdpSocket,
+    pub faults: u64,
+    pub is_refused: bool,
+}
+
+impl Socket {
+    /// A socket at this address, which waits for a datagram for `RECEIVE_WAIT_MS`.
+    pub fn bind<R: Net>(net: &R, address: SocketAddr) -> io::Result<Socket>
+        ensures { IfOk result (λ socket. socket.faults ≡ 0) }
+    {
+        let socket = UdpSocket::bind(net, address)?;
+        socket.set_read_timeout(Some(Duration::from_millis(RECEIVE_WAIT_MS)))?;
+        Ok(Socket {
+            socket,
+            faults: 0,
+            is_refused: false,
+        })
+    }
+
+    /// Where it is.
+    pub fn local_addr(&self) -> io::Result<SocketAddr> {
+        self.socket.local_addr()
+    }
+
+    /// Has the system drop what comes from elsewhere, and say where nobody listens (RFC 1122, section 4.1.3.3). Where
+    /// there is no way to that address yet, the socket stays as it is, and sends once there is one.
+    pub fn connect(&self, peer: SocketAddr) {
+        let _connected = self.socket.connect(peer);
+    }
+
+    /// Sends a datagram. A call that only tells that nobody listened to an earlier one is made once more, as the system
+    /// sent nothing.
+    pub fn send(&mut self, to: SocketAddr, bytes: &[u8])
+        ensures { MayRaise self.old.faults self.new.faults }
+    {
+        let mut sending = self.send_once(to, bytes);
+        if sending == Sending::Closed {
+            self.is_refused = true;
+            sending = self.send_once(to, bytes);
+        }
+        if sending == Sending::Failed {
+            self.faults = raise(self.faults);
+        }
+    }
+
+    // Sends a datagram by one call of the system.
+    fn send_once(&self, to: SocketAddr, bytes: &[u8]) -> Sending {
+        sending_of(self.socket.send_to(bytes, to), bytes.len())
+    }
+
+    /// Receives a datagram into the front of the buffer: its length, and where it came from.
+    pub fn receive(&mut self, buf: &mut [u8]) -> Option<(usize, SocketAddr)>
+        ensures fits { IfSome result (λ came. came.0 ≤ length buf.new) }
+        ensures room { length buf.new ≡ length buf.old }
+        ensures counted { MayRaise self.old.faults self.new.faults }
+    {
+        match self.socket.recv_from(buf) {
+            Ok(came) => {
+                self.is_refused = false;
+                Some(came)
+            }
+            Err(error) => {
+                self.missed(error.kind());
+                None
+            }
+        }
+    }
+
+    // A receive found no datagram, and ended so.
+    fn missed(&mut self, kind: ErrorKind)
+        ensures counted { MayRaise self.old.faults self.new.faults }
+        ensures quiet { (kind ≡ ErrorKind.WouldBlock) ⊎ (kind ≡ ErrorKind.TimedOut) → self.new ≡ self.old }
+        ensures refused { kind ≡ ErrorKind.ConnectionRefused → self.new ≡ record self.old { is_refused = true } }
+        ensures fault { ((kind ≡ ErrorKind.WouldBlock) ⊎ (kind ≡ ErrorKind.TimedOut)
+            ⊎ (kind ≡ ErrorKind.ConnectionRefused)
+            → ⊥) → self.new ≡ record self.old { faults = raised self.old.faults } }
+    {
+        if is_closed(kind) {
+            self.is_refused = true;
+        }
+        if !is_quiet(kind) {
+            self.faults = raise(self.faults);
+        }
+    }
+}
+
+/// What became of a datagram that was handed to the system.
+#[derive(Clone, Copy, Debug, PartialEq, Eq)]
+pub(crate) enum Sending {
+    /// It was sent.
+    Went,
+    /// It was not: in its place the system said of an earlier one that nobody listens there.
+    Closed,
+    /// It was not sent, or not whole.
+    Failed,
+}
+
+/// What became of a datagram of so many bytes.
+pub(crate) fn sending_of(sent: io::Result<usize>, len: usize) -> Sending
+    ensures went { (result ≡ Sending.Went) ↔ (sent ≡ Ok len) }
+    ensures closed { (result ≡ Sending.Closed) ↔ IsErrAnd sent (λ error. error_kind error ≡ ErrorKind.ConnectionRefused) }
+{
+    match sent {
+        Ok(count) if count == len => Sending::Went,
+        Ok(_) => Sending::Failed,
+        Err(error) => {
+            if is_closed(error.kind()) {
+                Sending::Closed
+            } else {
+                Sending::Failed
+            }
+        }
+    }
+}
+
+// Whether a call that ended so was told that nobody listens there.
+fn is_closed(kind: ErrorKind) -> bool
+    ensures { (result ≡ true) ↔ (kind ≡ ErrorKind.ConnectionRefused) }
+{
+    kind == ErrorKind::ConnectionRefused
+}
+
+// Whether a receive that ended so only found no datagram.
+fn is_quiet(kind: ErrorKind) -> bool
+    ensures { (result ≡ true) ↔ ((kind ≡ ErrorKind.WouldBlock) ⊎ (kind ≡ ErrorKind.TimedOut)
+        ⊎ (kind ≡ ErrorKind.ConnectionRefused)) }
+{
+    kind == ErrorKind::WouldBlock || kind == ErrorKind::TimedOut || is_closed(kind)
+}

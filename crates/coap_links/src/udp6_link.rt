@@ -1,0 +1,247 @@
+//! A link over a socket of UDP over IPv6.
+ghost use Rattle.std.specs.Prelude.{Some, None, ◌≡◌, true, IfOk, IfSome};
+ghost use Rattle.std.specs.Net.Addr.{ipv6_segments, segments_of};
+ghost use Rattle.std.specs.Net.Socket.{v6_ip, v6_port, v6_scope_id};
+ghost use Rattle.coap_links.specs.Faults.{MayRaise};
+ghost use Rattle.coap_links.specs.Sockets.{is_of_this_network};
+ghost use Rattle.coap_links.specs.Sources.{IsSource, four_or_nowhere, mapped_segments};
+ghost use Rattle.coap_links.specs.declared.peer_names.SixPeer.{SixPeer as SixPeerSpec};
+ghost use Rattle.coap_links.specs.declared.udp6_link.Source.TheVariants as sources;
+ghost use Rattle.coap_types.specs.declared.endpoint.Endpoint.{Endpoint as EndpointSpec};
+
+use crate::link::{Link, MAX_DATAGRAM_LEN};
+use crate::peer_names::{PeerNames, SixPeer, is_name};
+use crate::socket::Socket;
+use crate::timekeeper::Timekeeper;
+use crate::udp_link::{ANY_PORT, NO_PORT, endpoint_of, put_in, reached_at};
+use coap_types::{Endpoint, Moment};
+use std::alloc::Allocator;
+use std::hash::BuildHasher;
+use std::io;
+use std::io::ErrorKind;
+use std::net::{Ipv4Addr, Ipv6Addr, Net, SocketAddr, SocketAddrV6};
+
+/// Where a datagram came from.
+#[derive(Clone, Copy, Debug, PartialEq, Eq)]
+pub(crate) enum Source {
+    /// A peer over IPv4.
+    Four(Endpoint),
+    /// A peer over IPv6.
+    Six(SixPeer),
+    /// No answer can be sent there.
+    Nowhere,
+}
+
+// The source that an endpoint of IPv4 is.
+fn source_of_four(endpoint: Option<Endpoint>) -> Source
+    ensures { result ≡ four_or_nowhere endpoint }
+{
+    match endpoint {
+        Some(endpoint) => Source::Four(endpoint),
+        None => Source::Nowhere,
+    }
+}
+
+/// Where a datagram came from that has this address: ::ffff:a.b.c.d is the peer a.b.c.d over IPv4 (RFC 4291, section
+/// 2.5.5.2).
+pub(crate) fn source_of(address: SocketAddr) -> Source
+    ensures { IsSource address result }
+{
+    let six = match address {
+        SocketAddr::V4(_) => return source_of_four(endpoint_of(address)),
+        SocketAddr::V6(six) => six,
+    };
+    match six.ip().to_ipv4_mapped() {
+        Some(four) => source_of_four(reached_at(four.octets(), six.port())),
+        None if six.port() == NO_PORT => Source::Nowhere,
+        None => Source::Six(SixPeer {
+            ip: six.ip().octets(),
+            port: six.port(),
+            scope: six.scope_id(),
+        }),
+    }
+}
+
+/// The socket address of a peer over IPv6.
+pub(crate) fn address_of_six(peer: SixPeer) -> SocketAddrV6
+    ensures ip { ipv6_segments (v6_ip result) ≡ segments_of peer.ip }
+    ensures port { v6_port result ≡ peer.port }
+    ensures scope { v6_scope_id result ≡ peer.scope }
+{
+    SocketAddrV6::new(Ipv6Addr::from_octets(peer.ip), peer.port, 0, peer.scope)
+}
+
+/// The socket address of IPv6 that stands for a peer over IPv4.
+pub(crate) fn address_of_four(to: Endpoint) -> SocketAddrV6
+    ensures ip { ipv6_segments (v6_ip result) ≡ mapped_segments to.ip }
+    ensures port { v6_port result ≡ to.port }
+{
+    let [a, b, c, d] = to.ip;
+    SocketAddrV6::new(Ipv4Addr::new(a, b, c, d).to_ipv6_mapped(), to.port, 0, 0)
+}
+
+// The address of a client's socket, by that of its server: ::1 where the server is at ::1.
+fn client_ip(server: &Ipv6Addr) -> Ipv6Addr {
+    if server.is_loopback() {
+        Ipv6Addr::LOCALHOST
+    } else {
+        Ipv6Addr::UNSPECIFIED
+    }
+}
+
+/// A UDP socket of IPv6. The endpoint of a peer over IPv6 is its name, which is in 0.0.0.0/8; the endpoint of a peer
+/// over IPv4 is its address. At `::` the system may hand it what comes over IPv4, too.
+#[derive(Drop)]
+pub struct Udp6Link<'a, S: BuildHasher + Copy + Drop, A: Allocator + Copy, T: Timekeeper + Drop> {
+    socket: Socket,
+    address: Endpoint,
+    names: &'a PeerNames<S, A>,
+    time: T,
+}
+
+impl<'a, S: BuildHasher + Copy + Drop, A: Allocator + Copy, T: Timekeeper + Drop> Udp6Link<
+    'a,
+    S,
+    A,
+    T,
+> {
+    /// A socket at an address of this machine; at port 0, at a port of it that is free. Its peers have names of this
+    /// table, which forgets them by this clock.
+    pub fn bind<R: Net>(
+        net: &R,
+        address: SocketAddrV6,
+        names: &'a PeerNames<S, A>,
+        time: T,
+    ) -> io::Result<Udp6Link<'a, S, A, T>>
+        // A link over IPv6 that is bound has failed no call.
+        ensures faults { IfOk result (λ link. link.socket.faults ≡ 0) }
+        // The endpoint of a link over IPv6 is a name.
+        ensures name { IfOk result (λ link. is_of_this_network link.address.ip ≡ true) }
+    {
+        let socket = Socket::bind(net, SocketAddr::V6(address))?;
+        let mut time = time;
+        let now = time.now()?;
+        let Source::Six(own) = source_of(socket.local_addr()?) else {
+            return Err(io::Error::from(ErrorKind::AddrNotAvailable));
+        };
+        match names.name_of(now, &own) {
+            Some(address) => Ok(Udp6Link {
+                socket,
+                address,
+                names,
+                time,
+            }),
+            None => Err(io::Error::from(ErrorKind::OutOfMemory)),
+        }
+    }
+
+    /// A socket for a client of this server, at a port that is free, and the name of that server. It is at ::1 where
+    /// the server is, so that only the machine itself reaches it, and else at `::`; and it is connected, as that of a
+    /// client over IPv4 is.
+    pub fn client<R: Net>(
+        net: &R,
+        server: SocketAddrV6,
+        names: &'a PeerNames<S, A>,
+        time: T,
+    ) -> io::Result<(Udp6Link<'a, S, A, T>, Endpoint)>
+        // A client's link over IPv6 that is bound has failed no call.
+        ensures faults { IfOk result (λ bound. bound.0.socket.faults ≡ 0) }
+        // The endpoint by which a client knows its server over IPv6 is a name.
+        ensures name { IfOk result (λ bound. is_of_this_network bound.1.ip ≡ true) }
+    {
+        let own = SocketAddrV6::new(client_ip(server.ip()), ANY_PORT, 0, server.scope_id());
+        let link = Udp6Link::bind(net, own, names, time)?;
+        link.socket.connect(SocketAddr::V6(server));
+        let peer = SixPeer {
+            ip: server.ip().octets(),
+            port: server.port(),
+            scope: server.scope_id(),
+        };
+        match names.name_of(Moment(0), &peer) {
+            Some(name) => Ok((link, name)),
+            None => Err(io::Error::from(ErrorKind::OutOfMemory)),
+        }
+    }
+
+    // The moment that it is; where the clock fails, none later than the last.
+    fn now(&mut self) -> Moment
+        ensures socket { self.new.socket ≡ self.old.socket }
+        ensures address { self.new.address ≡ self.old.address }
+    {
+        self.time.now().unwrap_or(Moment(0))
+    }
+
+    // The endpoint of a source: an address of IPv4, or a name. None where no answer can be sent there, and where no
+    // name is left.
+    fn named(&mut self, source: Source) -> Option<Endpoint>
+        ensures socket { self.new.socket ≡ self.old.socket }
+        ensures address { self.new.address ≡ self.old.address }
+        ensures four { (endpoint : EndpointSpec) → source ≡ sources.Four endpoint → result ≡ Some endpoint }
+        ensures six { (peer : SixPeerSpec) → source ≡ sources.Six peer
+            → IfSome result (λ name. is_of_this_network name.ip ≡ true) }
+        ensures nowhere { source ≡ sources.Nowhere → result ≡ None }
+    {
+        match source {
+            Source::Four(endpoint) => Some(endpoint),
+            Source::Six(peer) => {
+                let now = self.now();
+                self.names.name_of(now, &peer)
+            }
+            Source::Nowhere => None,
+        }
+    }
+
+    // The socket address of an endpoint; None of a name that is nobody's.
+    fn address_of(&mut self, to: Endpoint) -> Option<SocketAddr>
+        ensures socket { self.new.socket ≡ self.old.socket }
+        ensures address { self.new.address ≡ self.old.address }
+    {
+        if is_name(to) {
+            let now = self.now();
+            let peer = self.names.sent(now, &to)?;
+            Some(SocketAddr::V6(address_of_six(peer)))
+        } else {
+            Some(SocketAddr::V6(address_of_four(to)))
+        }
+    }
+}
+
+impl<'a, S: BuildHasher + Copy + Drop, A: Allocator + Copy, T: Timekeeper + Drop> Link
+    for Udp6Link<'a, S, A, T> {
+    ghost sends = { λ before _ _ after. MayRaise before.socket.faults after.socket.faults };
+
+    ghost receives = { λ before _ after. MayRaise before.socket.faults after.socket.faults };
+
+    ghost fault_count = { λ link. link.socket.faults };
+
+    ghost own_address = { λ link. link.address };
+
+    ghost hears_refusal = { λ link. link.socket.is_refused };
+
+    fn send(&mut self, to: Endpoint, bytes: &[u8]) {
+        // What goes to a name that is nobody's any more is lost.
+        if let Some(address) = self.address_of(to) {
+            self.socket.send(address, bytes);
+        }
+    }
+
+    fn receive(&mut self, buf: &mut [u8]) -> Option<(Endpoint, usize)> {
+        // One byte more than the longest, so that a longer one is told from it.
+        let mut bytes = [0; MAX_DATAGRAM_LEN + 1];
+        let (len, from) = self.socket.receive(&mut bytes)?;
+        let from = self.named(source_of(from))?;
+        put_in(len, from, bytes.as_slice(), buf)
+    }
+
+    fn faults(&self) -> u64 {
+        self.socket.faults
+    }
+
+    fn address(&self) -> Endpoint {
+        self.address
+    }
+
+    fn is_refused(&self) -> bool {
+        self.socket.is_refused
+    }
+}

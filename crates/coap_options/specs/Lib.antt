@@ -1,0 +1,3 @@
+pub mod Critical
+pub mod Refusals
+pub mod Written

@@ -1,0 +1,5 @@
+use Rattle.coap_print.proofs.Printing.{printable}
+use Rattle.coap_print.proofs.message_words.segment_law.Goals as goal
+
+pub returns : goal.returns
+returns c = printable

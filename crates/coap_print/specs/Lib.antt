@@ -1,0 +1,6 @@
+pub mod Charts
+pub mod CodeNames
+pub mod OptionNames
+pub mod Printable
+pub mod Segments
+pub mod Values

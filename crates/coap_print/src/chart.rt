@@ -1,0 +1,196 @@
+//! A run as a chart, for reading: the line of the client on the left, that of the server on the right, and a row for
+//! each thing that happens, in the order of the run.
+//!  A datagram has a row where it is given out, and one where it arrives; they go together by its number. What goes to
+//! an end from elsewhere, or from one to elsewhere, crosses the end's line. Behind what is reported stands its age.
+mod age;
+mod happening;
+mod sheet;
+mod traffic;
+mod traffic_words;
+
+use crate::chart::age::Turns;
+use crate::chart::happening::Happening;
+use crate::chart::sheet::{Form, Sheet};
+use crate::chart::traffic::{Arrival, Traffic};
+use crate::chart::traffic_words::{ArrivedWords, SentWords, StrangerWords};
+use crate::run_lines::is_begin;
+use coap_run::{Addresses, Event, Given, Kind, Line, Record, Side, What};
+use coap_types::{Endpoint, Moment};
+use std::alloc::Allocator;
+use std::io;
+use std::io::Write;
+
+/// Draws what came of a run between ends at these addresses: what is called, set and removed, which requests are
+/// applied, what is refused and reported, and each datagram, where it is given out and where it arrives.
+pub fn draw_run<A: Allocator + Copy, W: Write>(
+    alloc: A,
+    addresses: Addresses,
+    events: &[Event<A>],
+    record: &Record<A>,
+    out: &mut W,
+) -> io::Result<()> {
+    let sheet = Sheet::new(alloc, last_moment(events))?;
+    out.write_all(sheet.head()?.as_bytes())?;
+    let traffic = Traffic {
+        addresses,
+        events,
+        given: record.given(),
+    };
+    let mut past: usize = 0;
+    let mut number: usize = 0;
+    let turns = record.lines().split(|line| is_begin(line));
+    for (event, lines) in events.iter().zip(turns.skip(1)) {
+        draw_input(&sheet, &traffic, past, event, out)?;
+        past = past.saturating_add(1);
+        let turns = Turns {
+            made: past,
+            events,
+            lines: record.lines(),
+        };
+        number = draw_outcome(&sheet, &traffic, &turns, event, lines, number, out)?;
+    }
+    Ok(())
+}
+
+// The moment of the last event.
+fn last_moment<A: Allocator + Copy>(events: &[Event<A>]) -> Moment {
+    match events.last() {
+        Some(event) => event.at,
+        None => Moment(0),
+    }
+}
+
+// What an event brings to an end from the network: a datagram of the other one, or a stranger's.
+fn draw_input<A: Allocator + Copy, W: Write>(
+    sheet: &Sheet<A>,
+    traffic: &Traffic<'_, A>,
+    past: usize,
+    event: &Event<A>,
+    out: &mut W,
+) -> io::Result<()> {
+    match &event.what {
+        What::Deliver(number) => match traffic.given.get(*number) {
+            Some(given) => draw_arrival(sheet, traffic, past, event.at, *number, given, out),
+            None => Ok(()),
+        },
+        What::Stranger(side, from, bytes) => {
+            draw_stranger(sheet, event.at, *side, *from, bytes.as_slice(), out)
+        }
+        _ => Ok(()),
+    }
+}
+
+// A datagram that arrives at the end that it is addressed to.
+fn draw_arrival<A: Allocator + Copy, W: Write>(
+    sheet: &Sheet<A>,
+    traffic: &Traffic<'_, A>,
+    past: usize,
+    at: Moment,
+    number: usize,
+    given: &Given<A>,
+    out: &mut W,
+) -> io::Result<()> {
+    let Some(side) = traffic.side_at(given.to()) else {
+        return Ok(());
+    };
+    let words = ArrivedWords {
+        number,
+        arrival: traffic.arrival(past, number, given),
+        ms: at.since(given.at()),
+    };
+    let row = sheet.row(at, side, Form::Arrives, &words)?;
+    out.write_all(row.as_bytes())
+}
+
+// A stranger's datagram that comes to an end.
+fn draw_stranger<A: Allocator + Copy, W: Write>(
+    sheet: &Sheet<A>,
+    at: Moment,
+    side: Side,
+    from: Endpoint,
+    bytes: &[u8],
+    out: &mut W,
+) -> io::Result<()> {
+    let words = StrangerWords { from, bytes };
+    let row = sheet.row(at, side, Form::FromElsewhere, &words)?;
+    out.write_all(row.as_bytes())
+}
+
+// What came of an event, whose first datagram has this number; the number of the next one.
+fn draw_outcome<A: Allocator + Copy, W: Write>(
+    sheet: &Sheet<A>,
+    traffic: &Traffic<'_, A>,
+    turns: &Turns<'_, A>,
+    event: &Event<A>,
+    lines: &[Line<A>],
+    first: usize,
+    out: &mut W,
+) -> io::Result<usize> {
+    let mut number = first;
+    for line in lines {
+        match &line.kind {
+            Kind::Out => {
+                draw_sent(sheet, traffic, event.at, number, out)?;
+                number = number.saturating_add(1);
+            }
+            kind => draw_happening(sheet, traffic, turns, event, kind, out)?,
+        }
+    }
+    Ok(number)
+}
+
+// A datagram that an end gives out: to the other one, or elsewhere.
+fn draw_sent<A: Allocator + Copy, W: Write>(
+    sheet: &Sheet<A>,
+    traffic: &Traffic<'_, A>,
+    at: Moment,
+    number: usize,
+    out: &mut W,
+) -> io::Result<()> {
+    let Some(given) = traffic.given.get(number) else {
+        return Ok(());
+    };
+    let Some(side) = traffic.side_at(given.from()) else {
+        return Ok(());
+    };
+    let elsewhere = traffic.side_at(given.to()).is_none();
+    let form = if elsewhere {
+        Form::ToElsewhere
+    } else if traffic.is_lost(number) {
+        Form::Lost
+    } else {
+        Form::Sent
+    };
+    let words = SentWords {
+        number,
+        first: traffic.first_alike(number, given),
+        to: if elsewhere { Some(given.to()) } else { None },
+        bytes: given.bytes(),
+    };
+    let row = sheet.row(at, side, form, &words)?;
+    out.write_all(row.as_bytes())
+}
+
+// What happens at an end, where it has a row.
+fn draw_happening<A: Allocator + Copy, W: Write>(
+    sheet: &Sheet<A>,
+    traffic: &Traffic<'_, A>,
+    turns: &Turns<'_, A>,
+    event: &Event<A>,
+    kind: &Kind<A>,
+    out: &mut W,
+) -> io::Result<()> {
+    let side = match kind {
+        Kind::Takes(_) | Kind::Cancels(_) | Kind::Forgets(_) | Kind::Reports(_, _) => Side::Client,
+        Kind::Puts(_) | Kind::Removes(_) | Kind::Applies(_) => Side::Server,
+        Kind::Refused => traffic.side_of(&event.what),
+        Kind::Begins(_) | Kind::Changes(_) | Kind::Out => return Ok(()),
+    };
+    let happening = Happening {
+        what: &event.what,
+        kind,
+        age: turns.age(kind, event.at),
+    };
+    let row = sheet.row(event.at, side, Form::Note, &happening)?;
+    out.write_all(row.as_bytes())
+}

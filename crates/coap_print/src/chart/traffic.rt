@@ -1,0 +1,110 @@
+//! What becomes of the datagrams of a run.
+ghost use Rattle.std.specs.Prelude.{◌≡◌};
+ghost use Rattle.coap_print.specs.Charts.{side_at};
+
+use coap_run::{Addresses, Event, Given, Side, What};
+use coap_types::Endpoint;
+use std::alloc::Allocator;
+
+/// How a datagram arrives.
+#[derive(Clone, Copy, PartialEq, Eq)]
+pub(super) enum Arrival {
+    /// For the first time, and before each that its end gave out later.
+    InOrder,
+    /// For the first time, and behind one that its end gave out later.
+    Late,
+    /// Not for the first time.
+    Again,
+}
+
+/// Where the ends of a run stand, its events, and the datagrams that were given out in it.
+#[derive(Clone, Copy)]
+pub(super) struct Traffic<'a, A: Allocator + Copy> {
+    pub(super) addresses: Addresses,
+    pub(super) events: &'a [Event<A>],
+    pub(super) given: &'a [Given<A>],
+}
+
+impl<'a, A: Allocator + Copy> Traffic<'a, A> {
+    /// Whether the datagram of this number never arrives.
+    pub(super) fn is_lost(&self, number: usize) -> bool {
+        !self.events.iter().any(|event| delivers(event, number))
+    }
+
+    /// The number of the first datagram between the same endpoints that has the same bytes, where that is another one.
+    pub(super) fn first_alike(&self, number: usize, given: &Given<A>) -> Option<usize> {
+        self.given
+            .iter()
+            .take(number)
+            .position(|earlier| is_alike(earlier, given))
+    }
+
+    /// How the datagram of this number arrives that is delivered behind so many events.
+    pub(super) fn arrival(&self, past: usize, number: usize, given: &Given<A>) -> Arrival {
+        let from = given.from();
+        let mut arrival = Arrival::InOrder;
+        for event in self.events.iter().take(past) {
+            if delivers(event, number) {
+                return Arrival::Again;
+            }
+            if self.delivers_later(event, number, from) {
+                arrival = Arrival::Late;
+            }
+        }
+        arrival
+    }
+
+    // Whether the event delivers a datagram that this end gave out behind that of this number.
+    fn delivers_later(&self, event: &Event<A>, number: usize, from: Endpoint) -> bool {
+        match event.what {
+            What::Deliver(later) => {
+                later > number
+                    && self
+                        .given
+                        .get(later)
+                        .is_some_and(|given| given.from() == from)
+            }
+            _ => false,
+        }
+    }
+
+    /// The end that has this address.
+    pub(super) fn side_at(&self, endpoint: Endpoint) -> Option<Side>
+        ensures { result ≡ side_at self.now.addresses endpoint }
+    {
+        if endpoint == self.addresses.client {
+            Some(Side::Client)
+        } else if endpoint == self.addresses.server {
+            Some(Side::Server)
+        } else {
+            None
+        }
+    }
+
+    /// The end at which an event happens.
+    pub(super) fn side_of(&self, what: &What<A>) -> Side {
+        match what {
+            What::Call(_) | What::Observe(_) | What::Cancel(_) | What::Forget(_) => Side::Client,
+            What::Set(_, _, _) | What::Remove(_) => Side::Server,
+            What::Tick(side) | What::Stranger(side, _, _) => *side,
+            What::Deliver(number) => self
+                .given
+                .get(*number)
+                .and_then(|given| self.side_at(given.to()))
+                .unwrap_or(Side::Server),
+        }
+    }
+}
+
+// Whether the event delivers the datagram of this number.
+fn delivers<A: Allocator + Copy>(event: &Event<A>, number: usize) -> bool {
+    match event.what {
+        What::Deliver(delivered) => delivered == number,
+        _ => false,
+    }
+}
+
+// Whether two datagrams have the same bytes, and go between the same endpoints.
+fn is_alike<A: Allocator + Copy>(one: &Given<A>, other: &Given<A>) -> bool {
+    one.from() == other.from() && one.to() == other.to() && one.bytes() == other.bytes()
+}

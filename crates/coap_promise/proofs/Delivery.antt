@@ -1,0 +1,3 @@
+-- What the datagrams of a run are: the hops of its two layers stand in the law of a channel.
+pub mod ReportsAreTaken
+pub mod ResponsesInTime

@@ -1,0 +1,9 @@
+pub mod Promised
+pub mod Age
+pub mod Delivery
+pub mod Observations
+pub mod Paced
+pub mod Reports
+pub mod Requests
+pub mod Uploads
+pub mod Witness

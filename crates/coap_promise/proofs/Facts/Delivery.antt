@@ -1,0 +1,14 @@
+pub mod AfterATurn
+pub mod BothEnds
+pub mod ChannelAcross
+pub mod ClientInTime
+pub mod ClientTurns
+pub mod End
+pub mod EntriesInTime
+pub mod GivenOutBefore
+pub mod HopsAreAChannel
+pub mod HopsAreEntries
+pub mod OneEndATurn
+pub mod SentByTheLayer
+pub mod ServerInTime
+pub mod ServerTurns

@@ -1,0 +1,11 @@
+pub mod Acknowledged
+pub mod Chain
+pub mod Following
+pub mod Heard
+pub mod OneRegistration
+pub mod OneVersion
+pub mod Positions
+pub mod Rising
+pub mod TagOfAValue
+pub mod Taken
+pub mod ToldThen

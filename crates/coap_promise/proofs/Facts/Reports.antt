@@ -1,0 +1,17 @@
+pub mod Answered
+pub mod AskedBy
+pub mod BegunWith
+pub mod ContentRead
+pub mod FormatsHeld
+pub mod FormatsSet
+pub mod HandedOnce
+pub mod HeldThere
+pub mod Located
+pub mod NeverFailed
+pub mod OfObservations
+pub mod OnceDone
+pub mod PathRead
+pub mod Shown
+pub mod Understood
+pub mod Unregistered
+pub mod ValuesShown

@@ -1,0 +1,14 @@
+pub mod AllRecognised
+pub mod AtAnyTime
+pub mod Belongs
+pub mod CallsInRange
+pub mod CameFrom
+pub mod HandedUpOnce
+pub mod HoldsChanges
+pub mod LastRequests
+pub mod OfACall
+pub mod OptionsKept
+pub mod Promised
+pub mod ReadBack
+pub mod ServedLeaves
+pub mod Traced

@@ -1,0 +1,3 @@
+pub mod BlockRead
+pub mod NoneContinue
+pub mod Pieces

@@ -1,0 +1,10 @@
+pub mod Defers
+pub mod Gets
+pub mod InWords
+pub mod LateTurns
+pub mod Observed
+pub mod OneHeld
+pub mod Tests
+pub mod TimesOut
+pub mod TurnTests
+pub mod TurnsMade

@@ -1,0 +1,11 @@
+pub mod Facts
+pub mod Delivery
+pub mod Paced
+pub mod Requests
+pub mod Reports
+pub mod Witness
+pub mod Progress
+pub mod Observations
+pub mod Uploads
+pub mod Any
+pub mod Age

@@ -1,0 +1,3 @@
+pub mod RepliesRegister
+pub mod NonsRise
+pub mod HeldAreNamed

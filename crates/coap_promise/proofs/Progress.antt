@@ -1,0 +1,2 @@
+pub mod EachEventHasATurn
+pub mod EachPosition

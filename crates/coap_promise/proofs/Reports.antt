@@ -1,0 +1,20 @@
+-- From a report back to the server: whose response it is that is reported.
+pub mod MoreBit
+pub mod ResponseRead
+pub mod BodiesShort
+pub mod ServedValid
+pub mod PartsOfOne
+pub mod BodiesHeld
+pub mod NoneBeyond
+pub mod TagsOwn
+pub mod ValidShown
+pub mod ValidHeld
+pub mod Noticed
+pub mod ValuesHeld
+pub mod Codes
+pub mod FailureCodes
+pub mod EachFailed
+pub mod LastAnswered
+pub mod AppliedRequest
+pub mod Promised
+pub mod HeardWasSent

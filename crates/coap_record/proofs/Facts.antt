@@ -1,0 +1,2 @@
+pub mod CallsOfEnds
+pub mod FewPlain

@@ -1,0 +1,5 @@
+pub mod Events
+pub mod Record
+pub mod Legal
+pub mod LegalEvents
+pub mod Begins

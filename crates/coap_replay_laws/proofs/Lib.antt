@@ -1,0 +1,3 @@
+mod AfterSilence
+mod Leading
+mod OneEnd

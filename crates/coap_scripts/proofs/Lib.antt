@@ -1,0 +1,4 @@
+pub mod Facts
+pub mod PathWords
+pub mod RunEnds
+pub mod ScriptWords

@@ -1,0 +1,27 @@
+use Rattle.std.proofs.Common.{◌∙◌, ap, arith, true, []}
+use Rattle.std.proofs.lemmas.List.{take_all}
+use Rattle.coap_server.specs.Plain.{plains_with}
+use Rattle.coap_record.specs.Events.{Config}
+use Rattle.coap_run.specs.Run.Configs.{with_plains, with_remembered}
+use Rattle.coap_scripts.specs.Sims.{sim_config}
+use Rattle.coap_scripts.proofs.Facts.FoldedItems.{fold_item}
+use Rattle.coap_scripts.proofs.sim.config_with.Goals as goal
+
+pub loop-path-init : goal.loop-path-init
+loop-path-init g c =
+    let n = c.args.remembered in
+    c.remembered.ensures ∙ ap (λ config. with_remembered config n n) c.usual_config-config.ensures
+
+pub loop-path-preserved : goal.loop-path-preserved
+loop-path-preserved g c =
+    let i = c.loop-path.path-index in
+    let path = c.path-item.result in
+    c.in_ok-plain.ensures.ok
+    ∙ ap (λ (config : Config). with_plains config (plains_with path true config.plains)) c.loop-path.invariant
+    ∙ ap (with_plains (sim_config c.args.remembered []))
+    (fold_item (λ ps path. plains_with path true ps) [] c.args.plains.now i path c.path-item.is c.loop-path-test.true)
+
+pub returns : goal.returns
+returns g c =
+    c.loop-path.invariant
+    ∙ ap (sim_config c.args.remembered) (take_all c.loop-path.path-index c.args.plains.now (omega arith))

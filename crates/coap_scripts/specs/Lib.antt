@@ -1,0 +1,5 @@
+pub mod Script
+pub mod ScriptRefusals
+pub mod ScriptWords
+pub mod Sims
+pub mod StatusNumbers

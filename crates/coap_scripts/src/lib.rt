@@ -1,0 +1,13 @@
+//! Scripts of runs: a text says a list of events, and what their run comes to is printed a line each, or as a chart.
+//! How a run of the program ends stands here too, for all subcommands.
+#![tactic(auto)]
+
+mod script;
+mod sim;
+mod status;
+mod usual;
+
+pub use script::{ScriptRefusal, events_of};
+pub use sim::{sim_file, sim_to, sim_with};
+pub use status::{Status, Stop, stop_of};
+pub use usual::{TEXT_PLAIN, largest_szx, plain};

@@ -1,0 +1,209 @@
+//! `sim`: a script is run, and what comes of it is printed.
+ghost use Rattle.std.specs.Prelude.{◌≡◌, [], ℕ, List, IfOk, map};
+ghost use Rattle.coap_types.specs.declared.remembered.TheConstants.{DEFAULT_REMEMBERED as default_remembered};
+ghost use Rattle.coap_record.specs.Events.{Event as EventSpec};
+ghost use Rattle.coap_run.specs.Run.Happening.{event_of};
+ghost use Rattle.coap_run.specs.declared.running.RunRefusal.TheVariants.{NotLegal};
+ghost use Rattle.coap_scripts.specs.Sims.{IsSim, sim_config};
+ghost use Rattle.coap_scripts.specs.declared.status.Status.TheVariants.{Refused};
+
+use crate::script::{ScriptRefusal, events_of};
+use crate::status::{Status, Stop, stop_of};
+use crate::usual::largest_szx;
+use coap_arguments::StoreKind;
+use coap_ends::{MAX_PLAINS, PlainRefusal};
+use coap_print::{draw_run, tell_run};
+use coap_resource::{ListStore, MAX_CHANGES_PER_WINDOW, MapStore};
+use coap_run::{
+    Addresses, CLIENT_END, Event, Record, RunRefusal, SERVER_END, WorldConfig, run_with,
+};
+use coap_types::{Path, Remembered};
+use std::alloc::Allocator;
+use std::fs;
+use std::io::{Read, Write};
+use std::rt::Files;
+
+// The word that each end begins with.
+const WORD: u64 = 0;
+
+const _: () = prove!(WORD == 0);
+
+// Where the two ends stand.
+const ENDS: Addresses = Addresses {
+    client: CLIENT_END,
+    server: SERVER_END,
+};
+
+// What the words take is what the server takes.
+const _: () = prove!(coap_arguments::MAX_PLAINS == MAX_PLAINS);
+
+/// Runs a script over a client and a server, which keeps its resources in a map and tells observers in
+/// Confirmable messages, and prints what comes of it.
+pub fn sim_to<A: Allocator + Copy, R: Read, W: Write>(
+    alloc: A,
+    script: &mut R,
+    out: &mut W,
+) -> Result<Status, Stop>
+    // Some list of events, which nothing here ties to the text, runs to its end with status 0, between ends that
+    // remember the usual number of messages and without a plain path; one of them is not legal with status 1.
+    ensures { IfOk result (λ status. (events : List EventSpec) × IsSim (sim_config default_remembered []) events status) }
+{
+    let no_path: [Path<A>; 0] = [];
+    sim_with(
+        alloc,
+        script,
+        StoreKind::Map,
+        &no_path,
+        Remembered::default(),
+        false,
+        out,
+    )
+}
+
+/// Runs a script as [`sim_to`] does, over ends that remember so many messages, and a server with such a store, which
+/// tells the observers of these paths in Non-confirmable messages where it may. With more than `MAX_PLAINS` different
+/// ones nothing is run: these are wrong words. What comes of it is printed a line each, or drawn as a chart.
+pub fn sim_with<A: Allocator + Copy, R: Read, W: Write>(
+    alloc: A,
+    script: &mut R,
+    store: StoreKind,
+    plains: &[Path<A>],
+    remembered: Remembered,
+    chart: bool,
+    out: &mut W,
+) -> Result<Status, Stop>
+    // Some list of events, which nothing here ties to the text, runs to its end with status 0, between ends that
+    // remember so many messages and with these plain paths, over either store; one of them is not legal with status 1.
+    ensures { IfOk result (λ status. (events : List EventSpec) × IsSim (sim_config remembered plains.now) events status) }
+{
+    let mut text = Vec::new(alloc);
+    if let Err(error) = script.read_to_end(&mut text) {
+        return Err(stop_of(&error));
+    }
+    match events_of(alloc, text.as_slice()) {
+        Ok(events) => run_events(
+            alloc,
+            events.as_slice(),
+            store,
+            plains,
+            remembered,
+            chart,
+            out,
+        ),
+        Err(ScriptRefusal::Line(number)) => {
+            writeln!(out, "bad line {number}")?;
+            Ok(Status::Words)
+        }
+        Err(ScriptRefusal::Memory) => Err(Stop::Memory),
+    }
+}
+
+// With what a run begins: both ends have the largest blocks, no path is answered later, and observers
+// are told in Confirmable messages.
+fn usual_config<A: Allocator + Copy>(alloc: A) -> WorldConfig<A>
+    ensures { result ≡ sim_config default_remembered [] }
+{
+    let szx = largest_szx();
+    match WorldConfig::new(alloc, WORD, WORD, szx, szx, MAX_CHANGES_PER_WINDOW) {
+        Some(config) => config,
+        None => unreachable!(),
+    }
+}
+
+// The same, but for the observers of these paths, and so many remembered messages.
+fn config_with<A: Allocator + Copy>(
+    alloc: A,
+    plains: &[Path<A>],
+    remembered: Remembered,
+) -> Result<WorldConfig<A>, PlainRefusal>
+    ensures { IfOk result (λ config. config ≡ sim_config remembered plains.now) }
+{
+    let mut config = usual_config(alloc);
+    config.remembered(remembered, remembered);
+    for path in plains {
+        config.plain(path)?;
+    }
+    Ok(config)
+}
+
+// Prints which event is not legal.
+fn tell_refusal<W: Write>(refusal: RunRefusal, out: &mut W) -> Result<Status, Stop>
+    ensures { IfOk result (λ status. (status ≡ Refused) × (number : ℕ) × (refusal ≡ NotLegal number)) }
+{
+    match refusal {
+        RunRefusal::NotLegal(number) => {
+            writeln!(out, "not legal {number}")?;
+            Ok(Status::Refused)
+        }
+        RunRefusal::Memory => Err(Stop::Memory),
+    }
+}
+
+// Prints what came of a run: as a chart, or a line each.
+fn print_run<A: Allocator + Copy, W: Write>(
+    alloc: A,
+    events: &[Event<A>],
+    record: &Record<A>,
+    chart: bool,
+    out: &mut W,
+) -> Result<(), Stop> {
+    let printed = if chart {
+        draw_run(alloc, ENDS, events, record, out)
+    } else {
+        tell_run(alloc, ENDS, events, record, out)
+    };
+    printed.map_err(|error| stop_of(&error))
+}
+
+// Runs the events, and prints what comes of them, or which one is not legal.
+fn run_events<A: Allocator + Copy, W: Write>(
+    alloc: A,
+    events: &[Event<A>],
+    store: StoreKind,
+    plains: &[Path<A>],
+    remembered: Remembered,
+    chart: bool,
+    out: &mut W,
+) -> Result<Status, Stop>
+    ensures { IfOk result (IsSim (sim_config remembered plains.now) (map event_of events.now)) }
+{
+    let config = match config_with(alloc, plains, remembered) {
+        Ok(config) => config,
+        Err(PlainRefusal::Full) => return Ok(Status::Words),
+        Err(PlainRefusal::Memory) => return Err(Stop::Memory),
+    };
+    let ran = match store {
+        StoreKind::List => run_with::<ListStore<A>, A>(events, &config),
+        StoreKind::Map => run_with::<MapStore<A>, A>(events, &config),
+    };
+    match ran {
+        Ok(record) => {
+            print_run(alloc, events, &record, chart, out)?;
+            Ok(Status::Done)
+        }
+        Err(refusal) => tell_refusal(refusal, out),
+    }
+}
+
+/// Runs the script in a file, over a server with such a store and such plain paths, and ends that remember so
+/// many messages, and prints what comes of it a line each, or as a chart.
+pub fn sim_file<R: AllocGlobal + Files, W: Write>(
+    rt: &R,
+    file: &str,
+    store: StoreKind,
+    plains: &[Path],
+    remembered: Remembered,
+    chart: bool,
+    out: &mut W,
+) -> Result<Status, Stop>
+    // The run of a file's script is some list of events, as that of a script from elsewhere.
+    ensures { IfOk result (λ status. (events : List EventSpec) × IsSim (sim_config remembered plains.now) events status) }
+{
+    match fs::open(rt, file) {
+        Ok(mut script) => {
+            let alloc = rt.alloc();
+            sim_with(alloc, &mut script, store, plains, remembered, chart, out)
+        }
+        Err(error) => Err(stop_of(&error)),
+    }
+}

@@ -1,5 +1,0 @@
-pub mod Asked
-pub mod Exactly
-pub mod Leads
-pub mod OneHandling
-pub mod StoreExactly

@@ -1,0 +1,3 @@
+pub mod EachOf
+pub mod NoneRejected
+pub mod NotifiesBy

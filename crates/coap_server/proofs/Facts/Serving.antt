@@ -1,0 +1,5 @@
+pub mod Brought
+pub mod FoundReady
+pub mod SameAsked
+pub mod ServedNow
+pub mod Waiting

@@ -1,0 +1,3 @@
+pub mod EachCall
+pub mod Laws
+pub mod Sources

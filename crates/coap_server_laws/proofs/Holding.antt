@@ -1,0 +1,3 @@
+pub mod BodiesShort
+pub mod OneTag
+pub mod Shown

@@ -1,0 +1,16 @@
+pub mod AllRecognised
+pub mod AskedInEntries
+pub mod BlocksContinued
+pub mod GivenInOrder
+pub mod LayerSendsResponses
+pub mod NoneContinues
+pub mod OptionsRecognised
+pub mod RefusalsAreErrors
+pub mod Replies
+pub mod RepliesAtOnce
+pub mod RepliesSo
+pub mod ReplyBlocks
+pub mod ResponsesHaveRequests
+pub mod ResponsesRejected
+pub mod Sourced
+pub mod Sources

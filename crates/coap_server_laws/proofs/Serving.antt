@@ -1,0 +1,9 @@
+pub mod BlocksTaken
+pub mod HandedAtMost
+pub mod HandedUpAsOften
+pub mod MethodsServed
+pub mod Reads
+pub mod ServedOnce
+pub mod ServedWasHandedUp
+pub mod TimesHanded
+pub mod WaitsByDelay

@@ -1,0 +1,3 @@
+pub mod ServerHolds
+pub mod Follows
+pub mod Examples

@@ -1,0 +1,6 @@
+//! What follows from the law of a server, for its whole history; no code.
+#![tactic(auto)]
+
+mod laws;
+
+pub use laws::{server_law, server_must_law, server_runs};

@@ -1,0 +1,4 @@
+-- What the datagrams of a run are: the hops of its two layers stand in the law of a channel.
+pub mod FedInTime
+pub mod SmoothGaps
+pub mod Received

@@ -1,0 +1,9 @@
+pub mod Facts
+pub mod Delivery
+pub mod Requests
+pub mod Reports
+pub mod Witness
+pub mod Progress
+pub mod Smoothly
+pub mod Reported
+pub mod Watching

@@ -1,0 +1,12 @@
+pub mod AckTaken
+pub mod AllTaken
+pub mod ArrivesInTime
+pub mod OthersTakeNone
+pub mod SentIsGivenOut
+pub mod TakenInTime
+pub mod WhereItArrives
+pub mod OnTime
+pub mod HandedAs
+pub mod FewArrive
+pub mod HeardClient
+pub mod ToClient

@@ -1,0 +1,3 @@
+pub mod IdsFree
+pub mod FewHeard
+pub mod HandedBetween

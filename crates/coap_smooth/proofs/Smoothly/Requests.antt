@@ -1,0 +1,13 @@
+pub mod AllSent
+pub mod AskedBefore
+pub mod LastWasSent
+pub mod PlainRequests
+pub mod RequestOpen
+pub mod RequestTaken
+pub mod EmptyAck
+pub mod AtOnce
+pub mod WaitedBefore
+pub mod WaitsNow
+pub mod OfOpen
+pub mod NoObservers
+pub mod DelaysAreShort

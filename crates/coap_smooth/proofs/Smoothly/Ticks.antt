@@ -1,0 +1,4 @@
+pub mod TicksAnswer
+pub mod TicksInTime
+pub mod TicksLeave
+pub mod NothingIsLeft

@@ -1,0 +1,3 @@
+pub mod CountedById
+pub mod HadIds
+pub mod NoMore

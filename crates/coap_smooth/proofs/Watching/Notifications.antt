@@ -1,0 +1,13 @@
+pub mod ConTells
+pub mod NoticeSent
+pub mod NoticeTaken
+pub mod NoticesCome
+pub mod NoticesTell
+pub mod NumberedComes
+pub mod WhatIsNumbered
+pub mod ResponsesUp
+pub mod BehindSending
+pub mod AtItsMoment
+pub mod Newest
+pub mod ToldInOrder
+pub mod NobodyLeft

@@ -1,0 +1,4 @@
+pub mod SentForOne
+pub mod AsksAlone
+pub mod OfIt
+pub mod TakenIn

@@ -1,0 +1,3 @@
+pub mod TickTells
+pub mod TellingHeld
+pub mod ToldHeld

@@ -1,0 +1,9 @@
+pub mod AllShown
+pub mod HeldVersions
+pub mod Known
+pub mod LastIsCurrent
+pub mod Settled
+pub mod ShownWhole
+pub mod TakenThen
+pub mod Unchanged
+pub mod SmoothBefore

@@ -1,2 +1,0 @@
--- There are as many values as texts, where each value is what its text says.
-pub use Rattle.coap_words.proofs.GivenTexts.{same_length}

@@ -1,8 +1,0 @@
-pub mod CoapWords
-pub mod Entered
-pub mod Facts
-pub mod FilledRows
-pub mod GivenTexts
-pub mod GivenWords
-pub mod NamingPaths
-pub mod OwnRows

@@ -1,3 +1,0 @@
-pub mod EachElement
-pub mod EachEventHasATurn
-pub mod EachPosition

@@ -1,9 +1,0 @@
-use Rattle.coap_world.proofs.Paced.HopsAreAChannel.{channel}
-use Rattle.coap_world.proofs.Paced.OneClock.{by_two}
-use Rattle.coap_world.proofs.laws.clocks_law.Goals as goal
-
-pub returns-clause-one : goal.returns-clause-one
-returns-clause-one c = by_two
-
-pub returns-clause-channel : goal.returns-clause-channel
-returns-clause-channel c = channel

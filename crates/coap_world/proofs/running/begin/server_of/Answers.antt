@@ -1,7 +1,0 @@
-use Rattle.std.proofs.Common.{sym}
-use Rattle.coap_world.proofs.Recording.Beginning.{none_changed}
-use Rattle.coap_world.proofs.running.begin.server_of.Goals as goal
-
-pub returns-in-Ok : goal.returns-in-Ok
-returns-in-Ok g c = let k = c.args.config.now in record
-    { led = c.in-Ok.ensures; version = sym (none_changed k.limits k.server_szx k.plains k.delays) }

@@ -1,7 +1,0 @@
-use Rattle.std.proofs.Common.{refl}
-use Rattle.coap_world.proofs.Recording.Asking.{client_observed}
-use Rattle.coap_world.proofs.running.inputs.observe_client.Goals as goal
-
-pub returns : goal.returns
-returns g c = λ addresses. client_observed addresses c.args.at.0 _ _ _ _ _ _
-    (c.observe-answer.ensures.step (c.lacks_memory.ensures.no c.if-lacks_memory.false)) refl c.in_ok-note.ensures

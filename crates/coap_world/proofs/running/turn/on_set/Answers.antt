@@ -1,8 +1,0 @@
-use Rattle.coap_world.proofs.Recording.EachTurn.{was_set}
-use Rattle.coap_world.proofs.running.turn.on_set.Goals as goal
-
-pub returns : goal.returns
-returns g c = λ sender past.
-    was_set c.args.when.addresses g.S.Store.content sender c.args.when.at.0 c.args.when.word _ _ _ _ _ _ _
-    c.in_ok-note.ensures _ _ _ _
-    (c.in_ok-refused.ensures c.args.when.addresses sender) (c.in_ok-finish_server.ensures sender) past

@@ -1,0 +1,5 @@
+pub mod Carried
+pub mod HandleValues
+pub mod ReleasedValues
+pub mod Walking
+pub mod Named

@@ -1,0 +1,12 @@
+pub mod Answers
+pub mod Calls
+pub mod Crossing
+pub mod Fresh
+pub mod Held
+pub mod Notifying
+pub mod Numbers
+pub mod Options
+pub mod Outgoing
+pub mod Owned
+pub mod Seeds
+pub mod ShortBytes

@@ -1,0 +1,21 @@
+"""Waiting, for scripts that begin programs."""
+
+import pathlib
+import time
+
+TABLES = (pathlib.Path("/proc/net/udp"), pathlib.Path("/proc/net/udp6"))
+LONGEST = 20.0
+STEP = 0.05
+
+
+def is_open(port):
+    """Whether a socket of this machine has that UDP port."""
+    rows = (row.split() for table in TABLES if table.exists() for row in table.read_text().splitlines()[1:])
+    return any(row[1].endswith(f":{int(port):04X}") for row in rows)
+
+
+def await_socket(port):
+    """Waits until a socket has that UDP port, 20 s at most."""
+    end = time.monotonic() + LONGEST
+    while not is_open(port) and time.monotonic() < end:
+        time.sleep(STEP)

@@ -1,0 +1,22 @@
+#!/bin/sh
+# Waiting, for scripts that begin programs: . tools/waiting.sh
+
+# await COMMAND..: waits until the command succeeds, 20 s at most.
+await() {
+    left=400
+    until "$@"; do
+        left=$((left - 1))
+        [ "$left" -gt 0 ] || return
+        sleep 0.05
+    done
+}
+
+# is_open PORT: whether a socket of this machine has that UDP port.
+is_open() {
+    grep -qis "^ *[0-9]*: [0-9a-f]*:$(printf %04x "$1") " /proc/net/udp /proc/net/udp6
+}
+
+# has_bytes FILE N: whether the file has so many bytes.
+has_bytes() {
+    [ -f "$1" ] && [ "$(wc -c <"$1")" -ge "$2" ]
+}
