@@ -13,6 +13,8 @@ TOP = pathlib.Path(__file__).resolve().parent.parent.parent
 BINDINGS = TOP / "bindings"
 HEADER = BINDINGS / "include" / "knifesilver.h"
 PROGRAM = TOP / "crates" / "coap" / "out" / "coap"
+#: The man page and the completions of shells, laid out as below PREFIX/share (tools/words makes them).
+SHARE = TOP / "tools" / "packaging" / "share"
 PAGE = TOP / "page" / "out" / "knifesilver.html"
 #: What the program is linked of.
 OBJECT = PROGRAM.with_suffix(".o")
