@@ -1,4 +1,4 @@
-"""What crosses to C and to Rust is written in three places: the library's source, the C header, the Rust crate's raw.rs.
+"""What crosses to C and to Rust stands in three places: the library's source, the C header, the Rust crate's raw.rs.
 
 `differences` compares its calls with their parameters, its structs with the order of their fields, and its numbers.
 `sizes` writes assertions of sizes and offsets for both compilers. `unnoticed` tries the comparison with wrong

@@ -88,10 +88,9 @@ def moment() -> int:
 
 def kit() -> pathlib.Path:
     """The folder of the toolchain."""
-    rt = shutil.which("rt")
-    if rt is None:
+    if shutil.which("rt") is None:
         raise Problem("the toolchain is missing: its command rt is not on the PATH")
-    return pathlib.Path(rt).resolve().parent.parent
+    return pathlib.Path(said("rt", "doc").strip()).parent
 
 
 def oldest_glibc(file: pathlib.Path) -> str:

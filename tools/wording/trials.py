@@ -14,11 +14,13 @@ from .tables import TABLES, Problem, Program, Subcommand
 
 #: Which programs read a file and judge its form, by the end of its name; troff says what is wrong on standard error.
 _READERS = {
-    "coap.1": ("groff", "-man", "-Tutf8", "-ww", "-z"),
+    "coap.1": ("groff", "-man", "-Tutf8", "-wmac", "-z"),
     "completions/coap": ("bash", "-n"),
     "_coap": ("zsh", "-f", "-n"),
     "coap.fish": ("fish", "--no-config", "--no-execute"),
 }
+#: How each is asked to do nothing: where that fails, it is missing, or too old for these words.
+_NOTHING = {"groff": "--version", "bash": "--version", "zsh": "--version", "fish": "--no-config --version"}
 #: Prints what bash would offer for the words of each line, a line each.
 _ASK_BASH = """. "$1"
 while read -r -a COMP_WORDS; do
@@ -38,6 +40,12 @@ end
 
 def _wanted(sub: Subcommand) -> List[str]:
     return sorted([f"--{it.name}" for it in sub.options] + ["--help"])
+
+
+def is_there(reader: str) -> bool:
+    """Whether that program is installed, and takes the words that it is given here."""
+    words = [reader, *_NOTHING[reader].split()]
+    return shutil.which(reader) is not None and not subprocess.run(words, capture_output=True, check=False).returncode
 
 
 def left_out(program: Program, made: Dict[str, str]) -> Iterator[str]:
@@ -80,7 +88,7 @@ def offered_wrongly(program: Program, share: pathlib.Path) -> Iterator[str]:
         (["fish", "--no-config", "-c", _ASK_FISH, share / "fish/vendor_completions.d/coap.fish"], of_fish),
     )
     for words, told in asked:
-        if shutil.which(words[0]) is None:
+        if not is_there(str(words[0])):
             continue
         questions = list(told)
         lines = "".join(f"{question}\n" for question, _ in questions)
@@ -99,7 +107,7 @@ def misread(made: Dict[str, str]) -> Tuple[List[str], List[str]]:
     with tempfile.TemporaryDirectory() as room:
         for number, (file, text) in enumerate(made.items()):
             reader = next(it for end, it in _READERS.items() if file.endswith(end))
-            if shutil.which(reader[0]) is None:
+            if not is_there(reader[0]):
                 missing.append(reader[0])
                 continue
             copy = pathlib.Path(room) / f"{number}"

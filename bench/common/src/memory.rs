@@ -1,6 +1,5 @@
-//! How much memory a remembered message takes, by the allocator and by the system.
+//! How much memory something takes, by the allocator and by the system.
 
-use crate::proved;
 use std::fs;
 
 /// What the C library says of its memory (`malloc.h`), in bytes.
@@ -41,21 +40,15 @@ fn resident() -> [usize; 2] {
     })
 }
 
-/// What a reply has beside the body: its head, entity-tag, format and payload marker.
-const BESIDE_BODY: usize = 15;
-
-/// Has a server remember so many messages with replies of so many bytes, and prints the bytes of
-/// memory for each: what is allocated, what lies in memory, and the most that did.
-pub fn print(count: &str, len: &str) {
-    let count: u32 = count.parse().expect("how many messages");
-    let len: usize = len.parse().expect("how many bytes a reply has");
-    let body = vec![0x60; len - BESIDE_BODY];
+/// Prints a row with these cells first, and then the bytes of memory for each of so many that are kept: what is
+/// allocated, what lies in memory, and the most that did.
+pub fn print(cells: &str, count: u32, keep: impl FnOnce()) {
     let (before, [in_memory, _]) = (allocated(), resident());
-    assert_eq!(proved::keep(count, &body), u64::from(count) * len as u64);
+    keep();
     let [now, most] = resident();
     let share = |bytes: usize| bytes as f64 / f64::from(count);
     println!(
-        "| {count} | {len} | {:.0} | {:.0} | {:.0} |",
+        "| {cells} | {:.0} | {:.0} | {:.0} |",
         share(allocated() - before),
         share(now - in_memory),
         share(most - in_memory),

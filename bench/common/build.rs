@@ -1,4 +1,4 @@
-//! Links the static library that `bench/layer/run` made of the proved message layer, and what it calls of C.
+//! Links the static library that a script of `bench/` made of what is proved, and what it calls of C.
 
 use std::env;
 
@@ -10,7 +10,7 @@ const C_PARTS: &str = "COAP_BENCH_C_PARTS";
 fn main() {
     for variable in [LIBRARY, C_PARTS] {
         println!("cargo::rerun-if-env-changed={variable}");
-        let folder = env::var(variable).expect("bench/layer/run sets the folders to link from");
+        let folder = env::var(variable).expect("bench/lib.sh sets the folders to link from");
         println!("cargo::rustc-link-search=native={folder}");
     }
     for library in ["coap_bench", "libc_c", "os_c"] {

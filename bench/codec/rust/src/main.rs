@@ -7,6 +7,7 @@ mod proved;
 #[cfg(test)]
 mod tests;
 
+use bench_common::table::{Pairs, print_head};
 use datagrams::{Sample, batch, samples};
 use std::hint::black_box;
 use std::time::Instant;
@@ -30,8 +31,8 @@ struct Row {
     plain: Work,
     /// How many batches one timing takes.
     batches: usize,
-    /// Nanoseconds a datagram of the proved codec and, right behind, of the plain one.
-    timings: Vec<(f64, f64)>,
+    /// Nanoseconds a datagram.
+    timings: Pairs,
 }
 
 /// The nanoseconds a datagram that `work` takes for this many batches.
@@ -39,12 +40,6 @@ fn nanoseconds(work: &mut Work, batches: usize) -> f64 {
     let start = Instant::now();
     work(batches);
     start.elapsed().as_nanos() as f64 / (batches * usize::from(BATCH)) as f64
-}
-
-fn median(values: impl Iterator<Item = f64>) -> f64 {
-    let mut values: Vec<_> = values.collect();
-    values.sort_by(f64::total_cmp);
-    values[values.len() / 2]
 }
 
 impl Row {
@@ -55,23 +50,18 @@ impl Row {
             proved,
             plain,
             batches: (TIMING / trial).ceil() as usize,
-            timings: Vec::with_capacity(TIMINGS),
+            timings: Pairs::with_capacity(TIMINGS),
         }
     }
 
     fn time(&mut self) {
         let proved = nanoseconds(&mut self.proved, self.batches);
         let plain = nanoseconds(&mut self.plain, self.batches);
-        self.timings.push((proved, plain));
+        self.timings.push([proved, plain]);
     }
 
-    /// Prints the medians; the ratio is that of the ratios of neighbouring timings.
     fn print(&self) {
-        let name = &self.name;
-        let proved = median(self.timings.iter().map(|timing| timing.0));
-        let plain = median(self.timings.iter().map(|timing| timing.1));
-        let ratio = median(self.timings.iter().map(|timing| timing.0 / timing.1));
-        println!("| {name} | {proved:.1} | {plain:.1} | {ratio:.2} |");
+        self.timings.print(&self.name);
     }
 }
 
@@ -122,7 +112,6 @@ fn main() {
     for _ in 0..TIMINGS {
         rows.iter_mut().for_each(Row::time);
     }
-    println!("| nanoseconds a datagram | proved | plain Rust | ratio |");
-    println!("|---|---:|---:|---:|");
+    print_head("nanoseconds a datagram");
     rows.iter().for_each(Row::print);
 }
