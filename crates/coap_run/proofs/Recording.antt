@@ -4,6 +4,7 @@ pub mod Applying
 pub mod Serving
 pub mod Finishing
 pub mod Turning
+pub mod Lacking
 pub mod EachTurn
 pub mod Numbers
 pub mod Standing

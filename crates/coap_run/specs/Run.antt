@@ -8,5 +8,6 @@ pub mod Log
 pub mod Telling
 pub mod Lines
 pub mod Happening
+pub mod Lacking
 pub mod Turning
 pub mod Runs

@@ -7,6 +7,7 @@ mod drain;
 mod ends;
 mod event;
 mod inputs;
+mod met;
 mod put_away;
 mod ranges;
 mod record;

@@ -1,10 +1,14 @@
 -- The number of a datagram is its place in the log.
-use Rattle.std.proofs.Common.{◌≡◌, ◌⊎◌, inl, inr, ◌<◌, ◌≤◌, ℕ, zero, suc, ◌+◌, Bool, Some, None, List, [], ◌∷◌, ◌++◌}
-use Rattle.std.proofs.Common.{reverse, length, slice_get, refl, sym, ap, subst, ◌∙◌, arith}
+use Rattle.std.proofs.Common.{◌≡◌, ◌⊎◌, inl, inr, ◌<◌, ◌≤◌, ℕ, zero, suc, ◌+◌, max, Bool, false, Some, None, List, []}
+use Rattle.std.proofs.Common.{◌∷◌, ◌++◌, reverse, length, slice_get, refl, sym, ap, subst, ◌∙◌, arith}
 use Rattle.std.proofs.lemmas.List.{length-reverse, reverse-append}
 use Rattle.coap_types.specs.Past.{Sometime, all_of}
 use Rattle.coap_types.specs.declared.endpoint.Endpoint.{Endpoint}
+use Rattle.coap_layer.specs.Machine.State.{made}
+use Rattle.coap_layer.specs.Machine.Ups.{IsQuiet}
+use Rattle.coap_layer.specs.Trace as below
 use Rattle.coap_resource.specs.Content.{Content}
+use Rattle.coap_client.specs.Turns.Quiet.{TellsNothing}
 use Rattle.coap_record.specs.Events.{Event, Deliver}
 use Rattle.coap_record.specs.Legal.{MayCome, max_delivery}
 use Rattle.coap_record.specs.Record.{OfServer, Given, given_in, Turn, IsNumber, FeedsClient, FeedsServer}
@@ -15,6 +19,7 @@ use Rattle.coap_run.specs.Run.Senders.{sender_in}
 use Rattle.coap_run.specs.Run.Turning.{ClientEnds, ServerEnds, Turned}
 use Rattle.coap_run.specs.declared.running.ends.ClientEnd.{ClientEnd}
 use Rattle.coap_run.specs.declared.running.ends.ServerEnd.{ServerEnd}
+use Rattle.coap_run.proofs.Recording.Lacking.{client_heeds_it, server_heeds_it}
 use Rattle.coap_run.proofs.Recording.Turning.{client_turned, fed_acts, of_a_client, of_a_server, server_turned}
 use Rattle.coap_record.specs.declared.addresses.Addresses.{Addresses}
 
@@ -101,9 +106,10 @@ module _ (addresses : Addresses) {A K : Type 0} (content : K → Content) (past 
       (a : ClientEnd A) (s t u : ServerEnd K A) (told : Log) → g.packet.to ≡ addresses.server
       → Taken addresses (ServerLed content) OfServer (server_lines addresses (sender_in a.senders)) at
       (FeedsServer at word from bytes) refused s begun t told
+      → (IsQuiet (made s.server.exchanges.layer (max s.server.clock at) (below.Receive from bytes)) → refused ≡ false)
       → ServerEnds addresses (ServerLed content) (server_lines addresses (sender_in a.senders)) at refused t told u left
       → Turned addresses ClientLed (ServerLed content) past (delivery at word n) a s log a u left
-  to_server a s t u told to fed ends =
+  to_server a s t u told to fed quiet ends =
       let number : IsNumber addresses n g past = number_is addresses past log n g is there in
       let right : Taken addresses (ServerLed content) OfServer (server_lines addresses (sender_in a.senders)) at
       (FeedsServer at word g.from g.packet.bytes) refused s begun t told =
@@ -114,15 +120,20 @@ module _ (addresses : Addresses) {A K : Type 0} (content : K → Content) (past 
       of_a_server addresses content past (delivery at word n) log left a s u
       (server_turned addresses content (sender_in a.senders) past
       (delivery at word n) refused right.calls s t u log begun told left (g, number, inr to, age)
-      (λ entries on. (g, number, inl (to, right.calls, right.are, on)))
+      (λ entries on. (
+        (g, number, inl (to, right.calls, right.are, on)),
+        server_heeds_it addresses content past at word
+            refused s entries n g from bytes number to of are quiet,
+      ))
       begins right.acts ends)
 
   pub to_client :
       (a b c : ClientEnd A) (s : ServerEnd K A) → g.packet.to ≡ addresses.client
       → Fed ClientLed (FeedsClient at word from bytes) refused a b
+      → (TellsNothing a.client at from bytes → refused ≡ false)
       → ClientEnds addresses ClientLed at refused b begun c left
       → Turned addresses ClientLed (ServerLed content) past (delivery at word n) a s log c s left
-  to_client a b c s to fed ends =
+  to_client a b c s to fed quiet ends =
       let number : IsNumber addresses n g past = number_is addresses past log n g is there in
       let right : Fed ClientLed (FeedsClient at word g.from g.packet.bytes) refused a b =
       subst (λ x. Fed ClientLed (FeedsClient at word g.from x) refused a b) are
@@ -130,5 +141,9 @@ module _ (addresses : Addresses) {A K : Type 0} (content : K → Content) (past 
       of_a_client addresses content past (delivery at word n) log left a c s
       (client_turned addresses past (delivery at word n) refused right.calls a b c log begun begun left
       (g, number, inl to, age)
-      (λ entries on. (g, number, inr (to, right.calls, right.are, on)))
+      (λ entries on. (
+        (g, number, inr (to, right.calls, right.are, on)),
+        client_heeds_it addresses past at word refused
+            a entries n g from bytes number to of are quiet,
+      ))
       begins (fed_acts addresses at word ClientLed g.from g.packet.bytes refused a b begun right) ends)

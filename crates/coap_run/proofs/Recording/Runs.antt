@@ -10,6 +10,7 @@ use Rattle.coap_record.specs.Legal.{Legal}
 use Rattle.coap_record.specs.Record.{Turn, RecordOf}
 use Rattle.coap_run.specs.declared.running.RunRefusal.{RunRefusal}
 use Rattle.coap_run.specs.declared.running.RunRefusal.TheVariants.{NotLegal}
+use Rattle.coap_run.specs.Run.Lacking.{LacksWhereItMay}
 use Rattle.coap_run.specs.Run.Log.{Log, log_of}
 use Rattle.coap_record.specs.LegalEvents.{MayHappen}
 use Rattle.coap_run.specs.Run.Runs.{IsRunOf, IsFirstWrong}
@@ -25,28 +26,31 @@ module _ {X : Type 0} (f : X → Event) (xs : List X) (n : ℕ) where
 
   pub first_wrong :
       (config : Config) (turns : List Turn) (x : X) → n < length xs → x ≡ get_or xs n x
-      → RecordOf config (reverse (map f (take n xs))) turns → Legal config turns
+      → RecordOf config (reverse (map f (take n xs))) turns → Legal config turns → LacksWhereItMay config turns
       → (MayHappen config.addresses turns (f x) → ⊥)
       → IsFirstWrong config (map f xs) n
-  first_wrong config turns x h is made legal wrong =
+  first_wrong config turns x h is made legal lacks wrong =
       record {
         event = f x;
         there = slice_get-map f xs n ∙ ap (option_map f) (slice_get_read xs (length xs) n x refl h is);
         turns = turns;
         made = subst (λ l. RecordOf config (reverse l) turns) (sym (take-map f n xs)) made;
         legal = legal;
+        lacks = lacks;
         wrong = wrong;
       }
 
 pub is_run :
     {X : Type 0} (f : X → Event) (xs : List X) (config : Config) (turns : List Turn) (log : Log)
-    → RecordOf config (reverse (map f xs)) turns → Legal config turns → log ≡ log_of config turns
+    → RecordOf config (reverse (map f xs)) turns → Legal config turns → LacksWhereItMay config turns
+    → log ≡ log_of config turns
     → IsRunOf config (map f xs) log
-is_run f xs config turns log made legal shows =
+is_run f xs config turns log made legal lacks shows =
     record {
       turns = turns;
       made = made;
       legal = legal;
+      lacks = lacks;
       shows = shows;
     }
 

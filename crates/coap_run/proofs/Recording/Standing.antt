@@ -46,6 +46,7 @@ module _ {E F : Type 0} (cled : Config → List C.Call → E → Type 0) (sled :
     events_are = refl;
     made = tt;
     legal = record { range = range; events = tt };
+    lacks = tt;
     client_led = c;
     server_led = h;
     log_is = is;
@@ -82,6 +83,7 @@ module _ {E F : Type 0} (cled : Config → List C.Call → E → Type 0) (sled :
               st.legal.events,
             );
           };
+          lacks = (t.lacks config same st.client_led st.server_led, st.lacks);
           client_led = t.client_moves config (entries_of turns) st.client_led;
           server_led = t.server_moves config (entries_of turns) st.server_led;
           log_is = log_grows config turn turns log left st.log_is

@@ -24,7 +24,7 @@ use Rattle.coap_run.specs.Run.Log.{call_if, client_lines, line_if, line_put, lin
 use Rattle.coap_run.specs.Run.Log.{server_lines}
 use Rattle.coap_run.specs.Run.Senders.{sender_in, sender_of}
 use Rattle.coap_run.specs.Run.Turning.{Ends, ClientEnds, ServerEnds, Turned, EndTurned, ClientTurned, ServerTurned}
-use Rattle.coap_run.specs.Run.Turning.{of_client}
+use Rattle.coap_run.specs.Run.Turning.{EndLacks, client_trace, of_client}
 use Rattle.coap_run.specs.declared.running.ends.ClientEnd.{ClientEnd}
 use Rattle.coap_run.specs.declared.running.ends.ServerEnd.{ServerEnd}
 use Rattle.coap_run.proofs.Recording.Acting.{acts_join, quiet_acts}
@@ -91,16 +91,17 @@ module _ (addresses : Addresses) (at word : ℕ) where
       by false calls h = none h.0 calls h.1 h.2
 
 -- an event begins, these calls are made for it, and those that end its turn
-module _ (addresses : Addresses) {X E : Type 0} (led : Config → List X → E → Type 0) (of : X → Entry) (lines : Config
-    → List X → X → List Line)
+module _ (addresses : Addresses) {X E : Type 0} (led : Config → List X → E → Type 0) (of : X → Entry)
+    (trace : Config → List Entry → List X) (lines : Config → List X → X → List Line)
     (past : List Turn) (event : Event) (refused : Bool) where
   pub end_turned :
       (calls front : List X) (a b c : E) (log begun told left : Log) → MayCome addresses past event.at event.what
       → Makes addresses past event.at event.word event.what refused (map of (front ++ calls))
+      → EndLacks addresses led trace past event refused a (map of (front ++ calls))
       → begun ≡ line_put (Begins event.at) log → Acts addresses led of lines event.at calls a begun b told
       → Ends addresses led of lines event.at refused front b told c left
-      → EndTurned addresses led of lines past event a log c left
-  end_turned calls front a b c log begun told left comes makes begins acts ends =
+      → EndTurned addresses led of trace lines past event a log c left
+  end_turned calls front a b c log begun told left comes makes lacks begins acts ends =
       let all = acts_join addresses led of lines event.at front calls a b c begun told ends.between acts ends.acts in
       record {
         refused = refused;
@@ -119,6 +120,7 @@ module _ (addresses : Addresses) {X E : Type 0} (led : Config → List X → E �
             (refused_line refused)
             ∙ append_assoc log.lines (Begins event.at ∷ [])
             (lines_upon (lines config) t (front ++ calls) ++ refused_line refused);
+        lacks = lacks;
       }
 
 module _ (addresses : Addresses) {A : Type 0} (past : List Turn) (event : Event) (refused : Bool) where
@@ -126,20 +128,20 @@ module _ (addresses : Addresses) {A : Type 0} (past : List Turn) (event : Event)
       (calls : List C.Call) (a b c : ClientEnd A) (log begun told left : Log)
       → MayCome addresses past event.at event.what
       → ((entries : List Entry) → OnClient calls entries → Makes addresses past event.at event.word event.what refused
-      entries)
+      entries × EndLacks addresses ClientLed client_trace past event refused a entries)
       → begun ≡ line_put (Begins event.at) log → Acts addresses ClientLed OfClient of_client event.at calls a begun b
       told
       → ClientEnds addresses ClientLed event.at refused b told c left → ClientTurned addresses past event a log c left
   client_turned calls a b c log begun told left comes makes begins acts ends =
       let front : List C.Call = all_taken C.NextReport ends.reports ++ all_taken C.NextOut ends.outs in
-      end_turned addresses ClientLed OfClient of_client past event refused calls front a b c log begun told left comes
-      (makes (map OfClient (front ++ calls)) (record {
+      let so = makes (map OfClient (front ++ calls)) (record {
         outs = ends.outs;
         reports = ends.reports;
         is = ap (map OfClient) (append_assoc (all_taken C.NextReport ends.reports)
             (all_taken C.NextOut ends.outs) calls);
-      }))
-      begins acts ends.ends
+      }) in
+      end_turned addresses ClientLed OfClient client_trace of_client past event refused calls front a b c log begun told
+      left comes so.0 so.1 begins acts ends.ends
 
 module _ (addresses : Addresses) {K A : Type 0} (content : K → Content) (sender : List ℕ → Option ℕ) (past : List Turn)
     (event : Event)
@@ -148,18 +150,16 @@ module _ (addresses : Addresses) {K A : Type 0} (content : K → Content) (sende
       (calls : List S.Call) (a b c : ServerEnd K A) (log begun told left : Log)
       → MayCome addresses past event.at event.what
       → ((entries : List Entry) → OnServer calls entries → Makes addresses past event.at event.word event.what refused
-      entries)
+      entries × EndLacks addresses (ServerLed content) server_trace past event refused a entries)
       → begun ≡ line_put (Begins event.at) log → Acts addresses (ServerLed content) OfServer
       (server_lines addresses sender) event.at calls a begun b told
       → ServerEnds addresses (ServerLed content) (server_lines addresses sender) event.at refused b told c left
       → ServerTurned addresses content sender past event a log c left
   server_turned calls a b c log begun told left comes makes begins acts ends =
       let front : List S.Call = all_taken S.NextOut ends.outs in
-      end_turned addresses (ServerLed content) OfServer (server_lines addresses sender) past event refused calls front a
-      b c log begun told
-      left comes
-      (makes (map OfServer (front ++ calls)) (record { outs = ends.outs; is = refl }))
-      begins acts ends.ends
+      let so = makes (map OfServer (front ++ calls)) (record { outs = ends.outs; is = refl }) in
+      end_turned addresses (ServerLed content) OfServer server_trace (server_lines addresses sender) past event refused
+      calls front a b c log begun told left comes so.0 so.1 begins acts ends.ends
 
 -- the lines of one end's calls, as those of the record
 
@@ -216,6 +216,7 @@ module _ (addresses : Addresses) {A K : Type 0} (content : K → Content) (past 
         lines = λ config es is c h.
             t.lines config (client_of es) c ∙ ap (λ l. log.lines ++ (Begins event.at ∷ (l ++ refused_line t.refused)))
             (client_upon config es t.calls (client_of es));
+        lacks = λ config is c h. t.lacks config is c;
       }
 
   pub of_a_server : (a : ClientEnd A) (s u : ServerEnd K A)
@@ -240,4 +241,5 @@ module _ (addresses : Addresses) {A K : Type 0} (content : K → Content) (past 
             (server_trace config es) t.calls ++ refused_line t.refused))) (sym is)
             ∙ ap (λ l. log.lines ++ (Begins event.at ∷ (l ++ refused_line t.refused)))
             (server_upon config es (sender_in a.senders) c.senders t.calls);
+        lacks = λ config is c h. t.lacks config is h;
       }

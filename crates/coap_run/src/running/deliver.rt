@@ -52,16 +52,16 @@ pub(crate) fn deliver<S: Store<A>, A: Allocator + Copy>(
     }
     let from = given.from();
     if is_end(given.to(), addresses.server) {
-        let refused = feed_server(server, at, word, from, given.bytes());
+        let met = feed_server(server, at, word, from, given.bytes());
         log.note(Kind::Begins(at))?;
-        tell_fed(addresses, server, &client.senders, refused, log)?;
-        finish_server(addresses, server, at, refused, log)?;
+        tell_fed(addresses, server, &client.senders, met, log)?;
+        finish_server(addresses, server, at, met, log)?;
         return Ok(());
     }
     if is_end(given.to(), addresses.client) {
-        let refused = feed_client(client, at, word, from, given.bytes())?;
+        let met = feed_client(client, at, word, from, given.bytes())?;
         log.note(Kind::Begins(at))?;
-        finish_client(addresses, client, at, refused, log)?;
+        finish_client(addresses, client, at, met, log)?;
         return Ok(());
     }
     Err(Stop::NotLegal)

@@ -1,5 +1,5 @@
 //! What an end gives after the call of an event.
-ghost use Rattle.std.specs.Prelude.{ℕ, List, OnOk, Option};
+ghost use Rattle.std.specs.Prelude.{ℕ, List, OnOk, Option, is_err};
 ghost use Rattle.coap_client.specs.Trace as asked;
 ghost use Rattle.coap_server.specs.Trace as served;
 ghost use Rattle.coap_record.specs.Record.{OfClient, OfServer};
@@ -10,6 +10,7 @@ ghost use Rattle.coap_record.specs.declared.addresses.Addresses as places;
 ghost use Rattle.coap_run.specs.Run.Turning.{ClientEnds, ServerEnds, of_client};
 
 use crate::running::ends::{ClientEnd, ServerEnd};
+use crate::running::met::Met;
 use crate::running::record::Record;
 use coap_record::Addresses;
 use coap_resource::Store;
@@ -70,14 +71,14 @@ pub(crate) fn finish_client<A: Allocator + Copy>(
     addresses: Addresses,
     end: &mut ClientEnd<A>,
     at: Moment,
-    refused: bool,
+    met: Met,
     log: &mut Record<A>,
 ) -> Result<(), AllocError>
-    ensures { OnOk result (ClientEnds addresses ClientLed at.0 refused end.old log.old end.new log.new) }
+    ensures { OnOk result (ClientEnds addresses ClientLed at.0 (is_err met) end.old log.old end.new log.new) }
 {
     client_outs(addresses, end, at, log)?;
     client_reports(end, at, log)?;
-    log.end(refused)?;
+    log.end(met)?;
     Ok(())
 }
 
@@ -86,14 +87,14 @@ pub(crate) fn finish_server<S: Store<A>, A: Allocator + Copy>(
     addresses: Addresses,
     end: &mut ServerEnd<S, A>,
     at: Moment,
-    refused: bool,
+    met: Met,
     log: &mut Record<A>,
 ) -> Result<(), AllocError>
     ensures { OnOk result ((sender : List ℕ → Option ℕ)
-        → ServerEnds addresses (ServerLed S.content) (server_lines addresses sender) at.0 refused end.old log.old
+        → ServerEnds addresses (ServerLed S.content) (server_lines addresses sender) at.0 (is_err met) end.old log.old
         end.new log.new) }
 {
     server_outs(addresses, end, at, log)?;
-    log.end(refused)?;
+    log.end(met)?;
     Ok(())
 }

@@ -1,5 +1,6 @@
 //! The call that an event is.
-ghost use Rattle.std.specs.Prelude.{◌≡◌, ◌≢◌, ℕ, List, Option, Some, true, false, Err, IfOk, OnOk, is_ok, length, max};
+ghost use Rattle.std.specs.Prelude.{◌≡◌, ◌≢◌, ℕ, List, Option, Some, true, false, Err, IfOk, OnOk, OnErr};
+ghost use Rattle.std.specs.Prelude.{is_err, is_ok, length, max};
 ghost use Rattle.coap_types.specs.declared.endpoint.Endpoint.{Endpoint};
 ghost use Rattle.coap_layer.specs.Machine.State.{made};
 ghost use Rattle.coap_layer.specs.Machine.Ups.{IsQuiet};
@@ -23,6 +24,7 @@ ghost use Rattle.coap_run.specs.declared.running.ends.ServerEnd.{ServerEnd};
 
 use crate::running::ends;
 use crate::running::ends::ClientEnd;
+use crate::running::met::Met;
 use crate::running::record::{Kind, Record};
 use crate::running::senders::Senders;
 use coap_ends::{CallId, CallRefusal};
@@ -31,42 +33,39 @@ use coap_resource::{Store, StoreRefusal};
 use coap_types::{Endpoint, Moment, Path, Request};
 use std::alloc::{AllocError, Allocator};
 
-/// A datagram comes to the client; whether it met want of memory.
+/// A datagram comes to the client; what it met.
 pub(crate) fn feed_client<A: Allocator + Copy>(
     end: &mut ClientEnd<A>,
     at: Moment,
     word: u64,
     from: Endpoint,
     bytes: &[u8],
-) -> Result<bool, AllocError>
-    ensures fed { IfOk result (λ refused.
-        Fed ClientLed (FeedsClient at.0 word from bytes.now) refused end.old end.new) }
-    ensures quiet { IfOk result (λ refused. TellsNothing end.old.client at.0 from bytes.now → refused ≡ false) }
+) -> Result<Met, AllocError>
+    ensures fed { IfOk result (λ met.
+        Fed ClientLed (FeedsClient at.0 word from bytes.now) (is_err met) end.old end.new) }
+    ensures quiet { IfOk result (λ met. TellsNothing end.old.client at.0 from bytes.now → is_err met ≡ false) }
 {
     match end.client.feed(at, from, bytes, word) {
         Ok(()) => {}
-        Err(_) => return Ok(true),
+        Err(why) => return Ok(Err(why)),
     }
     end.note_asked()?;
-    Ok(false)
+    Ok(Ok(()))
 }
 
-/// A datagram comes to the server; whether it met want of memory.
+/// A datagram comes to the server; what it met.
 pub(crate) fn feed_server<S: Store<A>, A: Allocator + Copy>(
     end: &mut ends::ServerEnd<S, A>,
     at: Moment,
     word: u64,
     from: Endpoint,
     bytes: &[u8],
-) -> bool
-    ensures fed { IsFed S.content (FeedsServer at.0 word from bytes.now) result end.old end.new }
+) -> Met
+    ensures fed { IsFed S.content (FeedsServer at.0 word from bytes.now) (is_err result) end.old end.new }
     ensures quiet { IsQuiet (made end.old.server.exchanges.layer (max end.old.server.clock at.0)
-        (below.Receive from bytes.now)) → result ≡ false }
+        (below.Receive from bytes.now)) → is_err result ≡ false }
 {
-    match end.server.feed(at, from, bytes, word) {
-        Ok(()) => false,
-        Err(_) => true,
-    }
+    end.server.feed(at, from, bytes, word)
 }
 
 /// Tells the request that this datagram applied, if it applied one.
@@ -74,77 +73,85 @@ pub(crate) fn tell_fed<S: Store<A>, A: Allocator + Copy>(
     addresses: Addresses,
     end: &mut ends::ServerEnd<S, A>,
     senders: &Senders<A>,
-    refused: bool,
+    met: Met,
     log: &mut Record<A>,
 ) -> Result<(), AllocError>
     ensures { OnOk result ((before : ServerEnd S A) (at word : ℕ) (from : Endpoint) (bytes : List ℕ)
-        → IsFed S.content (FeedsServer at word from bytes) refused before end.old
+        → IsFed S.content (FeedsServer at word from bytes) (is_err met) before end.old
         → Taken addresses (ServerLed S.content) OfServer (server_lines addresses (sender_in senders.now)) at
-        (FeedsServer at word from bytes) refused before log.old end.new log.new) }
+        (FeedsServer at word from bytes) (is_err met) before log.old end.new log.new) }
 {
-    if refused {
+    if met.is_err() {
         return Ok(());
     }
     end.tell(addresses, senders, log)?;
     Ok(())
 }
 
-// Whether a call met want of memory.
-fn lacks_memory(answer: Result<CallId, CallRefusal>) -> bool
-    ensures yes { result ≡ true → answer ≡ Err CallRefusal.Memory }
-    ensures no { result ≡ false → answer ≢ Err CallRefusal.Memory }
+// What a call that was answered so met.
+fn met_by_call(answer: Result<CallId, CallRefusal>) -> Met
+    ensures ok { OnOk result (answer ≢ Err CallRefusal.Memory) }
+    ensures err { OnErr result (answer ≡ Err CallRefusal.Memory) }
 {
-    answer == Err(CallRefusal::Memory)
+    match answer {
+        Err(CallRefusal::Memory) => Err(AllocError),
+        _ => Ok(()),
+    }
 }
 
-// Whether a local change met want of memory.
-fn store_lacks_memory(answer: Result<u64, StoreRefusal>) -> bool
-    ensures yes { result ≡ true → answer ≡ Err StoreRefusal.Memory }
-    ensures no { result ≡ false → answer ≢ Err StoreRefusal.Memory }
+// What a local change that was answered so met.
+fn met_by_change(answer: Result<u64, StoreRefusal>) -> Met
+    ensures ok { OnOk result (answer ≢ Err StoreRefusal.Memory) }
+    ensures err { OnErr result (answer ≡ Err StoreRefusal.Memory) }
 {
-    answer == Err(StoreRefusal::Memory)
+    match answer {
+        Err(StoreRefusal::Memory) => Err(AllocError),
+        _ => Ok(()),
+    }
 }
 
-/// A call; whether it met want of memory.
+/// A call; what it met.
 pub(crate) fn call_client<A: Allocator + Copy>(
     end: &mut ClientEnd<A>,
     log: &mut Record<A>,
     at: Moment,
     request: Request<A>,
-) -> Result<bool, AllocError>
-    ensures taken { IfOk result (λ refused. (addresses : places.Addresses)
+) -> Result<Met, AllocError>
+    ensures taken { IfOk result (λ met. (addresses : places.Addresses)
         → Taken addresses ClientLed OfClient of_client at.0
-        (IsCall at.0 (shown_request request)) refused end.old log.old end.new log.new) }
-    ensures refused { IfOk result (λ refused. is_ok (call_answer end.old.client.own (shown_request request)) ≡ false
-        → refused ≡ false) }
+        (IsCall at.0 (shown_request request)) (is_err met) end.old log.old end.new log.new) }
+    ensures refused { IfOk result (λ met. is_ok (call_answer end.old.client.own (shown_request request)) ≡ false
+        → is_err met ≡ false) }
 {
     let answer = end.client.call(at, request);
-    if lacks_memory(answer) {
-        return Ok(true);
+    match met_by_call(answer) {
+        Ok(()) => {}
+        Err(why) => return Ok(Err(why)),
     }
     log.note(Kind::Takes(answer))?;
-    Ok(false)
+    Ok(Ok(()))
 }
 
-/// An observation; whether it met want of memory.
+/// An observation; what it met.
 pub(crate) fn observe_client<A: Allocator + Copy>(
     end: &mut ClientEnd<A>,
     log: &mut Record<A>,
     at: Moment,
     path: Path<A>,
-) -> Result<bool, AllocError>
-    ensures taken { IfOk result (λ refused. (addresses : places.Addresses)
+) -> Result<Met, AllocError>
+    ensures taken { IfOk result (λ met. (addresses : places.Addresses)
         → Taken addresses ClientLed OfClient of_client at.0
-        (IsObservation at.0 path) refused end.old log.old end.new log.new) }
-    ensures refused { IfOk result (λ refused. is_ok (observe_answer end.old.client.own path) ≡ false
-        → refused ≡ false) }
+        (IsObservation at.0 path) (is_err met) end.old log.old end.new log.new) }
+    ensures refused { IfOk result (λ met. is_ok (observe_answer end.old.client.own path) ≡ false
+        → is_err met ≡ false) }
 {
     let answer = end.client.observe(at, path);
-    if lacks_memory(answer) {
-        return Ok(true);
+    match met_by_call(answer) {
+        Ok(()) => {}
+        Err(why) => return Ok(Err(why)),
     }
     log.note(Kind::Takes(answer))?;
-    Ok(false)
+    Ok(Ok(()))
 }
 
 /// A cancel, which takes no memory.
@@ -177,7 +184,7 @@ pub(crate) fn forget_client<A: Allocator + Copy>(
     Ok(())
 }
 
-/// A local change; whether it met want of memory.
+/// A local change; what it met.
 pub(crate) fn set_server<S: Store<A>, A: Allocator + Copy>(
     end: &mut ends::ServerEnd<S, A>,
     log: &mut Record<A>,
@@ -185,27 +192,28 @@ pub(crate) fn set_server<S: Store<A>, A: Allocator + Copy>(
     path: &Path<A>,
     format: Option<u16>,
     body: &[u8],
-) -> Result<bool, AllocError>
-    ensures taken { IfOk result (λ refused. (addresses : places.Addresses) (sender : List ℕ → Option ℕ)
+) -> Result<Met, AllocError>
+    ensures taken { IfOk result (λ met. (addresses : places.Addresses) (sender : List ℕ → Option ℕ)
         → Taken addresses (ServerLed S.content) OfServer (server_lines addresses sender) at.0
-        (IsSet at.0 path.now format body.now) refused end.old log.old end.new log.new) }
-    ensures refused { IfOk result (λ refused. (why : StoreRefusalSpec) → why ≢ StoreRefusal.Memory
+        (IsSet at.0 path.now format body.now) (is_err met) end.old log.old end.new log.new) }
+    ensures refused { IfOk result (λ met. (why : StoreRefusalSpec) → why ≢ StoreRefusal.Memory
         → put_refusal (state_of S.content end.old.server).own.store
         (max (state_of S.content end.old.server).own.clock at.0) path.now (length body.now) ≡ Some why
-        → refused ≡ false) }
+        → is_err met ≡ false) }
 {
     let answer = end.server.set(at, path, format, body);
-    if store_lacks_memory(answer) {
-        return Ok(true);
+    match met_by_change(answer) {
+        Ok(()) => {}
+        Err(why) => return Ok(Err(why)),
     }
     log.note(Kind::Puts(answer))?;
     let version = match answer {
         Ok(version) => version,
-        Err(_) => return Ok(false),
+        Err(_) => return Ok(Ok(())),
     };
     end.version = version;
     log.change(path, version, end.server.get(path))?;
-    Ok(false)
+    Ok(Ok(()))
 }
 
 /// A removal, which takes no memory.

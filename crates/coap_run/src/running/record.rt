@@ -1,5 +1,5 @@
 //! What a run tells.
-ghost use Rattle.std.specs.Prelude.{◌≡◌, [], OnOk, option_copied, slice_get};
+ghost use Rattle.std.specs.Prelude.{◌≡◌, [], OnOk, is_err, option_copied, slice_get};
 ghost use Rattle.std.specs.Option.{option_map};
 ghost use Rattle.coap_client.specs.Object.Shown.{shown_reported};
 ghost use Rattle.coap_client.specs.declared.client.report.CallId.{CallId};
@@ -10,6 +10,7 @@ ghost use Rattle.coap_run.specs.Run.Log.{Applies, Reports, given_put, line_put, 
 ghost use Rattle.coap_run.specs.Run.Telling.{change_told};
 
 use crate::running::copies::copied_holding;
+use crate::running::met::Met;
 use coap_ends::{Applied, CallId, CallRefusal, CancelRefusal, Report};
 use coap_layer::Datagram;
 use coap_resource::{Representation, StoreRefusal};
@@ -211,10 +212,10 @@ impl<A: Allocator + Copy> Record<A> {
     }
 
     /// Notes want of memory.
-    pub(crate) fn end(&mut self, refused: bool) -> Result<(), AllocError>
-        ensures { OnOk result (self.new ≡ lines_put (refused_line refused) self.old) }
+    pub(crate) fn end(&mut self, met: Met) -> Result<(), AllocError>
+        ensures { OnOk result (self.new ≡ lines_put (refused_line (is_err met)) self.old) }
     {
-        if refused {
+        if met.is_err() {
             self.note(Kind::Refused)?;
         }
         Ok(())

@@ -55,8 +55,8 @@ fn on_call<A: Allocator + Copy>(
 {
     let request = copied(request)?;
     log.note(Kind::Begins(when.at))?;
-    let refused = call_client(client, log, when.at, request)?;
-    finish_client(when.addresses, client, when.at, refused, log)?;
+    let met = call_client(client, log, when.at, request)?;
+    finish_client(when.addresses, client, when.at, met, log)?;
     Ok(())
 }
 
@@ -72,8 +72,8 @@ fn on_observe<A: Allocator + Copy>(
 {
     let path = path.clone()?;
     log.note(Kind::Begins(when.at))?;
-    let refused = observe_client(client, log, when.at, path)?;
-    finish_client(when.addresses, client, when.at, refused, log)?;
+    let met = observe_client(client, log, when.at, path)?;
+    finish_client(when.addresses, client, when.at, met, log)?;
     Ok(())
 }
 
@@ -89,7 +89,7 @@ fn on_cancel<A: Allocator + Copy>(
 {
     log.note(Kind::Begins(when.at))?;
     cancel_client(client, log, when.at, id)?;
-    finish_client(when.addresses, client, when.at, false, log)?;
+    finish_client(when.addresses, client, when.at, Ok(()), log)?;
     Ok(())
 }
 
@@ -105,7 +105,7 @@ fn on_forget<A: Allocator + Copy>(
 {
     log.note(Kind::Begins(when.at))?;
     forget_client(client, log, when.at, id)?;
-    finish_client(when.addresses, client, when.at, false, log)?;
+    finish_client(when.addresses, client, when.at, Ok(()), log)?;
     Ok(())
 }
 
@@ -119,8 +119,8 @@ fn on_client_tick<A: Allocator + Copy>(
         client.old log.old client.new log.new) }
 {
     log.note(Kind::Begins(when.at))?;
-    let refused = client_ticks(client, when.at, when.word)?;
-    finish_client(when.addresses, client, when.at, refused, log)?;
+    let met = client_ticks(client, when.at, when.word)?;
+    finish_client(when.addresses, client, when.at, met, log)?;
     Ok(())
 }
 
@@ -141,8 +141,8 @@ fn on_client_stranger<A: Allocator + Copy>(
         client.old log.old client.new log.new) }
 {
     log.note(Kind::Begins(when.at))?;
-    let refused = feed_client(client, when.at, when.word, from, bytes)?;
-    finish_client(when.addresses, client, when.at, refused, log)?;
+    let met = feed_client(client, when.at, when.word, from, bytes)?;
+    finish_client(when.addresses, client, when.at, met, log)?;
     Ok(())
 }
 
@@ -160,8 +160,8 @@ fn on_set<S: Store<A>, A: Allocator + Copy>(
         server.old log.old server.new log.new) }
 {
     log.note(Kind::Begins(when.at))?;
-    let refused = set_server(server, log, when.at, path, format, body)?;
-    finish_server(when.addresses, server, when.at, refused, log)?;
+    let met = set_server(server, log, when.at, path, format, body)?;
+    finish_server(when.addresses, server, when.at, met, log)?;
     Ok(())
 }
 
@@ -182,7 +182,7 @@ fn on_remove<S: Store<A>, A: Allocator + Copy>(
 {
     log.note(Kind::Begins(when.at))?;
     remove_server(server, log, when.at, path)?;
-    finish_server(when.addresses, server, when.at, false, log)?;
+    finish_server(when.addresses, server, when.at, Ok(()), log)?;
     Ok(())
 }
 
@@ -198,8 +198,8 @@ fn on_server_tick<S: Store<A>, A: Allocator + Copy>(
         server.old log.old server.new log.new) }
 {
     log.note(Kind::Begins(when.at))?;
-    let refused = server_ticks(when.addresses, server, senders, log, when.at, when.word)?;
-    finish_server(when.addresses, server, when.at, refused, log)?;
+    let met = server_ticks(when.addresses, server, senders, log, when.at, when.word)?;
+    finish_server(when.addresses, server, when.at, met, log)?;
     Ok(())
 }
 
@@ -216,10 +216,10 @@ fn on_server_stranger<S: Store<A>, A: Allocator + Copy>(
         (record { at = when.at.0; word = when.word; what = StrangerToServer from bytes.now })
         server.old log.old server.new log.new) }
 {
-    let refused = feed_server(server, when.at, when.word, from, bytes);
+    let met = feed_server(server, when.at, when.word, from, bytes);
     log.note(Kind::Begins(when.at))?;
-    tell_fed(when.addresses, server, senders, refused, log)?;
-    finish_server(when.addresses, server, when.at, refused, log)?;
+    tell_fed(when.addresses, server, senders, met, log)?;
+    finish_server(when.addresses, server, when.at, met, log)?;
     Ok(())
 }
 

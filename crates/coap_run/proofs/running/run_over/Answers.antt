@@ -43,6 +43,6 @@ returns-in-Err-NotLegal-clause-wrong g c = λ number e config here start.
     subst (λ n. IsFirstWrong config (map event_of c.args.events.now) n) same
     (first_wrong event_of c.args.events.now c.events.number config st.0 c.index-events-number.result c.events-test.true
     c.index-events-number.is
-    (recorded g.S.Store.content config _ st.0 _ _ _ _ st.1) st.1.legal
+    (recorded g.S.Store.content config _ st.0 _ _ _ _ st.1) st.1.legal st.1.lacks
     (λ may. c.step.ensures.wrong (c.in-Err-NotLegal.is ∙ ap Err c.in-Err-NotLegal.field-0-is) config _ st.0 here st.1
     (subst (λ x. MayHappen x st.0 (event_of c.index-events-number.result)) here may)))

@@ -14,7 +14,7 @@ returns-in-Ok-done-clause-record g c =
     (begins g.S.Store.content k _ _ _ c.new-log.ensures
     (subst IsConfig c.config.view_is c.config.invariant) c.client_of-client.ensures c.in-Ok.ensures) in
     is_run event_of c.args.events.now k st.0 c.run_over-done.new.log
-    (recorded g.S.Store.content k _ st.0 _ _ _ _ st.2) st.2.legal st.2.log_is
+    (recorded g.S.Store.content k _ st.0 _ _ _ _ st.2) st.2.legal st.2.lacks st.2.log_is
 
 pub returns-in-Err-done-clause-wrong : goal.returns-in-Err-done-clause-wrong
 returns-in-Err-done-clause-wrong g c = λ number e.

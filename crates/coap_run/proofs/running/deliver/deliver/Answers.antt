@@ -25,7 +25,8 @@ returns-then-is_end-clause-ok g c = λ past is.
     c.from-from.ensures c.bytes.ensures c.in_ok-note.ensures
     _ _ _ _ _ (sym c.to.ensures ∙ c.is_end.ensures.yes c.if-is_end.true)
     (c.in_ok-tell_fed.ensures _ c.args.at.0 c.args.word c.from-from.result c.bytes.result.now
-    c.feed_server-refused.ensures.fed) (c.in_ok-finish_server.ensures (sender_in c.args.client.now.senders))
+    c.feed_server-met.ensures.fed) c.feed_server-met.ensures.quiet
+    (c.in_ok-finish_server.ensures (sender_in c.args.client.now.senders))
 
 pub returns-then-is_end-2-clause-ok : goal.returns-then-is_end-2-clause-ok
 returns-then-is_end-2-clause-ok g c = λ past is.
@@ -34,7 +35,8 @@ returns-then-is_end-2-clause-ok g c = λ past is.
     c.bytes-then-is_end-2.result.now c.args.log.now _ _ _ is c.in-Some.ensures
     (omega (arith, c.at.ensures, c.since.ensures, c.if-since-gt-MAX_LATENCY_MS.false))
     c.from-from.ensures c.bytes-then-is_end-2.ensures c.in_ok-note-2.ensures
-    _ _ _ _ (sym c.to-2.ensures ∙ c.is_end-2.ensures.yes c.if-is_end-2.true) c.in_ok-refused.ensures.fed
+    _ _ _ _ (sym c.to-2.ensures ∙ c.is_end-2.ensures.yes c.if-is_end-2.true) c.in_ok-met.ensures.fed
+    c.in_ok-met.ensures.quiet
     c.in_ok-finish_client.ensures
 
 pub returns-clause-wrong : goal.returns-clause-wrong

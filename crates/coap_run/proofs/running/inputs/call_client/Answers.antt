@@ -4,4 +4,4 @@ use Rattle.coap_run.proofs.running.inputs.call_client.Goals as goal
 
 pub returns-clause-taken : goal.returns-clause-taken
 returns-clause-taken g c = λ addresses. client_called addresses c.args.at.0 _ _ _ _ _ _
-    (c.call-answer.ensures.step (c.lacks_memory.ensures.no c.if-lacks_memory.false)) refl c.in_ok-note.ensures
+    (c.call-answer.ensures.step c.in-Ok.ensures.ok) refl c.in_ok-note.ensures

@@ -6,5 +6,5 @@ use Rattle.coap_run.proofs.running.turn.on_call.Goals as goal
 pub returns : goal.returns
 returns g c =
     called c.args.when.addresses c.args.when.at.0 c.args.when.word _ _ _ _ _ _ _ c.in_ok-note.ensures _ _ _
-    (ap shown_request c.in_ok-request.ensures) (c.in_ok-refused.ensures.taken c.args.when.addresses)
-    c.in_ok-finish_client.ensures
+    (ap shown_request c.in_ok-request.ensures) (c.in_ok-met.ensures.taken c.args.when.addresses)
+    c.in_ok-met.ensures.refused c.in_ok-finish_client.ensures

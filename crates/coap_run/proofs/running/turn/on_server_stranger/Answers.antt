@@ -8,4 +8,5 @@ returns g c =
     _ _ _ _ _ _ _
     c.in_ok-note.ensures _ _ _
     (c.in_ok-tell_fed.ensures _ c.args.when.at.0 c.args.when.word c.args.from c.args.bytes.now
-    c.feed_server-refused.ensures.fed) (c.in_ok-finish_server.ensures (sender_in c.args.senders.now))
+    c.feed_server-met.ensures.fed) c.feed_server-met.ensures.quiet
+    (c.in_ok-finish_server.ensures (sender_in c.args.senders.now))
