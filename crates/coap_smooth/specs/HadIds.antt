@@ -1,4 +1,4 @@
--- Where a Message ID was free for what the server sends, behind each event more than 1,000 ms before another (RFC 7252,
+-- Where a Message ID was free for what the server sends, after each event more than 1,000 ms before another (RFC 7252,
 -- section 4.4).
 use Rattle.std.specs.Prelude.{◌≡◌, ◌<◌, ℕ, ◌+◌, List, ◌++◌}
 use Rattle.coap_types.specs.Past.{Always}
@@ -8,7 +8,7 @@ use Rattle.coap_record.specs.Events.{Config}
 use Rattle.coap_record.specs.Record.{Turn, entries_of, server_trace}
 use Rattle.coap_smooth.specs.Smooth.{max_age}
 
--- .. behind each call so far, whatever the moment
+-- .. after each call so far, whatever the moment
 abbrev pub HadId : Config → Turn → List Turn → Turn → Type 0
 HadId config turn past then =
     then.event.at + max_age < turn.event.at → (now : ℕ) (later t : List S.Call)

@@ -1,4 +1,4 @@
--- Where, behind each event, a Message ID is free for what the server sends (RFC 7252, section 4.4).
+-- Where, after each event, a Message ID is free for what the server sends (RFC 7252, section 4.4).
 use Rattle.std.specs.Prelude.{◌≡◌, ℕ, List, ◌++◌}
 use Rattle.coap_types.specs.Past.{Always}
 use Rattle.coap_server.specs.Follows.Attended.{NoId}
@@ -6,7 +6,7 @@ use Rattle.coap_server.specs.Trace as S
 use Rattle.coap_record.specs.Events.{Config}
 use Rattle.coap_record.specs.Record.{Turn, entries_of, server_trace}
 
--- .. behind each call so far, whatever the moment
+-- .. after each call so far, whatever the moment
 abbrev pub HasIds : Config → List Turn → Type 0
 HasIds config turns =
     Always (λ past (turn : Turn). (now : ℕ) (later t : List S.Call)

@@ -54,7 +54,7 @@ HasTicked tick past at = Ever (λ (t : Turn). (t.event.what ≡ tick) × (at ≤
     ⊎ Always (λ before (t : Turn). at ≤ t.event.at + max_age) past
 
 module _ (config : Config) where
-  -- Behind these turns, at this moment, the client has nothing to do: a tick does nothing. (So it is at each moment
+  -- After these turns, at this moment, the client has nothing to do: a tick does nothing. (So it is at each moment
   -- before the one that `due` of `Client` tells, and always where that tells none.)
   abbrev pub ClientRests : List Turn → ℕ → Type 0
   ClientRests past now = (c : C.Call) × IsTickOfClient now false c
@@ -65,15 +65,15 @@ module _ (config : Config) where
   ServerRests past now = (c : S.Call) × IsTickOfServer now false c
       × ServerLaw config.limits config.server_szx config.server_setup (c ∷ server_trace config (entries_of past))
 
--- Behind these turns and before the next event, at a moment at most 1,000 ms ago, it had nothing to do.
+-- After these turns and before the next event, at a moment at most 1,000 ms ago, it had nothing to do.
 pub record RestsSo (Rests : List Turn → ℕ → Type 0) (at next : ℕ) (past : List Turn) : Type 0 where
   pub now : ℕ
-  pub behind : NotBefore past now
+  pub since : NotBefore past now
   pub before : now ≤ next
   pub soon : at ≤ now + max_age
   pub rests : Rests past now
 
--- .. behind these turns, or fewer
+-- .. after these turns, or fewer
 abbrev pub HasRested : (List Turn → ℕ → Type 0) → (at next : ℕ) → List Turn → Type 0
 HasRested Rests at next [] = ⊥
 HasRested Rests at next (t ∷ past) = RestsSo Rests at next (t ∷ past) ⊎ HasRested Rests at t.event.at past

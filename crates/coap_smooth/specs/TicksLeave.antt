@@ -48,12 +48,12 @@ TicksInTime turns =
     Always (λ past (turn : Turn). (when : ℕ) → Ever (λ (t : Turn). t.event.at < when) past
     → when + max_age ≤ turn.event.at → Ever (TicksThen when) past) turns
 
--- The server has nothing to do at a moment from this one on: behind turns that all begin less than 1,000 ms later, and
+-- The server has nothing to do at a moment from this one on: after turns that all begin less than 1,000 ms later, and
 -- before the next.
 pub record RestsThen (config : Config) (when : ℕ) (past : List Turn) (next : Turn) : Type 0 where
   pub now : ℕ
   pub from : when ≤ now
-  pub behind : NotBefore past now
+  pub since : NotBefore past now
   pub before : now ≤ next.event.at
   pub till : Always (λ p (u : Turn). u.event.at < when + max_age) past
   pub rests : ServerRests config past now

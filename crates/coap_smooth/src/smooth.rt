@@ -99,12 +99,12 @@ pub fn open_law()
     // .. and behind the ticks of a moment nothing is left that can be answered, unless no Message ID is free (sections
     // 4.7 and 5.2.2).
     ensures leaves { OfLegalRuns TicksLeaveNone }
-    // Where it ticks each 1,000 ms, it ticks less than 1,000 ms behind each moment ..
+    // Where it ticks each 1,000 ms, it ticks less than 1,000 ms after each moment ..
     ensures often { OfLegalRuns (λ config turns. TicksOften turns → TicksInTime turns) }
     // .. and in each smooth run it does so, or has nothing to do then.
     ensures keeps_up { OfLegalRuns (λ config turns. Smooth config turns → KeepsUpInTime config turns) }
     // Where nothing is observed, and no stranger sends anything or the server sends few notifications, a Message ID is
-    // free at each tick of the server (section 4.4) ..
+    // free after each call of the server (section 4.4) ..
     ensures ids { OfLegalRuns (λ config turns. Smooth config turns → FewTold config turns → NoneObserved turns
         → HasIds config turns) }
     // .. so no exchange is open for longer than the longest delay and 2,999 ms, and for more than 2,000 ms where no

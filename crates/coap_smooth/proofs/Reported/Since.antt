@@ -95,7 +95,7 @@ module _ (config : Config) where
   abbrev calls : List Turn → List C.Call
   calls turns = client_of (entries_of turns)
 
-  -- behind fewer turns than these the client had nothing to do at no later moment
+  -- after fewer turns than these there is no later moment at which the client had nothing to do
   abbrev RestsBy : ℕ → List Turn → Type 0
   RestsBy since past = Always (λ older (u : Turn). (now : ℕ) → NotBefore older now → now ≤ u.event.at
       → ClientRests config older now → now ≤ since) past
@@ -105,7 +105,7 @@ module _ (config : Config) where
   rests_until since (u ∷ us) h =
       (λ now behind before_next rests. (let a = h.0 in omega (arith, a, before_next)), rests_until since us h.1)
 
-  -- no exchange is open, since then at most, and behind that the client did not tick, and had something to do
+  -- no exchange is open, since then at most, and after that the client did not tick, and had something to do
   pub record Rests (till : ℕ) (past : List Turn) : Type 0 where
     since : ℕ
     soon : since ≤ till
@@ -172,14 +172,14 @@ module _ (config : Config) where
         → (at most : ℕ) (g : Goes x.number at most past) → turn.event.at ≤ at + g.sent * way + max_age
     next_soon turn past s young quiet x was untold at most g = by g.rest
       where
-        -- behind these turns it has something to do
+        -- after these turns it has something to do
         rested : (us : List Turn) (since next : ℕ)
             → ((now : ℕ) → NotBefore us now → now ≤ next → ClientRests config us now → now ≤ since)
             → RestsBy since us → HasRested (ClientRests config) turn.event.at next us
             → turn.event.at ≤ since + max_age
         rested [] since next here all h = absurd h
         rested (u ∷ us) since next here all (inl h) =
-            let a = here h.now h.behind h.before h.rests in let b = h.soon in omega (arith, a, b)
+            let a = here h.now h.since h.before h.rests in let b = h.soon in omega (arith, a, b)
         rested (u ∷ us) since next here all (inr h) = rested us since u.event.at all.0 all.1 h
 
         rest_soon : (r : Rests (at + g.sent * way) past) → HasRested (ClientRests config) turn.event.at turn.event.at past

@@ -1,4 +1,4 @@
--- Behind the end of the delay of a request, a tick of the server begins a CON with its answer, or has begun one; and where
+-- After the end of the delay of a request, a tick of the server begins a CON with its answer, or has begun one; and where
 -- the server has nothing to do then, one was begun.
 use Rattle.std.proofs.Common.{◌≡◌, ◌⊎◌, inl, inr, ⊎_elim, ◌≤◌, ◌<◌, ℕ, ◌+◌, ◌-◌, max, Some, List}
 use Rattle.std.proofs.Common.{[], ◌∷◌, ◌++◌, refl, ap, sym, subst, ◌∙◌, arith}
@@ -284,7 +284,7 @@ module _ (config : Config) (range : IsConfig config) (needs : YoungLaws)
             answers_by r.con r.begun_there r.carries))
             k.waits
 
-  -- the server has nothing to do behind the end of the delay, where the exchange is still open
+  -- the server has nothing to do after the end of the delay, where the exchange is still open
   module _ (next last : Turn) (older : List Turn) (g : Goes config (next ∷ last ∷ older)) (at : ℕ) (x : Sending)
       (alone : Alone at x (last ∷ older)) (r : RestsThen config (at + most + max_age) (last ∷ older) next)
       (ids : HasIds config (last ∷ older)) where

@@ -1,4 +1,4 @@
--- In a smooth run in which nothing is observed a Message ID is free behind each event.
+-- In a smooth run in which nothing is observed a Message ID is free after each event.
 use Rattle.std.proofs.Common.{◌≡◌, inl, inr, ◌≤◌, ◌<◌, ℕ, zero, suc, ◌+◌, max, Bool, true, false, cond, ◌&&◌, Option}
 use Rattle.std.proofs.Common.{Some, None}
 use Rattle.std.proofs.Common.{List, [], ◌∷◌, ◌++◌, map, refl, ap, subst, ◌∙◌, arith}

@@ -1,4 +1,4 @@
--- In a smooth run the server ticks less than 1,000 ms behind each moment, or has nothing to do then.
+-- In a smooth run the server ticks less than 1,000 ms after each moment, or has nothing to do then.
 use Rattle.std.proofs.Common.{◌≡◌, ◌⊎◌, inl, inr, ◌≤◌, ◌<◌, ℕ, ◌+◌, List, [], ◌∷◌, arith}
 use Rattle.std.proofs.Math.Decide.{dec_le}
 use Rattle.coap_types.specs.Past.{Ever, Sometime, Always}
@@ -35,7 +35,7 @@ module _ (config : Config) where
   abbrev pub Found : ℕ → Turn → List Turn → Type 0
   Found when turn past = Ever (TicksThen when) past ⊎ Sometime (RestsThen config when) (turn ∷ past)
 
-  -- at the first event that is 1,000 ms behind the moment
+  -- at the first event that is 1,000 ms after the moment
   module _ (at when : ℕ) (late : when + max_age ≤ at) where
     ticked : (us : List Turn) → AllBefore (when + max_age) us
         → Ever (λ (t : Turn). (t.event.what ≡ TickServer) × (at ≤ t.event.at + max_age)) us
@@ -55,7 +55,7 @@ module _ (config : Config) where
         inl (record {
           now = h.now;
           from = omega (arith, soon, late);
-          behind = h.behind;
+          since = h.since;
           before = h.before;
           till = all;
           rests = h.rests;

@@ -1,4 +1,4 @@
--- Where each end ticks each 1,000 ms, the server ticks less than 1,000 ms behind each moment.
+-- Where each end ticks each 1,000 ms, the server ticks less than 1,000 ms after each moment.
 use Rattle.std.proofs.Common.{◌≡◌, ◌⊎◌, inl, inr, ◌≤◌, ◌<◌, ℕ, ◌+◌, List, [], ◌∷◌, arith}
 use Rattle.std.proofs.Math.Decide.{dec_le}
 use Rattle.coap_types.specs.Past.{Ever, Sometime, Always}

@@ -1,4 +1,4 @@
--- In a smooth run a Message ID was free for the server behind each event more than 1,000 ms before another, whatever is
+-- In a smooth run a Message ID was free for the server after each event more than 1,000 ms before another, whatever is
 -- observed: few messages come to the client (RFC 7252, section 4.4).
 use Rattle.std.proofs.Common.{◌≡◌, ℕ, ◌+◌, ◌≤◌, ◌<◌, max, List, [], ◌∷◌, ◌++◌, refl, ap, sym, subst, ◌∙◌, arith}
 use Rattle.std.proofs.Common.{append_assoc}
@@ -88,7 +88,7 @@ module _ (config : Config) (laws : IdLaws) (turn : Turn) (past : List Turn) (g :
       (joined.channel config _ past (record_of config past old.stands) (legal_of config past old.stands))))
       (laws.observers config) none
 
-  -- behind one of them, behind these calls
+  -- after one of them, after these calls
   module _ (newer older : List Turn) (last : Turn) (is : past ≡ newer ++ last ∷ older)
       (then : Goes config (last ∷ older)) (early : last.event.at + max_age < turn.event.at) (later t : List S.Call)
       (so_far : server_trace config (last.entries ++ entries_of older) ≡ later ++ t) where

@@ -1,4 +1,4 @@
--- In a smooth run there is a position more than 2,000 ms behind each, and at most 3,001, where nobody can be notified: a
+-- In a smooth run there is a position more than 2,000 ms after each, and at most 3,001, where nobody can be notified: a
 -- tick left nobody, or the server had nothing to do.
 use Rattle.std.proofs.Common.{◌≡◌, inl, inr, ⊎_elim, ◌≤◌, ◌<◌, ℕ, ◌+◌, List, [], ◌∷◌, ◌++◌, refl, ap, arith}
 use Rattle.coap_types.specs.Past.{Ever, Sometime, Always}
@@ -24,7 +24,7 @@ module _ (config : Config) (first : Turn) (older : List Turn) (top : Turn)
   abbrev when : ℕ
   when = first.event.at + 2001
 
-  -- behind a front of these turns, at a moment before the next
+  -- after a front of these turns, at a moment before the next
   pub record NobodyThen (last : Turn) (newer : List Turn) : Type 0 where
     pub after : List Turn
     pub front : List Turn

@@ -1,5 +1,5 @@
--- Where a path is settled, its observer was told what it holds 3,001 ms later at the latest: more than 2,000 ms behind
--- there is nobody who can be notified.
+-- Where a path is settled, its observer was told what it holds 3,001 ms later at the latest: more than 2,000 ms after
+-- that there is nobody who can be notified.
 use Rattle.std.proofs.Common.{◌≡◌, inl, inr, ⊎_elim, ◌≤◌, ◌<◌, ℕ, ◌+◌, Bool, true, false, Some, List, []}
 use Rattle.std.proofs.Common.{◌∷◌, ◌++◌, refl, ap, sym, subst, ◌∙◌, arith, append_assoc}
 use Rattle.std.proofs.Math.Decide.{dec_le}
@@ -53,7 +53,7 @@ use Rattle.coap_smooth.proofs.Watching.Values.Settled.{both, HoldsThrough}
 use Rattle.coap_smooth.proofs.Watching.Ticks.ToldHeld.{ToldHeld, IsAmong, among, current_told, clock_rises, told_more}
 use Rattle.coap_smooth.proofs.Watching.Values.Unchanged.{still}
 
--- the entry that comes next behind a position, and what holds of it and of those behind it
+-- the entry that comes next after a position, and what holds of it and of those after it
 next_with : (P : List Turn → Turn → Type 0) (Q : Turn → Type 0) (last : Turn) (front base : List Turn)
     → Always P (last ∷ (front ++ base)) → Always (λ p e. Q e) (last ∷ front) → (e : Turn) × P base e × Q e
 next_with P Q last [] base all q = (last, all.0, q.0)
@@ -93,7 +93,7 @@ module _ (config : Config) (x : Observed) (held : Held) where
     base_run : SmoothRun config base
     base_run = run_back config newer base (run_before config turn past k.run)
 
-    -- the position behind which nobody can be notified
+    -- the position after which nobody can be notified
     rest : NobodyThen config first older turn early turn newer
     rest =
         let legal = k.run.legal.events in
