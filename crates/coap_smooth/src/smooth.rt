@@ -18,7 +18,7 @@ ghost use Rattle.coap_smooth.specs.Smooth.{FewTold, KeepUp, NoneObserved, Smooth
 ghost use Rattle.coap_smooth.specs.SmoothAnswers.{AllAnswer, ChangesAnswered, GetsHeld};
 ghost use Rattle.coap_smooth.specs.Young.{AreYoung};
 ghost use Rattle.coap_smooth.specs.SmoothGaps.{AreClose, TimesOutRoughly};
-ghost use Rattle.coap_smooth.specs.SmoothRuns.{DefersLate, DefersLongest, PutsLate, Unanswered};
+ghost use Rattle.coap_smooth.specs.SmoothRuns.{DefersByDue, DefersLate, DefersLongest, PutsLate, Unanswered};
 ghost use Rattle.coap_smooth.specs.TakenInTime.{AllTakenInTime};
 ghost use Rattle.coap_smooth.specs.TicksLeave.{KeepsUpInTime, TicksInTime, TicksLeaveNone};
 
@@ -34,6 +34,8 @@ pub fn smooth_witness()
     ensures late { DefersLate }
     // .. and where its exchange is open for 12,999 ms.
     ensures longest { DefersLongest }
+    // The same in a smooth run in which each end ticks only when something is due, so nothing happens for 9,999 ms.
+    ensures by_due { DefersByDue }
     // A PUT to such a path is applied, once, and its success is reported (RFC 7252, sections 5.2.2 and 5.8.3).
     ensures put { PutsLate }
     // A run in which a POST times out is not smooth ..

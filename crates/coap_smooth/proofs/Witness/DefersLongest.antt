@@ -25,7 +25,7 @@ use Rattle.coap_smooth.proofs.Witness.DefersLongest.Server as server
 use Rattle.coap_smooth.proofs.Witness.SmoothTests.{all_smooth, no_stranger}
 use Rattle.coap_promise.proofs.Facts.Witness.TurnTests.{a_run}
 
-range : IsConfig slowest
+pub range : IsConfig slowest
 range = configured (record { path = t; ms = 10000 } ∷ [])
     (of_one IsDelay (record { path = t; ms = 10000 }) (record { path = t_is; ms = omega arith })) (omega arith)
 

@@ -42,6 +42,11 @@ in_time past at (g ∷ gs) e =
       in_time past at gs k.1,
     )
 
+pub comes_in_time : (config : Config) → config.addresses ≡ usual_addresses → (past : List Turn) (at : ℕ)
+    → are_in_time past at (all_of (given_in usual_addresses) past) ≡ true → NoneIsLate config.addresses past at
+comes_in_time config same past at e = subst (λ a. NoneIsLate a past at) (sym same)
+    (none_late past at (in_time past at (all_of (given_in usual_addresses) past) e))
+
 abbrev ticks_client : What → Bool
 ticks_client TickClient = true
 ticks_client _ = false
@@ -107,8 +112,7 @@ goes config same past t e =
     let client = and_parts _ _ time.1 in
     let server = and_parts _ _ client.1 in
     record {
-      in_time = subst (λ a. NoneIsLate a past t.event.at) (sym same)
-          (none_late past t.event.at (in_time past t.event.at (all_of (given_in usual_addresses) past) time.0));
+      in_time = comes_in_time config same past t.event.at time.0;
       client_keeps_up = inl (has_ticked ticks_client TickClient is_client t.event.at past client.0);
       server_keeps_up = inl (has_ticked ticks_server TickServer is_server t.event.at past server.0);
       all_made = not-true t.refused server.1;
