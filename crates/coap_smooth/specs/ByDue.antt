@@ -1,5 +1,5 @@
--- When an end has nothing to do, by what its `due` tells: of the state that an end is in, `due` says of each tick whether
--- it does something (RFC 7252, sections 4.2, 4.7 and 5.2.2; RFC 7641, section 4.5).
+-- When an end has nothing to do, by what its `due` tells: of the state that an end is in, `due` says of each tick
+-- whether it does something (RFC 7252, sections 4.2, 4.7 and 5.2.2; RFC 7641, section 4.5).
 use Rattle.std.specs.Prelude.{ℕ, true, false, List}
 use Rattle.coap_client.specs.Led as C
 use Rattle.coap_client.specs.Turns.Due as client

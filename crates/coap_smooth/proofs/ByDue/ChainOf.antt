@@ -20,7 +20,8 @@ module _ {Own Call : Type 0} (IsRight : Own → Call → Type 0) (after : Own �
   pub chain_of : (cs past : List Call) → Rows start after IsRight (cs ++ past) → (left : L.State)
       → Steps fresh (asked (cs ++ past)) left → (was : L.State) → Steps fresh (asked past) was
       → Chain IsRight after lower Steps (left_with past was) cs (left_with (cs ++ past) left)
-  chain_of [] past rows left steps was then = ap (λ l. left_with past l) (one_left fresh (asked past) left was steps then)
+  chain_of [] past rows left steps was then =
+      ap (λ l. left_with past l) (one_left fresh (asked past) left was steps then)
   chain_of (c ∷ cs) past rows left steps was then =
       let k = steps_split fresh left (lower (sum (cs ++ past)) c) (asked (cs ++ past)) steps in (
         left_with (cs ++ past) k.0,

@@ -74,7 +74,8 @@ module _ (config : Config) (two : config.addresses.client ≡ config.addresses.s
     (legal : AllLegal config.addresses (turn ∷ past)) (goes : GoesSmoothly config past turn)
     (is : turn.event.what ≡ Deliver number) where
   pub makes : Makes config.addresses past turn.event.at turn.event.word (Deliver number) false turn.entries
-  makes = subst (λ r. Makes config.addresses past turn.event.at turn.event.word (Deliver number) r turn.entries) goes.all_made
+  makes = subst (λ r. Makes config.addresses past turn.event.at turn.event.word (Deliver number) r turn.entries)
+      goes.all_made
       (subst (λ w. Makes config.addresses past turn.event.at turn.event.word w turn.refused turn.entries) is made)
 
   -- its moment, where it comes in time
@@ -86,14 +87,16 @@ module _ (config : Config) (two : config.addresses.client ≡ config.addresses.s
       record { fed = fed; from = before; till = soon }
 
   -- where it is for the server, and for the client
-  pub to_server : (g : Given) → turn.event.at ≤ makes.0.at + max_age → makes.0 ≡ g → g.packet.to ≡ config.addresses.server
+  pub to_server : (g : Given) → turn.event.at ≤ makes.0.at + max_age → makes.0 ≡ g
+      → g.packet.to ≡ config.addresses.server
       → FedWithin (FedToServer g.from g.packet.bytes) g past turn
   to_server g soon same to = subst (λ (x : Given). FedWithin (FedToServer x.from x.packet.bytes) x past turn) same
       (⊎_elim (λ d. times (FedToServer makes.0.from makes.0.packet.bytes) soon
       (fed_server makes.0.from makes.0.packet.bytes turn.event.at turn.event.word d.1 turn.entries d.2 d.3))
       (λ d. absurd (two (sym d.0 ∙ (ap (λ (x : Given). x.packet.to) same ∙ to)))) makes.2)
 
-  pub to_client : (g : Given) → turn.event.at ≤ makes.0.at + max_age → makes.0 ≡ g → g.packet.to ≡ config.addresses.client
+  pub to_client : (g : Given) → turn.event.at ≤ makes.0.at + max_age → makes.0 ≡ g
+      → g.packet.to ≡ config.addresses.client
       → FedWithin (FedToClient g.from g.packet.bytes) g past turn
   to_client g soon same to = subst (λ (x : Given). FedWithin (FedToClient x.from x.packet.bytes) x past turn) same
       (⊎_elim (λ d. absurd (two (sym (ap (λ (x : Given). x.packet.to) same ∙ to) ∙ d.0)))
@@ -106,8 +109,8 @@ module _ (config : Config) (two : config.addresses.client ≡ config.addresses.s
       goes.in_time number makes.0 makes.1 (⊎_elim (λ d. inr d.0) (λ d. inl d.0) makes.2) late
 
 -- of the turns in which it is delivered, one that is in time
-module _ (config : Config) (two : config.addresses.client ≡ config.addresses.server → ⊥) (whole : List Turn) (number : ℕ)
-    (g : Given) (is : IsNumber config.addresses number g whole) where
+module _ (config : Config) (two : config.addresses.client ≡ config.addresses.server → ⊥) (whole : List Turn)
+    (number : ℕ) (g : Given) (is : IsNumber config.addresses number g whole) where
   delivered : (P : List Turn → Turn → Type 0)
       → ((turn : Turn) (past : List Turn)
       (made : Makes config.addresses past turn.event.at turn.event.word turn.event.what turn.refused turn.entries)
@@ -115,7 +118,8 @@ module _ (config : Config) (two : config.addresses.client ≡ config.addresses.s
       (w : turn.event.what ≡ Deliver number)
       → turn.event.at ≤ (makes config two number turn past made legal goes w).0.at + max_age
       → (makes config two number turn past made legal goes w).0 ≡ g → P past turn)
-      → (r : List Turn) → ((x : Given) → IsNumber config.addresses number x r → IsNumber config.addresses number x whole)
+      → (r : List Turn)
+      → ((x : Given) → IsNumber config.addresses number x r → IsNumber config.addresses number x whole)
       → AllMade config.addresses r → AllLegal config.addresses r
       → Always (GoesSmoothly config) r → WasDelivered number r → Sometime P r
   delivered P f [] lift made legal goes h = absurd h

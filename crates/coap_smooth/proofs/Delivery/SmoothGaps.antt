@@ -1,5 +1,5 @@
--- The events of a run in which both ends tick each 1,000 ms follow each other closely; and the run in which a POST times
--- out is not smooth: its last datagram comes late, and did not come before.
+-- The events of a run in which both ends tick each 1,000 ms follow each other closely; and the run in which a POST
+-- times out is not smooth: its last datagram comes late, and did not come before.
 use Rattle.std.proofs.Common.{◌≡◌, inl, inr, ⊎_elim, ℕ, ◌+◌, ◌≤◌, List, [], ◌∷◌, map, ap, subst, arith}
 use Rattle.coap_types.specs.Past.{Ever, Always, all_of}
 use Rattle.coap_types.proofs.Facts.Traces.{Ever_map, Ever_of_Sometime}

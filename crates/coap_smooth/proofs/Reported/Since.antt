@@ -182,7 +182,8 @@ module _ (config : Config) where
             let a = here h.now h.since h.before h.rests in let b = h.soon in omega (arith, a, b)
         rested (u ∷ us) since next here all (inr h) = rested us since u.event.at all.0 all.1 h
 
-        rest_soon : (r : Rests (at + g.sent * way) past) → HasRested (ClientRests config) turn.event.at turn.event.at past
+        rest_soon : (r : Rests (at + g.sent * way) past)
+            → HasRested (ClientRests config) turn.event.at turn.event.at past
             → turn.event.at ≤ r.since + max_age
         rest_soon r h =
             rested past r.since turn.event.at
@@ -284,7 +285,8 @@ module _ (config : Config) where
           (g.sent * way)
           (sent * way) ((1 + g.sent) * way) (max_open config) max_age
           (since_by_clock config.client_sizes since (calls (turn ∷ past)) o) clock_now
-          (next_soon turn past s young quiet_then x was untold_then at most g) (more way (1 + g.sent) sent (omega (arith, new)))
+          (next_soon turn past s young quiet_then x was untold_then at most g)
+          (more way (1 + g.sent) sent (omega (arith, new)))
           (once_more way g.sent))
           (λ k. longer (since + max_open config) at (g.sent * way) (sent * way) (g.opened since k) as_long)
           (began_now config since now old (subst (IsOpenSince config.client_sizes since) joined o))

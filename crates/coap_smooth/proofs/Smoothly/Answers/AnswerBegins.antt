@@ -1,5 +1,5 @@
--- After the end of the delay of a request, a tick of the server begins a CON with its answer, or has begun one; and where
--- the server has nothing to do then, one was begun.
+-- After the end of the delay of a request, a tick of the server begins a CON with its answer, or has begun one; and
+-- where the server has nothing to do then, one was begun.
 use Rattle.std.proofs.Common.{◌≡◌, ◌⊎◌, inl, inr, ⊎_elim, ◌≤◌, ◌<◌, ℕ, ◌+◌, ◌-◌, max, Some, List}
 use Rattle.std.proofs.Common.{[], ◌∷◌, ◌++◌, refl, ap, sym, subst, ◌∙◌, arith}
 use Rattle.std.proofs.Math.Decide.{dec_le}
@@ -88,7 +88,8 @@ module _ (config : Config) (range : IsConfig config) (needs : YoungLaws)
     pub carries : CarriesAnswer config.addresses x con
     pub soon : con.first ≤ till
 
-  pub later : (x : Sending) (till : ℕ) (turn : Turn) (past : List Turn) → Answers x till past → Answers x till (turn ∷ past)
+  pub later : (x : Sending) (till : ℕ) (turn : Turn) (past : List Turn) → Answers x till past
+      → Answers x till (turn ∷ past)
   later x till turn past k = record {
     con = k.con;
     begun_there = lift turn.entries (entries_of past) k.begun_there;

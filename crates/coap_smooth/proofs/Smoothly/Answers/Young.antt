@@ -92,8 +92,8 @@ module _ (config : Config) (range : IsConfig config) (needs : YoungLaws)
       → Sometime (RestsThen config (at + most + max_age)) (turn ∷ past)
       → Answers x (at + most + 1999) past
   find_rest turn [] g ids none at x alone h = absurd alone.is_open
-  find_rest turn (last ∷ past) g ids none at x alone (inl r) = begins.at_rest config range needs short turn last past g at x alone
-      r ids none
+  find_rest turn (last ∷ past) g ids none at x alone (inl r) =
+      begins.at_rest config range needs short turn last past g at x alone r ids none
   find_rest turn (last ∷ past) g ids none at x alone (inr h) =
       let g_last = goes_before config turn (last ∷ past) g in
       let since = rested_since at last past h g_last.stands.legal in
