@@ -21,8 +21,8 @@ use coap_server_laws::{server_law, server_must_law};
 
 /// What becomes of the notifications of a smooth run, and what they show.
 pub fn watch_law()
-    // A Message ID was free at each tick of the server more than 1,000 ms before an event, whatever is observed (RFC
-    // 7252, section 4.4).
+    // After each event more than 1,000 ms before another, a Message ID was free for the server, whatever is observed
+    // (RFC 7252, section 4.4).
     ensures ids { OfLegalRuns (λ config turns. SmoothAlone config turns → HadIds config turns) }
     // Each notification that was sent more than 1,000 ms ago came to the client within 1,000 ms, behind its sending
     // (RFC 7641, section 4.5).

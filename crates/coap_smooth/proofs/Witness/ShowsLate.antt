@@ -89,7 +89,7 @@ in_range = ((t_is, omega arith, bytes_are (codes "c") refl), ((t_is, omega arith
 
 smooth : Smooth config turns
 smooth = record {
-  goes = all_smooth turns refl;
+  goes = all_smooth config refl turns refl;
   few_to_client = few_of 0 client_came (client_of (entries_of turns)) (omega arith);
   few_to_server = few_of 0 server_came (server_of (entries_of turns)) (omega arith);
   delays = All-nil (λ (d : Delay). d.ms ≤ max_delay);

@@ -1,4 +1,4 @@
--- In a smooth run in which nothing is observed a Message ID is free at each tick of the server.
+-- In a smooth run in which nothing is observed a Message ID is free after each event.
 use Rattle.std.proofs.Common.{◌≡◌, inl, inr, ◌≤◌, ◌<◌, ℕ, zero, suc, ◌+◌, max, Bool, true, false, cond, ◌&&◌, Option}
 use Rattle.std.proofs.Common.{Some, None}
 use Rattle.std.proofs.Common.{List, [], ◌∷◌, ◌++◌, map, refl, ap, subst, ◌∙◌, arith}
@@ -43,7 +43,7 @@ use Rattle.coap_smooth.proofs.Smoothly.Arriving.HeardClient.{heard_client}
 use Rattle.coap_smooth.proofs.Smoothly.Requests.NoObservers.{none_made}
 use Rattle.coap_smooth.proofs.Smoothly.Ticks.NothingIsLeft.{record_of}
 use Rattle.coap_smooth.proofs.Smoothly.Arriving.ToClient.{HeardClient, heard_before, of_observer, told_observer}
-use Rattle.coap_smooth.proofs.Smoothly.Answers.Young.{front_of}
+use Rattle.coap_smooth.proofs.Smoothly.Answers.OpenTo.{front_of}
 
 -- no notification was sent
 abbrev NoneNotified : List R.Call → Type 0
@@ -223,9 +223,9 @@ module _ (config : Config) (observers : (t : List S.Call) → AreObservers confi
     less : {a b c : ℕ} → a ≤ b → b < c → a < c
     less h l = omega (arith, h, l)
 
-    at_call : (later t : List S.Call) → server_trace config es ≡ later ++ t
-        → NoId config.limits config.server_szx config.server_setup t turn.event.at → ⊥
-    at_call later t is no_id =
+    at_call : (now : ℕ) (later t : List S.Call) → server_trace config es ≡ later ++ t
+        → NoId config.limits config.server_szx config.server_setup t now → ⊥
+    at_call now later t is no_id =
         let law : ServerLaw config.limits config.server_szx config.server_setup t =
         server_facts.back config.limits config.server_szx config.server_setup later t
         (subst (ServerLaw config.limits config.server_szx config.server_setup) is whole.server) in
@@ -239,9 +239,9 @@ module _ (config : Config) (observers : (t : List S.Call) → AreObservers confi
         less (came_more since k.0 (server_layer config t))
         (subst (λ l. came since l < most_that_come) (far_is config es ∙ all) (few since)) in
         free (lower_of config.limits config.server_szx t) law.exchanges most_that_come
-        (max (clock (server_layer config t)) (max (own_of config.limits config.server_szx t).clock turn.event.at))
+        (max (clock (server_layer config t)) (max (own_of config.limits config.server_szx t).clock now))
         (omega arith) told_t few_t
-        (own_first (clock (server_layer config t)) (own_of config.limits config.server_szx t).clock turn.event.at) no_id
+        (own_first (clock (server_layer config t)) (own_of config.limits config.server_szx t).clock now) no_id
 
   -- fewer were sent by then
   told_before : (turn : Turn) (past : List Turn) → FewNotices config (turn ∷ past) → FewNotices config past
@@ -262,7 +262,7 @@ module _ (config : Config) (observers : (t : List S.Call) → AreObservers confi
       → HasIds config turns
   has_ids [] g observed none told = tt
   has_ids (turn ∷ past) g observed none told = (
-    λ what later t is no_id. at_call turn past g observed none told later t is no_id,
+    λ now later t is no_id. at_call turn past g observed none told now later t is no_id,
     has_ids past (goes_before config turn past g) (calls_before _ turn.entries (entries_of past) observed)
         (calls_before _ turn.entries (entries_of past) none) (told_before turn past told),
   )
