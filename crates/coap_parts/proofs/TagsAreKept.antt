@@ -1,6 +1,7 @@
 -- The parts of a history have the entity-tags that the fetch knows of.
 use Rattle.std.proofs.Common.{◌≡◌, ◌≢◌, ◌⊎◌, inl, inr, ℕ, Bool, true, false, not, ◌&&◌, ◌||◌, nat_lt, nat_le, ◌++◌}
-use Rattle.std.proofs.Common.{if◌then◌else◌, ◌+◌, List, [], ◌∷◌, length, refl, ap, sym, subst, arith, Option, Some, None}
+use Rattle.std.proofs.Common.{if◌then◌else◌, ◌+◌, List, [], ◌∷◌, length, refl, ap, sym, subst, arith, Option, Some}
+use Rattle.std.proofs.Common.{None}
 use Rattle.std.proofs.Common.{is_some}
 use Rattle.std.proofs.lemmas.Grind.{common_steps}
 use Rattle.std.proofs.lemmas.Slice.Eq.{bytes_eq-Decides}
@@ -196,8 +197,8 @@ step (Ask num szx) parts s (Some b) came payload k h =
 pub are_kept : (t : PartTrace) → Kept (parts_since t) (state_after t)
 are_kept (Made sizes untagged) = at_start sizes untagged 0
 are_kept (Took earlier block came payload) =
-    step (verdict_on (state_after earlier) block came (length payload)) (parts_since earlier) (state_after earlier) block
-    came payload (are_kept earlier) refl
+    step (verdict_on (state_after earlier) block came (length payload)) (parts_since earlier) (state_after earlier)
+    block came payload (are_kept earlier) refl
 
 led_kept : (t : PartTrace) (s : PartState) → Led t s → Kept (parts_since t) s
 led_kept t s led = subst (λ (x : PartState). Kept (parts_since t) x) (sym led) (are_kept t)

@@ -57,7 +57,8 @@ impl<A: Allocator + Copy> PartFetch<A> {
         }
     }
 
-    /// Takes the part that came in a 2.05: its Block2, its ETag and its payload. After a refusal the fetch is as before.
+    /// Takes the part that came in a 2.05: its Block2, its ETag and its payload. After a refusal the fetch is as
+    /// before.
     pub fn accept(
         &mut self,
         block: Option<Block>,
