@@ -39,7 +39,9 @@
 //! The library below is proved to meet its contracts; `docs/EMBEDDING.md` says what they promise, of which calls, and what
 //! this crate promises without proof. An end is [`Send`] and not [`Sync`].
 //!
-//! With the feature `std-driver` the module `driver` has a client that blocks and a server's loop, each with a socket of its
+//! A server stores values, and calls no function of yours. In [`exchange`] your code computes the answers.
+//!
+//! With the feature `std-driver` the module `driver` has a client that blocks and servers' loops, each with a socket of its
 //! own. With the feature `stub` the crate can be checked and documented where its archive is not there.
 
 #![deny(unsafe_code, missing_docs)]
@@ -47,9 +49,12 @@
 mod client;
 #[cfg(feature = "std-driver")]
 pub mod driver;
+#[macro_use]
 mod errors;
+pub mod exchange;
 mod message;
 mod raw;
+mod raw_exchange;
 mod server;
 mod setting;
 
