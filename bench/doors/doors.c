@@ -62,7 +62,7 @@ static double of_store(uint16_t remembered) {
     ks_config usual = {0};
     uint64_t version;
     must(ks_server_new(&server, &usual, &seed) == KS_OK);
-    must(ks_server_set(&server, 0, path, sizeof path - 1, 0, value, sizeof value - 1, &version) == KS_DONE);
+    must(ks_server_set(&server, 0, path, sizeof path - 1, 0, value, sizeof value - 1, &version) == KS_OK);
     for (uint16_t n = 0; n < remembered; n++) store(&server, n);
     double began = now_ns();
     for (uint16_t n = 0; n < GETS; n++) store(&server, remembered + n);

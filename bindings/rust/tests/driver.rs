@@ -1,7 +1,8 @@
 //! The client that blocks and the server's loop, over sockets of 127.0.0.1.
 #![cfg(feature = "std-driver")]
 
-use knifesilver::driver::{Client, Error, OpenError, Server, Verdict};
+use knifesilver::driver::{Answerer, Client, Error, OpenError, Server, Told, Verdict};
+use knifesilver::exchange::Message;
 use knifesilver::{Applied, CallError, Code, Config, Method, NewError, Report, Request, Tag, TEXT_PLAIN};
 use std::net::{Ipv4Addr, SocketAddr, SocketAddrV4, UdpSocket};
 use std::ops::ControlFlow;
@@ -293,4 +294,35 @@ fn a_turn_with_nothing_to_do_ends_in_time() {
     assert_eq!(server.update("t", None, b"1"), Ok((1, false)));
     assert_eq!(server.get("t").map(|it| it.body), Some(b"1".to_vec()));
     assert_eq!((server.remove("t"), server.get("t")), (Ok(true), None));
+}
+
+/// A request that is deferred is told again in each turn until it is answered.
+#[test]
+fn answers_that_are_computed_later() {
+    let mut server = Answerer::open(FREE, &Config::default()).unwrap();
+    let client = UdpSocket::bind(FREE).unwrap();
+    client.set_read_timeout(Some(PATIENCE)).unwrap();
+    client.send_to(b"\x41\x05\x00\x07\x09\xff2", server.address()).unwrap();
+    let (mut told, mut body) = (Vec::new(), Vec::new());
+    while !told.ends_with(&["answered"]) {
+        server.turn(OFTEN, |end, what| match what {
+            Told::Request(request) => {
+                body = request.payload().to_vec();
+                end.defer(Instant::now(), &request.asked(), Duration::ZERO).unwrap();
+                told.push("deferred");
+            }
+            Told::Ready(_) if told.len() < 4 => told.push("ready"),
+            Told::Ready(asked) => {
+                end.respond(&asked, &Message::new(Code::CONTENT).with_payload(body.as_slice())).unwrap();
+                told.push("answered");
+            }
+        });
+    }
+    assert_eq!(told, ["deferred", "ready", "ready", "ready", "answered"]);
+    let mut bytes = [0; 64];
+    assert_eq!(client.recv(&mut bytes).unwrap(), 4);
+    assert_eq!(&bytes[..4], b"\x60\x00\x00\x07");
+    let len = client.recv(&mut bytes).unwrap();
+    assert_eq!((&bytes[..2], &bytes[4..len]), (&b"\x41\x45"[..], &b"\x09\xff2"[..]));
+    server.turn(OFTEN, |_, what| panic!("{what:?}"));
 }
