@@ -9,11 +9,19 @@ mod lwm2m;
 mod router;
 
 use knifesilver::exchange::{Answerer, Message, OptionNumber};
-use knifesilver::{Code, Config, MAX_DATAGRAM};
+use knifesilver::{Code, Config, Kind, MAX_DATAGRAM};
 use std::net::{Ipv4Addr, SocketAddrV4};
 use std::time::{Duration, Instant};
 
 const HERE: SocketAddrV4 = SocketAddrV4::new(Ipv4Addr::new(192, 0, 2, 1), 40_001);
+/// The critical options that both know.
+const KNOWN: [OptionNumber; 5] = [
+    OptionNumber::URI_HOST,
+    OptionNumber::URI_PORT,
+    OptionNumber::URI_PATH,
+    OptionNumber::URI_QUERY,
+    OptionNumber::ACCEPT,
+];
 const CON: u8 = 0x40;
 const NON: u8 = 0x50;
 const LINKS: &str = "</sensors/1>;rt=\"temperature\";if=\"sensor\",</lamp>;rt=\"light lamp\";obs";
@@ -233,4 +241,48 @@ fn registrations() {
     for (message, wanted) in cases {
         assert_eq!(refused(message.clone(), &mut ask), wanted, "{message:?}");
     }
+}
+
+/// 100,000 requests that are some bytes off: each that is handed up has an answer, but for those that are to be ignored.
+#[test]
+fn requests_that_are_some_bytes_off() {
+    let (mut routed, mut registry) = (Routed::new(), lwm2m::Registry::default());
+    let seeds = [
+        spelled(CON, 0, &Message::get("sensors/1").with_query("unit=f").with_accept(0)),
+        spelled(NON, 0, &Message::put("lamp").with_payload("on")),
+        spelled(CON, 0, &Message::get(".well-known/core").with_query("rt=l*")),
+        spelled(CON, 0, &Message::post("rd").with_query("ep=a").with_query("lt=60").with_payload("</1/0>")),
+        spelled(CON, 0, &Message::get("lamp").with_observe(0)),
+    ];
+    let (mut seed, mut handed) = (7_u64, 0);
+    let mut draw = move |below: usize| {
+        seed ^= seed << 13;
+        seed ^= seed >> 7;
+        seed ^= seed << 17;
+        seed as usize % below
+    };
+    for number in 0..100_000_u32 {
+        let mut bytes = seeds[draw(seeds.len())].clone();
+        bytes[2..4].copy_from_slice(&(number as u16).to_be_bytes());
+        for _ in 0..=draw(3) {
+            let place = draw(bytes.len());
+            bytes[place] = draw(256) as u8;
+        }
+        // (more a second than this it could not remember)
+        routed.now += Duration::from_millis(100);
+        let Some(request) = routed.server.handle(routed.now, HERE, &bytes).unwrap() else { continue };
+        let is_known = request.unknown_critical(&KNOWN).is_none();
+        let is_answered = is_known || request.asked().kind() == Kind::Confirmable;
+        let (answer, other) = (routed.router.answer(&request), registry.answer(routed.now, &request));
+        assert_eq!((answer.is_some(), other.is_some()), (is_answered, is_answered), "{request:?}");
+        if let Some(answer) = answer {
+            routed.server.answer(&request.asked(), &answer).unwrap();
+        }
+        while sent(&mut routed.server).is_some() {}
+        handed += 1;
+    }
+    assert!(handed > 50_000, "{handed}");
+    routed.now += Duration::from_secs(300);
+    while sent(&mut routed.server).is_some() {}
+    assert_eq!(routed.ask(&Message::get("sensors/1")), (Code::CONTENT, "22.5 C".to_owned()));
 }
