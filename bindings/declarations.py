@@ -31,7 +31,7 @@ RUST_OF = {"void": "c_void", "char": "c_char", **{c: rust for c, rust, _ in PLAI
 POINTER = "*mut ()"
 POINTER_LEN = 8
 WRAPPERS = ("ks_server", "ks_client")
-EXCHANGE_WRAPPERS = ("ks_answerer",)
+EXCHANGE_WRAPPERS = ("ks_answerer", "ks_asker", "ks_fetch", "ks_upload", "ks_assembly")
 # Parameters that are lent as text, where others are bytes.
 TEXTS = {("ks_server_applied", "room"), ("ks_peek", "room")}
 

@@ -1,9 +1,10 @@
-//! The exchange door: a server whose answers the program computes (RFC 7252, section 5; RFC 7641, section 4).
+//! The exchange door: a server whose answers the program computes, and a client for any request of one datagram (RFC
+//! 7252, section 5; RFC 7641).
 //!
-//! [`crate::Server`] stores values, and calls no function of yours. Here each request is handed to the program, once as
-//! long as it is remembered, with its method, its options and its payload; the program says what is answered. What it
-//! answers is its own: entity-tags, observers, blocks and paths are kept by nobody. `docs/EMBEDDING.md` compares the two
-//! doors.
+//! [`crate::Server`] stores values, and calls no function of yours. Here each request is handed to the program, once
+//! as long as it is remembered, with its method, its options and its payload; the program says what is answered. What
+//! it answers is its own: entity-tags, observers, blocks and paths are kept by nobody. `docs/EMBEDDING.md` compares
+//! the two doors.
 //!
 //! ```
 //! use knifesilver::exchange::{Answerer, Message};
@@ -36,6 +37,8 @@
 //! The calls below are proved to meet their contracts. Nothing is proved of this module, which hands over to them.
 
 mod answerer;
+mod asker;
+pub mod blocks;
 mod errors;
 mod message;
 mod observers;
@@ -43,7 +46,8 @@ mod options;
 mod token;
 
 pub use answerer::{Answerer, Asked, Request};
-pub use errors::{AnswerError, DeferError, NotifyError, RespondError};
+pub use asker::{Answer, Asker};
+pub use errors::{AnswerError, AskError, DeferError, NotifyError, RespondError};
 pub use message::Message;
 pub use observers::{is_fresher, Observers};
 pub use options::{OptionNumber, Options};

@@ -1,5 +1,5 @@
-//! The exchange door, in made-up time: its refusals by name, 1,000 requests over a network that loses 30 % and repeats 30 %,
-//! and datagrams that are no messages.
+//! The exchange door, in made-up time: its refusals by name, 1,000 requests over a network that loses 30 % and repeats
+//! 30 %, and datagrams that are no messages.
 
 use knifesilver::exchange::*;
 use knifesilver::{Code, Config, Kind, NewError, MAX_DATAGRAM};
@@ -118,7 +118,8 @@ fn sixteen_requests_are_deferred() {
     }
 }
 
-/// Requests from one endpoint, all at once, that are sent again as RFC 7252, section 4.2, says; a server, and a network.
+/// Requests from one endpoint, all at once, that are sent again as RFC 7252, section 4.2, says; a server, and a
+/// network.
 struct Run {
     now: Instant,
     chance: Chance,
@@ -165,7 +166,8 @@ impl Run {
 
     /// Sends the requests that are due (their Message ID is their token), and what the server has to be sent.
     fn turn(&mut self) {
-        let due: Vec<u16> = self.open.iter().filter(|(_, (at, ..))| *at <= self.now).map(|(number, _)| *number).collect();
+        let due = self.open.iter().filter(|(_, (at, ..))| *at <= self.now);
+        let due: Vec<u16> = due.map(|(number, _)| *number).collect();
         for number in due {
             let (_, wait, sent) = self.open[&number];
             if sent > COPIES {
@@ -219,7 +221,8 @@ impl Run {
         self.turn();
         let arrival = self.on_its_way.keys().next().map(|(at, _)| *at);
         let again = self.open.values().map(|(at, ..)| *at).min();
-        self.now = [arrival, again, self.server.poll_timeout(self.now)].into_iter().flatten().min().expect("something is due");
+        let dues = [arrival, again, self.server.poll_timeout(self.now)];
+        self.now = dues.into_iter().flatten().min().expect("something is due");
         while let Some(first) = self.on_its_way.first_entry().filter(|first| first.key().0 <= self.now) {
             match first.remove() {
                 (true, bytes) => self.handle(&bytes),

@@ -1,13 +1,12 @@
-//! lwm2m PORT: the registration interface of a server of LwM2M, at coap://127.0.0.1:PORT/rd (OMA LwM2M 1.2, Transport
-//! Bindings, section 6.4.3), without DTLS. A device registers by `POST /rd?ep=NAME&lt=SECONDS&lwm2m=1.2&b=U` with links to
-//! its objects, and is told by Location-Path where its registration is: `POST` there updates it, and `DELETE` ends it. It ends
-//! by itself after its lifetime. `GET /rd` tells who is registered, as links (this is ours, and not of the standard).
+//! lwm2m PORT: the registration interface of a server of LwM2M (OMA LightweightM2M 1.2), at coap://127.0.0.1:PORT/rd,
+//! without DTLS. A device registers by `POST /rd?ep=NAME&lt=SECONDS&lwm2m=1.2&b=U` with links to its objects.
+//! Location-Path tells it where its registration is: `POST` there updates it, `DELETE` ends it, and it ends by itself
+//! after its lifetime. `GET /rd` tells who is registered, as links (that is ours, and not of the standard). With
+//! libcoap's client:
 //!
-//! With libcoap's client:
-//!
-//!     coap-client -m post -t 40 -e '</1/0>,</3/0>' 'coap://127.0.0.1:5683/rd?ep=node1&lt=60&lwm2m=1.2&b=U' -v 6   # 2.01 /rd/1
-//!     coap-client -m get coap://127.0.0.1:5683/rd                                    # </rd/1>;ep="node1";lt=60;v="1.2"
-//!     coap-client -m delete coap://127.0.0.1:5683/rd/1                               # 2.02
+//!     coap-client -m post -t 40 -e '</1/0>,</3/0>' 'coap://127.0.0.1:5683/rd?ep=node1&lt=60&lwm2m=1.2'
+//!     coap-client -m get coap://127.0.0.1:5683/rd                      # </rd/1>;ep="node1";lt=60;v="1.2"
+//!     coap-client -m delete coap://127.0.0.1:5683/rd/1
 
 use knifesilver::driver::{Answerer, Told};
 use knifesilver::exchange::{Message, OptionNumber, Request};
@@ -101,7 +100,8 @@ impl Registry {
 
     /// A registration takes the place of the one of the same name.
     fn register(&mut self, now: Instant, from: SocketAddrV4, request: &Message) -> Result<Message, Message> {
-        let name = request.query("ep").filter(|name| is_name(name)).ok_or(refused(Code::BAD_REQUEST, "ep is a name"))?;
+        let name =
+            request.query("ep").filter(|name| is_name(name)).ok_or(refused(Code::BAD_REQUEST, "ep is a name"))?;
         let version = request.query("lwm2m").unwrap_or(VERSIONS[0]);
         if !VERSIONS.contains(&version) {
             return Err(refused(Code::PRECONDITION_FAILED, "lwm2m is a version that is known here"));

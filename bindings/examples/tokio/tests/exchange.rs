@@ -73,7 +73,8 @@ impl Client {
         self.socket.send(&[&[kind, code.0, 0, self.id, 7], rest].concat()).await.expect("it is sent");
     }
 
-    /// The next response, which is acknowledged where it is Confirmable: whether it is, its code, and what is behind the token.
+    /// The next response, which is acknowledged where it is Confirmable: whether it is, its code, and what is behind
+    /// the token.
     async fn hear(&mut self) -> (bool, Code, Vec<u8>) {
         let mut bytes = [0; 2_048];
         loop {

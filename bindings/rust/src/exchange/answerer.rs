@@ -13,9 +13,9 @@ use std::time::{Duration, Instant};
 
 /// A server of CoAP whose answers the program computes (RFC 7252, section 5.2).
 ///
-/// [`Answerer::handle`] hands up each request once, as long as it is remembered. Answer it, or defer it, before the next
-/// call of `handle`, `handle_timeout` or `notify`: after that it can have no answer, and its copies get none. A copy of a
-/// Confirmable request gets the same answer again, byte for byte, and is not handed up.
+/// [`Answerer::handle`] hands up each request once, as long as it is remembered. Answer it, or defer it, before the
+/// next call of `handle`, `handle_timeout` or `notify`: after that it can have no answer, and its copies get none. A
+/// copy of a Confirmable request gets the same answer again, byte for byte, and is not handed up.
 ///
 /// After each call take [`Answerer::poll_transmit`] until `None`, and send what it gives at once or never.
 pub struct Answerer {
@@ -77,19 +77,20 @@ impl Answerer {
         answered(self.raw.answer(&asked.raw(), &self.room[..len]))
     }
 
-    /// Acknowledges the Confirmable request that the last `handle` told. [`Answerer::handle_timeout`] calls it ready after
-    /// that delay (in whole milliseconds), and after those that were deferred before and are ready.
+    /// Acknowledges the Confirmable request that the last `handle` told. [`Answerer::handle_timeout`] calls it ready
+    /// after that delay (in whole milliseconds), and after those that were deferred before and are ready.
     ///
-    /// So a handler has to know its delay. One that does not defers by [`Duration::ZERO`]: each `handle_timeout` calls the
-    /// request ready again until it is answered, `poll_timeout` says now, and the ready ones that were deferred after it
-    /// wait.
+    /// So a handler has to know its delay. One that does not defers by [`Duration::ZERO`]: each `handle_timeout` calls
+    /// the request ready again until it is answered, `poll_timeout` says now, and the ready ones that were deferred
+    /// after it wait.
     pub fn defer(&mut self, now: Instant, asked: &Asked, delay: Duration) -> Result<(), DeferError> {
         let ms = u64::try_from(delay.as_millis()).unwrap_or(u64::MAX);
         deferred(self.raw.defer(self.around.moment(now), &asked.raw(), ms))
     }
 
-    /// Does all that is due: retransmissions, and the calls of deferred requests. The first of these that is ready, until
-    /// the next call of `handle`, `handle_timeout` or `notify`: answer it by [`Answerer::respond`], and call this again.
+    /// Does all that is due: retransmissions, and the calls of deferred requests. The first of these that is ready,
+    /// until the next call of `handle`, `handle_timeout` or `notify`: answer it by [`Answerer::respond`], and call
+    /// this again.
     #[must_use = "a deferred request is answered now, or called again"]
     pub fn handle_timeout(&mut self, now: Instant) -> Result<Option<Asked>, OutOfMemory> {
         let (now, mut ready) = (self.around.moment(now), raw_exchange::ks_asked::default());
@@ -103,8 +104,8 @@ impl Answerer {
         }
     }
 
-    /// Sends the answer to the deferred request that the last `handle_timeout` called ready, in a Confirmable message of its
-    /// own (RFC 7252, section 5.2.2).
+    /// Sends the answer to the deferred request that the last `handle_timeout` called ready, in a Confirmable message
+    /// of its own (RFC 7252, section 5.2.2).
     pub fn respond(&mut self, asked: &Asked, message: &Message) -> Result<(), RespondError> {
         let len = message.spell(&Token::default(), &mut self.room)?;
         responded(self.raw.respond(&asked.raw(), &self.room[..len], self.around.word()))
@@ -208,8 +209,8 @@ impl Request<'_> {
         Message::read_fed(self.datagram).unwrap_or_else(|| Message::new(self.code))
     }
 
-    /// Its first critical option that is none of these. Then 4.02 is to be answered to a Confirmable request, and nothing
-    /// to another (RFC 7252, section 5.4.1).
+    /// Its first critical option that is none of these. Then 4.02 is to be answered to a Confirmable request, and
+    /// nothing to another (RFC 7252, section 5.4.1).
     pub fn unknown_critical(&self, known: &[OptionNumber]) -> Option<OptionNumber> {
         let known: Vec<u16> = known.iter().map(|number| number.0).collect();
         let mut number = 0;

@@ -48,6 +48,20 @@ errors! {
         BadResponse = "the code is not of class 2 to 5, or the message is too long",
     }
 
+    /// Why a request is not sent.
+    AskError {
+        /// An allocation was refused.
+        Memory = "out of memory",
+        /// An exchange runs: await its answer (NSTART is 1: RFC 7252, section 4.7).
+        Running = "an exchange runs",
+        /// Each token was given once.
+        TokensSpent = "the tokens are spent",
+        /// No Message ID is free (RFC 7252, section 4.4).
+        NoIds = "no Message ID is free",
+        /// The code is none of GET, POST, PUT and DELETE, or the message has over 1,152 bytes with a token of 8 bytes.
+        BadRequest = "the code is none of GET, POST, PUT and DELETE, or the message is too long",
+    }
+
     /// Why a notification is not sent.
     NotifyError {
         /// An allocation was refused.
@@ -89,6 +103,17 @@ pub(super) fn responded(answer: i32) -> Result<(), RespondError> {
     }
 }
 
+pub(super) fn asked(answer: i32) -> Result<(), AskError> {
+    match answer {
+        raw::KS_OK => Ok(()),
+        raw_exchange::KS_ASK_RUNNING => Err(AskError::Running),
+        raw_exchange::KS_ASK_TOKENS_SPENT => Err(AskError::TokensSpent),
+        raw_exchange::KS_ASK_NO_IDS => Err(AskError::NoIds),
+        raw_exchange::KS_ASK_BAD_REQUEST => Err(AskError::BadRequest),
+        _ => Err(AskError::Memory),
+    }
+}
+
 pub(super) fn notified(answer: i32) -> Result<(), NotifyError> {
     match answer {
         raw::KS_OK => Ok(()),
@@ -108,4 +133,4 @@ macro_rules! too_long {
     )*};
 }
 
-too_long!(AnswerError::BadResponse RespondError::BadResponse NotifyError::BadResponse);
+too_long!(AnswerError::BadResponse RespondError::BadResponse NotifyError::BadResponse AskError::BadRequest);

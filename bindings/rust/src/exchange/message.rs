@@ -4,7 +4,7 @@ use super::errors::MessageError;
 use super::options::{OptionNumber, Options, PAYLOAD_MARKER};
 use super::token::Token;
 use crate::message::Code;
-use crate::{raw, raw_exchange, MAX_DATAGRAM};
+use crate::{raw, raw_exchange};
 use std::fmt;
 use std::str;
 
@@ -86,8 +86,8 @@ impl Message {
         self
     }
 
-    /// The same with the segments of a path, which have `/` between them: a Uri-Path for each (RFC 7252, section 5.10.1).
-    /// No segment that is added so has a `/` in it, or is empty.
+    /// The same with the segments of a path, which have `/` between them: a Uri-Path for each (RFC 7252, section
+    /// 5.10.1). No segment that is added so has a `/` in it, or is empty.
     #[must_use]
     pub fn with_path(self, path: &str) -> Message {
         self.with_segments(OptionNumber::URI_PATH, path)
@@ -123,8 +123,8 @@ impl Message {
         self.with_number(OptionNumber::MAX_AGE, seconds)
     }
 
-    /// The same with Observe: 0 registers and 1 deregisters; of a notification, a number that rises modulo 2^24 (RFC 7641,
-    /// section 2). The bits above these 24 are left out.
+    /// The same with Observe: 0 registers and 1 deregisters; of a notification, a number that rises modulo 2^24 (RFC
+    /// 7641, section 2). The bits above these 24 are left out.
     #[must_use]
     pub fn with_observe(self, value: u32) -> Message {
         self.with_number(OptionNumber::OBSERVE, value & 0xff_ffff)
@@ -218,8 +218,8 @@ impl Message {
         Some(Message { code: Code(code), options, payload: payload.to_vec() })
     }
 
-    /// The message as the library is handed it, in the room: its length in bytes.
-    pub(super) fn spell(&self, token: &Token, room: &mut [u8; MAX_DATAGRAM]) -> Result<usize, MessageError> {
+    /// The message as the library is handed it, in a room of at least 12 bytes: its length in bytes.
+    pub(super) fn spell(&self, token: &Token, room: &mut [u8]) -> Result<usize, MessageError> {
         let (bytes, token_len) = token.parts();
         room[..HEADER_LEN].copy_from_slice(&[FIRST_BYTE | token_len, self.code.0, 0, 0]);
         room[HEADER_LEN..][..bytes.len()].copy_from_slice(&bytes);

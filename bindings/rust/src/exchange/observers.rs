@@ -11,8 +11,8 @@ const DEREGISTER: u32 = 1;
 /// Who observes one resource of a server, and which of its states each was told last (RFC 7641, section 4).
 ///
 /// Each time the resource changes, call [`Observers::changed`], and [`Observers::tell`] then and after each
-/// [`Answerer::handle`]. An observer whose last notification is not acknowledged yet is told later, by the state of then
-/// (section 4.5.2). One that is gone stays until another takes its place: the one that registered first.
+/// [`Answerer::handle`]. An observer whose last notification is not acknowledged yet is told later, by the state of
+/// then (section 4.5.2). One that is gone stays until another takes its place: the one that registered first.
 ///
 /// ```
 /// use knifesilver::exchange::{Answerer, Message, Observers};
@@ -72,8 +72,9 @@ impl Observers {
         Observers { most, state: 0, observers: Vec::new() }
     }
 
-    /// Registers or deregisters the sender of a GET or a FETCH, as its Observe says, where the answer to it is of class 2: the
-    /// answer, with the Observe of a notification where its sender observes the resource now (RFC 7641, section 4.1).
+    /// Registers or deregisters the sender of a GET or a FETCH, as its Observe says, where the answer to it is of
+    /// class 2: the answer, with the Observe of a notification where its sender observes the resource now (RFC 7641,
+    /// section 4.1).
     #[must_use = "this is the answer that is to be sent"]
     pub fn answer(&mut self, asked: &Asked, request: &Message, answer: Message) -> Message {
         let observe = request.observe().filter(|_| answer.code().class() == 2);
@@ -95,8 +96,8 @@ impl Observers {
         self.state = self.state.wrapping_add(1);
     }
 
-    /// Tells the observers that were not told of it yet the state that the resource has, as a GET would be answered. How many
-    /// are still to be told: call it again.
+    /// Tells the observers that were not told of it yet the state that the resource has, as a GET would be answered.
+    /// How many are still to be told: call it again.
     pub fn tell(&mut self, server: &mut Answerer, now: Instant, shown: &Message) -> usize {
         let (state, shown) = (self.state, shown.clone().with_observe(self.state));
         let mut waiting = 0;
@@ -125,8 +126,8 @@ impl Observers {
 const HALF_RANGE: u32 = 1 << 23;
 const REORDERING: Duration = Duration::from_secs(128);
 
-/// Whether a notification with this Observe, which came now, is fresher than the last one, whose Observe and moment these are:
-/// an older one may come later (RFC 7641, section 3.4).
+/// Whether a notification with this Observe, which came now, is fresher than the last one, whose Observe and moment
+/// these are: an older one may come later (RFC 7641, section 3.4).
 ///
 /// ```
 /// # use knifesilver::exchange::is_fresher;

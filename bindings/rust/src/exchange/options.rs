@@ -92,7 +92,8 @@ impl fmt::Debug for OptionNumber {
     }
 }
 
-/// The options of a message in rising order of their numbers; those of one number in the order in which they were added.
+/// The options of a message in rising order of their numbers; those of one number in the order in which they were
+/// added.
 ///
 /// ```
 /// # use knifesilver::exchange::{OptionNumber, Options};

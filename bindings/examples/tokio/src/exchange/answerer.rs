@@ -14,15 +14,16 @@ use std::time::{Duration, Instant};
 use tokio::net::UdpSocket;
 use tokio::sync::{mpsc, oneshot};
 
-/// How soon to look again, where the first of the deferred requests has no answer yet: no retransmission is later by more.
+/// How soon to look again, where the first of the deferred requests has no answer yet: no retransmission is later by
+/// more.
 const AGAIN: Duration = Duration::from_millis(20);
 
 /// A server whose answers an async function computes. When it is dropped, its task ends.
 ///
-/// What that function knows at once goes out in the acknowledgement. Else the request is acknowledged, and its answer goes
-/// out when it is known, and when the requests that were acknowledged before are answered: 16 at most wait so. A further
-/// one, and a Non-confirmable one whose answer isn't known at once, is answered with 5.03. A function that panics has
-/// answered with 5.00.
+/// What that function knows at once goes out in the acknowledgement. Else the request is acknowledged, and its answer
+/// goes out when it is known, and when the requests that were acknowledged before are answered: 16 at most wait so. A
+/// further one, and a Non-confirmable one whose answer isn't known at once, is answered with 5.03. A function that
+/// panics has answered with 5.00.
 pub struct Answerer {
     to: mpsc::UnboundedSender<Wish>,
     at: SocketAddr,
@@ -31,8 +32,9 @@ pub struct Answerer {
 type Wish = Box<dyn FnOnce(&mut exchange::Answerer) + Send>;
 
 impl Answerer {
-    /// A server at that address of the own host. A request with a critical option that is none of the known ones is answered
-    /// with 4.02, and ignored where it is not Confirmable (RFC 7252, section 5.4.1); the function answers all others.
+    /// A server at that address of the own host. A request with a critical option that is none of the known ones is
+    /// answered with 4.02, and ignored where it is not Confirmable (RFC 7252, section 5.4.1); the function answers all
+    /// others.
     pub async fn open<H, A>(
         at: SocketAddrV4,
         config: &Config,
@@ -57,8 +59,8 @@ impl Answerer {
         self.at
     }
 
-    /// Has the task do that with the end, as [`exchange::Observers::tell`]; what is to be sent then is. None after the end of
-    /// the task.
+    /// Has the task do that with the end, as [`exchange::Observers::tell`]; what is to be sent then is. None after the
+    /// end of the task.
     pub async fn with_end<T: Send + 'static>(
         &self,
         work: impl FnOnce(&mut exchange::Answerer) -> T + Send + 'static,
