@@ -32,6 +32,8 @@ POINTER = "*mut ()"
 POINTER_LEN = 8
 WRAPPERS = ("ks_server", "ks_client")
 EXCHANGE_WRAPPERS = ("ks_answerer", "ks_asker", "ks_fetch", "ks_upload", "ks_assembly")
+# Answers and kinds of the exchanges that refuse nothing.
+EXCHANGE_ANSWERS = ("KS_READY", "KS_JOINED", "KS_AGAIN", "KS_RESPONSE", "KS_NOTIFICATION")
 # Parameters that are lent as text, where others are bytes.
 TEXTS = {("ks_server_applied", "room"), ("ks_peek", "room")}
 
@@ -193,8 +195,15 @@ def exchange_numbers(texts):
     """Where numbers of the exchanges differ, or one is taken already."""
     ours, theirs = header_numbers(texts[EXCHANGE_HEADER])[0], header_numbers(texts[HEADER])[0]
     found = {"KS_READY": number_in(texts[EXCHANGE + "answerer/turns.rt"], "READY")}
-    for name, n in re.findall(r"^const (\w+): i32 = (\d+);", texts[EXCHANGE + "numbers.rt"], re.M):
-        found["KS_" + name] = int(n)
+    for name in ("JOINED", "AGAIN"):
+        found["KS_" + name] = number_in(texts[EXCHANGE + "blocks/fetching.rt"], name)
+    numbers = r"^(?:pub\(crate\) )?const (\w+): (?:i32|u8) = (\d+);"
+    for name, n in re.findall(numbers, texts[EXCHANGE + "numbers.rt"], re.M):
+        # (a Timeout, a Reset and NoResponse are kinds of a report)
+        if "KS_" + name not in theirs:
+            found["KS_" + name] = int(n)
+        elif theirs["KS_" + name] != int(n):
+            yield f"KS_{name} is {theirs['KS_' + name]} in the header, and {n} in the library of the exchanges"
     for name, n in re.findall(r"^pub\(crate\) const (\w+): i32 = (-?\d+);", texts[EXCHANGE + "answers.rt"], re.M):
         name = "KS_" + OTHER_NAMES.get(name, name)
         if name[3:] not in NOT_IN_C and theirs.get(name) != int(n):
@@ -207,7 +216,7 @@ def exchange_numbers(texts):
             yield f"{name} is {n} in raw_exchange.rs, and {ours.get(name)} in the header"
     taken = {n for name, n in theirs.items() if name in header_numbers(texts[HEADER])[1]}
     for name, n in ours.items():
-        if name != "KS_READY" and (n in taken or list(ours.values()).count(n) > 1):
+        if name not in EXCHANGE_ANSWERS and (n in taken or list(ours.values()).count(n) > 1):
             yield f"{name} is {n}, which another refusal is"
 
 
@@ -371,6 +380,9 @@ WRONG = (
     (EXCHANGE_HEADER, "KS_ANSWER_GIVEN = 113", "KS_ANSWER_GIVEN = 112"),
     (EXCHANGE_HEADER, "uint64_t delay_ms);", "uint32_t delay_ms);"),
     (EXCHANGE + "crossing.rt", "pub id: u16,", "pub id: u32,"),
+    (EXCHANGE_HEADER, "KS_ASK_NO_IDS = 122", "KS_ASK_NO_IDS = 116"),
+    (EXCHANGE_HEADER, "#define KS_JOINED 3", "#define KS_JOINED 1"),
+    (EXCHANGE + "numbers.rt", "TIMEOUT: u8 = 8", "TIMEOUT: u8 = 9"),
     (RAW, "KS_FAULT_SHORT: i32 = 81", "KS_FAULT_SHORT: i32 = 1"),
     (RAW, "pub body_limit: u32,", "pub body_limit: u64,"),
     (RAW_EXCHANGE, "KS_ANSWER_GIVEN: i32 = 113", "KS_ANSWER_GIVEN: i32 = 112"),

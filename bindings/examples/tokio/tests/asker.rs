@@ -97,7 +97,8 @@ async fn an_observation() {
     }
     // One that has no observers.
     let other = echo().await;
-    let mut value = client_of(&other).await.observe(Message::get("t"));
+    let client = client_of(&other).await;
+    let mut value = client.observe(Message::get("t"));
     assert_eq!(soon(value.next()).await.expect("a value").expect("a response").code(), Code::CONTENT);
     assert_eq!(soon(value.next()).await, None);
 }
