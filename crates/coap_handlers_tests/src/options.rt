@@ -65,9 +65,6 @@ fn options_are_written_in_rising_order(_: HostRuntime) -> Result<(), Fail> {
         None => return Err(Fail::new("no option")),
     }
     want(option_at(&view, 3).is_none(), "an option more")?;
-    want(
-        value_of(&view, 14) == Some([5].as_slice()),
-        "another value",
-    )?;
+    want(value_of(&view, 14) == Some([5].as_slice()), "another value")?;
     want(value_of(&view, 11).is_none(), "a value more")
 }
