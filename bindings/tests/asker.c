@@ -362,9 +362,11 @@ static int any_order(long calls) {
         draft_part(&draft, draw(8) ? CONTENT : CONTINUE, tag, draw(2) ? BLOCK1 : BLOCK2, block, draw(4) ? 16 : draw(17));
         if (draw(16) == 0) draft.len = 3;
         now += draw(500);
+        /* For a while there is nothing in the handles, and then mostly something. */
+        bool makes = n > calls / 50 && draw(50) == 0;
         switch (draw(24)) {
-        case 0: if (draw(40) == 0) answer = ks_asker_new(&asker, &there, 16, &seed); break;
-        case 1: if (draw(40) == 0) ks_asker_free(&asker); break;
+        case 0: if (makes) answer = ks_asker_new(&asker, &there, 16, &seed); break;
+        case 1: if (draw(400) == 0) ks_asker_free(&asker); break;
         case 2:
         case 3: draft.bytes[1] = (uint8_t)draw(6);
             answer = ks_asker_ask(&asker, now, draft.bytes, draft.len, draw(9), &token);
@@ -380,22 +382,27 @@ static int any_order(long calls) {
                 answer = ks_asker_feed(&asker, now, &there, reply, sizeof reply);
             }
             break;
-        case 10: if (draw(20) == 0) answer = ks_fetch_new(&fetch, 16, 64, draw(2)); break;
+        case 10: if (makes) answer = ks_fetch_new(&fetch, 16, 64, draw(2)); break;
         case 11: answer = ks_fetch_body(&fetch, room, draw(64), &len);
-            if (draw(40) == 0) ks_fetch_free(&fetch);
+            if (draw(400) == 0) ks_fetch_free(&fetch);
             break;
-        case 12: if (draw(20) == 0) answer = ks_upload_new(&upload, room, 0, 16); break;
+        case 12: if (makes) answer = ks_upload_new(&upload, room, 0, 16); break;
         case 13: answer = ks_upload_next(&upload, &block, room, draw(2), &len);
-            if (draw(40) == 0) ks_upload_free(&upload);
+            if (draw(400) == 0) ks_upload_free(&upload);
             break;
         case 14: answer = ks_upload_accepted(&upload, draft.bytes, draft.len); break;
-        case 15: if (draw(20) == 0) answer = ks_assembly_new(&assembly, 16, 64); break;
+        case 15: if (makes) answer = ks_assembly_new(&assembly, 16, 64); break;
         case 16: answer = ks_assembly_body(&assembly, room, draw(64), &len);
-            if (draw(40) == 0) ks_assembly_free(&assembly);
+            if (draw(400) == 0) ks_assembly_free(&assembly);
             break;
         case 17:
         case 18: draft.bytes[1] = (uint8_t)(1 + draw(5));
             answer = ks_assembly_take(&assembly, now, &there, draft.bytes, draft.len, &block, &body_len);
+            break;
+        case 19:
+        case 20: block = (ks_block){(uint32_t)draw(2), draw(16) != 0, 0};
+            draft_part(&draft, CONTENT, tag, BLOCK2, block, 16);
+            answer = ks_fetch_accept(&fetch, draft.bytes, draft.len, &block, &body_len);
             break;
         default: answer = ks_fetch_accept(&fetch, draft.bytes, draft.len, &block, &body_len); break;
         }
