@@ -98,7 +98,8 @@ pub fn run_with<S: Store<A>, A: Allocator + Copy>(
     events: &[Event<A>],
     config: &WorldConfig<A>,
 ) -> Result<Record<A>, RunRefusal>
-    // It is what the record of these events shows, each of which is legal.
+    // It is what the record of these events shows, each of which is legal, and memory is lacking there only where an
+    // input may take some.
     ensures record { IfOk result (λ shown. IsRunOf config.now (map event_of events.now) shown) }
     // The event is the first that is not legal, in the record of those before it.
     ensures wrong { (number : ℕ) → result ≡ Err (RunRefusal.NotLegal number)
@@ -127,7 +128,8 @@ pub fn run<A: Allocator + Copy>(
     events: &[Event<A>],
     config: &WorldConfig<A>,
 ) -> Result<Record<A>, RunRefusal>
-    // What `run` answers is what the record of these events shows, each of which is legal.
+    // What `run` answers is what the record of these events shows: each is legal, and one that takes no memory is not
+    // refused it.
     ensures record { IfOk result (λ shown. IsRunOf config.now (map event_of events.now) shown) }
     // The event that `run` names is the first that is not legal, in the record of those before it.
     ensures wrong { (number : ℕ) → result ≡ Err (RunRefusal.NotLegal number)

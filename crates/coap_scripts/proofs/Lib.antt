@@ -1,4 +1,5 @@
 pub mod Facts
 pub mod PathWords
 pub mod RunEnds
+pub mod ScriptLines
 pub mod ScriptWords

@@ -1,9 +1,19 @@
--- What a line of a script says of a request.
-use Rattle.std.specs.Prelude.{◌≢◌, [], ℕ, false, List, None}
+-- What a script says: an event a line.
+use Rattle.std.specs.Prelude.{◌≡◌, ◌≢◌, [], ◌∷◌, ◌==◌, ℕ, cond, false, List, None, Some, Ok}
+use Rattle.std.specs.List.{onto_first}
+use Rattle.hex.specs.Hex.{decode_of}
+use Rattle.coap_types.specs.declared.endpoint.Endpoint.{Endpoint}
 use Rattle.coap_types.specs.declared.request.Method.{Method}
+use Rattle.coap_types.specs.declared.request.Method.TheVariants.{Get, Post, Put, Delete}
 use Rattle.coap_client.specs.Trace.{Request}
+use Rattle.coap_record.specs.Events.{Event, What, Calls, Observes, Cancels, Forgets, Sets, Removes, TickClient}
+use Rattle.coap_record.specs.Events.{TickServer, Deliver, StrangerToClient, StrangerToServer, localhost}
+use Rattle.coap_run.specs.declared.running.event.Side.{Side}
+use Rattle.coap_run.specs.declared.running.event.Side.TheVariants.{Client, Server}
 use Rattle.coap_arguments.specs.PathText.{IsPathText}
-use Rattle.coap_scripts.specs.ScriptWords.{IsCut, IsWord}
+use Rattle.coap_scripts.specs.ScriptWords.{IsCut, IsWord, SaysNumber, kind_word, method_word, side_word}
+use Rattle.coap_scripts.specs.declared.script.words.Kind.TheVariants as kind
+use Rattle.coap_scripts.specs.declared.usual.TheConstants.{TEXT_PLAIN as text_plain}
 
 -- a path that ends the line
 abbrev pub SaysPath : List ℕ → List (List ℕ) → Type 0
@@ -26,3 +36,53 @@ plain_request method path body =
       if_none_match = false;
       accept = None;
     }
+
+-- the line begins with this word and a space, and what comes after them is such
+abbrev pub Begins : List ℕ → (List ℕ → Type 0) → List ℕ → Type 0
+Begins word Is line = (rest : List ℕ) × IsCut 32 line word rest × Is rest
+
+-- after its method a request has a path, and a body where the method has one
+abbrev pub SaysParts : Method → List (List ℕ) → List ℕ → List ℕ → Type 0
+SaysParts Get path body line = SaysPath line path × (body ≡ [])
+SaysParts Post path body line = SaysPathAndBody line path body
+SaysParts Put path body line = SaysPathAndBody line path body
+SaysParts Delete path body line = SaysPath line path × (body ≡ [])
+
+abbrev pub SaysRequest : Request → List ℕ → Type 0
+SaysRequest r line = (method : Method) × (path : List (List ℕ)) × (body : List ℕ) × (r ≡ plain_request method path body)
+    × Begins (method_word method) (SaysParts method path body) line
+
+-- the datagram of a stranger at 127.0.0.1: to which end it comes, from which port, and its bytes in hex
+abbrev pub SaysStranger : Side → Endpoint → List ℕ → List ℕ → Type 0
+SaysStranger side from bytes line = (from.ip ≡ localhost) × Begins (side_word side) (λ rest. (port : List ℕ)
+    × (digits : List ℕ) × IsCut 32 rest port digits × SaysNumber port from.port × (decode_of digits ≡ Ok bytes)) line
+
+-- what happens: its word, and what that needs
+abbrev pub SaysWhat : What → List ℕ → Type 0
+SaysWhat (Calls r) line = Begins (kind_word kind.Call) (SaysRequest r) line
+SaysWhat (Observes path) line = Begins (kind_word kind.Observe) (λ rest. SaysPath rest path) line
+SaysWhat (Cancels number) line = Begins (kind_word kind.Cancel) (λ rest. SaysNumber rest number) line
+SaysWhat (Forgets number) line = Begins (kind_word kind.Forget) (λ rest. SaysNumber rest number) line
+SaysWhat (Sets path format body) line = (format ≡ Some text_plain)
+    × Begins (kind_word kind.Set) (λ rest. SaysPathAndBody rest path body) line
+SaysWhat (Removes path) line = Begins (kind_word kind.Remove) (λ rest. SaysPath rest path) line
+SaysWhat TickClient line = Begins (kind_word kind.Tick) (λ rest. rest ≡ side_word Client) line
+SaysWhat TickServer line = Begins (kind_word kind.Tick) (λ rest. rest ≡ side_word Server) line
+SaysWhat (Deliver number) line = Begins (kind_word kind.Deliver) (λ rest. SaysNumber rest number) line
+SaysWhat (StrangerToClient from bytes) line = Begins (kind_word kind.Stranger) (SaysStranger Client from bytes) line
+SaysWhat (StrangerToServer from bytes) line = Begins (kind_word kind.Stranger) (SaysStranger Server from bytes) line
+
+-- A line says an event with word 0: its moment, a space, and what happens.
+abbrev pub SaysEvent : Event → List ℕ → Type 0
+SaysEvent e line = (e.word ≡ 0) × (moment : List ℕ) × SaysNumber moment e.at × Begins moment (SaysWhat e.what) line
+
+-- the lines of a script: a line end (10) comes after each, which the last may lack
+abbrev pub lines_of : List ℕ → List (List ℕ)
+lines_of [] = []
+lines_of (byte ∷ bytes) = cond (byte == 10) ([] ∷ lines_of bytes) (onto_first byte (lines_of bytes))
+
+-- each of these lines says the event of its place
+abbrev pub EachSays : List (List ℕ) → List Event → Type 0
+EachSays [] [] = Unit {0}
+EachSays (line ∷ lines) (e ∷ events) = SaysEvent e line × EachSays lines events
+EachSays _ _ = ⊥

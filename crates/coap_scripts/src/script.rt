@@ -2,7 +2,14 @@
 mod fields;
 mod line;
 mod refusal;
+mod words;
 
+ghost use Rattle.std.specs.Prelude.{◌≡◌, ◌⊎◌, ◌≢◌, [], IfOk, map};
+ghost use Rattle.coap_run.specs.Run.Happening.{event_of};
+ghost use Rattle.coap_scripts.specs.Script.{EachSays, lines_of};
+ghost use Rattle.coap_scripts.specs.ScriptWords.{IsCut, Lacks};
+
+use crate::script::fields::cut_at;
 use crate::script::line::event_of_line;
 use coap_run::Event;
 pub use refusal::ScriptRefusal;
@@ -11,24 +18,37 @@ use std::alloc::Allocator;
 // What ends a line.
 const LINE_END: u8 = b'\n';
 
-/// The events that the lines of a script say, in its order. Behind its last line there may be a line
+// The first line of a text that is not empty, and what comes after its line end, if it has one.
+fn first_line(text: &[u8]) -> (&[u8], &[u8])
+    ensures { IsCut LINE_END text.now result.0.now result.1.now
+        ⊎ (Lacks LINE_END text.now × (result.0.now ≡ text.now) × (result.1.now ≡ [])) }
+{
+    match cut_at(text, LINE_END) {
+        Some(parts) => parts,
+        None => (text, &[]),
+    }
+}
+
+/// The events that the lines of a script say, in its order. After its last line there may be a line
 /// end or none; the empty script has no line.
 pub fn events_of<A: Allocator + Copy>(
     alloc: A,
     script: &[u8],
-) -> Result<Vec<Event<A>, A>, ScriptRefusal> {
+) -> Result<Vec<Event<A>, A>, ScriptRefusal>
+    // A script is read as the events that its lines say, one a line, and no line is left out.
+    ensures said { IfOk result (λ events. EachSays (lines_of script.now) (map event_of events.items)) }
+{
     let mut events = Vec::new(alloc);
-    if script.is_empty() {
-        return Ok(events);
-    }
-    let lines = script.strip_suffix(b"\n").unwrap_or(script);
     let mut number: usize = 0;
-    for line in lines.split(|byte| *byte == LINE_END) {
+    let mut left = script;
+    'lines: while !left.is_empty() {
+        let (line, behind) = first_line(left);
         number = number.saturating_add(1);
         match event_of_line(alloc, line) {
             Ok(event) => events.push(event)?,
             Err(refusal) => return Err(refusal.at(number)),
         }
+        left = behind;
     }
     Ok(events)
 }

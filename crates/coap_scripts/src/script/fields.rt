@@ -18,8 +18,8 @@ const PLUS: u8 = b'+';
 // What stands between two segments of a path.
 const SLASH: u8 = b'/';
 
-// What stands before the first such byte, and what stands behind it.
-fn cut_at(text: &[u8], byte: u8) -> Option<(&[u8], &[u8])>
+/// What stands before the first such byte, and what stands after it.
+pub(super) fn cut_at(text: &[u8], byte: u8) -> Option<(&[u8], &[u8])>
     ensures cut { IfSome result (λ parts. IsCut byte text.now parts.0.now parts.1.now) }
     ensures none { IfNone result (Lacks byte text.now) }
 {

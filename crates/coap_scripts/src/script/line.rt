@@ -1,13 +1,17 @@
 //! The event that a line says.
 ghost use Rattle.std.specs.Prelude.{IfOk};
-ghost use Rattle.coap_scripts.specs.Script.{SaysPath, SaysPathAndBody};
+ghost use Rattle.coap_client.specs.Object.CallShown.{shown_request};
+ghost use Rattle.coap_run.specs.Run.Happening.{event_of, what_of};
+ghost use Rattle.coap_scripts.specs.Script.{SaysEvent, SaysParts, SaysPath, SaysPathAndBody, SaysRequest};
+ghost use Rattle.coap_scripts.specs.Script.{SaysStranger, SaysWhat};
 
 use crate::script::fields::{cut, last_word, number, path, side};
 use crate::script::refusal::LineRefusal;
+use crate::script::words::{Kind, kind_named, method_named};
 use crate::usual::{TEXT_PLAIN, plain};
 use bytes::Bytes;
 use coap_ends::CallId;
-use coap_run::{Event, What};
+use coap_run::{Event, Side, What};
 use coap_types::{Endpoint, Method, Moment, Path, Request};
 use std::alloc::Allocator;
 
@@ -16,11 +20,13 @@ const WORD: u64 = 0;
 // Where strangers are.
 const STRANGER_IP: [u8; 4] = [127, 0, 0, 1];
 
-/// The event that a line says: its moment, a word and the words behind that.
+/// The event that a line says: its moment, a word and the words after that.
 pub(super) fn event_of_line<A: Allocator + Copy>(
     alloc: A,
     line: &[u8],
-) -> Result<Event<A>, LineRefusal> {
+) -> Result<Event<A>, LineRefusal>
+    ensures { IfOk result (λ event. SaysEvent (event_of event) line.now) }
+{
     let (moment, rest) = cut(line)?;
     let at = Moment(number(moment)?);
     let what = what(alloc, rest)?;
@@ -32,40 +38,52 @@ pub(super) fn event_of_line<A: Allocator + Copy>(
 }
 
 // What happens.
-fn what<A: Allocator + Copy>(alloc: A, line: &[u8]) -> Result<What<A>, LineRefusal> {
+fn what<A: Allocator + Copy>(alloc: A, line: &[u8]) -> Result<What<A>, LineRefusal>
+    ensures { IfOk result (λ what. SaysWhat (what_of what) line.now) }
+{
     let (word, rest) = cut(line)?;
-    match word {
-        b"call" => Ok(What::Call(request(alloc, rest)?)),
-        b"observe" => Ok(What::Observe(last_path(alloc, rest)?)),
-        b"cancel" => Ok(What::Cancel(CallId(number(rest)?))),
-        b"forget" => Ok(What::Forget(CallId(number(rest)?))),
-        b"set" => {
+    match kind_named(word)? {
+        Kind::Call => Ok(What::Call(request(alloc, rest)?)),
+        Kind::Observe => Ok(What::Observe(last_path(alloc, rest)?)),
+        Kind::Cancel => Ok(What::Cancel(CallId(number(rest)?))),
+        Kind::Forget => Ok(What::Forget(CallId(number(rest)?))),
+        Kind::Set => {
             let (path, body) = path_and_body(alloc, rest)?;
             Ok(What::Set(path, Some(TEXT_PLAIN), body))
         }
-        b"remove" => Ok(What::Remove(last_path(alloc, rest)?)),
-        b"tick" => Ok(What::Tick(side(rest)?)),
-        b"deliver" => Ok(What::Deliver(number(rest)? as usize)),
-        b"stranger" => stranger(alloc, rest),
-        _ => Err(LineRefusal::Unreadable),
+        Kind::Remove => Ok(What::Remove(last_path(alloc, rest)?)),
+        Kind::Tick => Ok(What::Tick(side(rest)?)),
+        Kind::Deliver => Ok(What::Deliver(number(rest)? as usize)),
+        Kind::Stranger => {
+            let (side, from, bytes) = stranger(alloc, rest)?;
+            Ok(What::Stranger(side, from, bytes))
+        }
     }
 }
 
 // A request of a call: a method, a path, and a body where the method has one.
-fn request<A: Allocator + Copy>(alloc: A, line: &[u8]) -> Result<Request<A>, LineRefusal> {
-    let (method, rest) = cut(line)?;
+fn request<A: Allocator + Copy>(alloc: A, line: &[u8]) -> Result<Request<A>, LineRefusal>
+    ensures { IfOk result (λ request. SaysRequest (shown_request request) line.now) }
+{
+    let (word, rest) = cut(line)?;
+    let method = method_named(word)?;
+    let (path, body) = request_parts(alloc, method, rest)?;
+    Ok(plain(method, path, body))
+}
+
+// The path and the body of a request, which is empty where the method has none.
+fn request_parts<A: Allocator + Copy>(
+    alloc: A,
+    method: Method,
+    line: &[u8],
+) -> Result<(Path<A>, Bytes<A>), LineRefusal>
+    ensures { IfOk result (λ parts. SaysParts method parts.0 parts.1 line.now) }
+{
     match method {
-        b"get" => Ok(plain(Method::Get, last_path(alloc, rest)?, Bytes::new())),
-        b"delete" => Ok(plain(Method::Delete, last_path(alloc, rest)?, Bytes::new())),
-        b"put" => {
-            let (path, body) = path_and_body(alloc, rest)?;
-            Ok(plain(Method::Put, path, body))
-        }
-        b"post" => {
-            let (path, body) = path_and_body(alloc, rest)?;
-            Ok(plain(Method::Post, path, body))
-        }
-        _ => Err(LineRefusal::Unreadable),
+        Method::Get => Ok((last_path(alloc, line)?, Bytes::new())),
+        Method::Post => path_and_body(alloc, line),
+        Method::Put => path_and_body(alloc, line),
+        Method::Delete => Ok((last_path(alloc, line)?, Bytes::new())),
     }
 }
 
@@ -76,7 +94,7 @@ fn last_path<A: Allocator + Copy>(alloc: A, line: &[u8]) -> Result<Path<A>, Line
     path(alloc, last_word(line)?)
 }
 
-// A path, and the bytes behind the space after it.
+// A path, and the bytes after the space after it.
 fn path_and_body<A: Allocator + Copy>(
     alloc: A,
     line: &[u8],
@@ -92,7 +110,12 @@ fn path_and_body<A: Allocator + Copy>(
 }
 
 // A datagram of a stranger: to which end, from which port, and its bytes in hex.
-fn stranger<A: Allocator + Copy>(alloc: A, line: &[u8]) -> Result<What<A>, LineRefusal> {
+fn stranger<A: Allocator + Copy>(
+    alloc: A,
+    line: &[u8],
+) -> Result<(Side, Endpoint, Bytes<A>), LineRefusal>
+    ensures { IfOk result (λ it. SaysStranger it.0 it.1 it.2 line.now) }
+{
     let (end, rest) = cut(line)?;
     let side = side(end)?;
     let (port, bytes) = cut(rest)?;
@@ -104,5 +127,5 @@ fn stranger<A: Allocator + Copy>(alloc: A, line: &[u8]) -> Result<What<A>, LineR
         ip: STRANGER_IP,
         port,
     };
-    Ok(What::Stranger(side, from, Bytes::from_vec(bytes)?))
+    Ok((side, from, Bytes::from_vec(bytes)?))
 }
