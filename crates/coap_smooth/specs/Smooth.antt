@@ -153,7 +153,7 @@ abbrev pub NoStranger : List Turn → Type 0
 NoStranger turns = Always (λ past (turn : Turn). IsOfAnEnd turn.event.what) turns
 
 -- .. or the server sends few notifications, in EXCHANGE_LIFETIME fewer than one group of Message IDs has (where the
--- client observes nothing, they go to strangers).
+-- client observes nothing, they all go to strangers).
 abbrev pub FewNotices : Config → List Turn → Type 0
 FewNotices config turns =
     FewNotified most_that_come (lower_of config.limits config.server_szx (server_trace config (entries_of turns)))
@@ -161,10 +161,10 @@ FewNotices config turns =
 abbrev pub FewTold : Config → List Turn → Type 0
 FewTold config turns = NoStranger turns ⊎ FewNotices config turns
 
--- a smooth run without strangers
+-- a smooth run in which the client may observe, and few notifications are sent
 pub record SmoothAlone (config : Config) (turns : List Turn) : Type 0 where
   pub smooth : Smooth config turns
-  pub no_stranger : NoStranger turns
+  pub told : FewTold config turns
 
 -- nothing is observed: no observation is taken (one that is refused may stand in the run)
 

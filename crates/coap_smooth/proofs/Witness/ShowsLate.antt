@@ -111,7 +111,7 @@ was_shown =
 pub shows_late : ShowsLate
 shows_late = record {
   run = a_run turns refl refl made client.lawful server.lawful config_range in_range refl refl;
-  smooth = record { smooth = smooth; no_stranger = no_stranger turns refl };
+  smooth = record { smooth = smooth; told = inl (no_stranger turns refl) };
   alone = alone_of (client_of (entries_of turns)) refl;
   old = inr (inr (inr (inr (inr (inl (record { moment = refl; held = refl; shown = refl }))))));
   new = inr (inr (inr (inl (record { moment = refl; held = refl; shown = refl }))));

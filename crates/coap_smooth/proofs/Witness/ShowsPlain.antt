@@ -115,7 +115,7 @@ was_shown = inr (inr (inr (inr (inr (inr (inr (inr (inr (inr (inr (inr (inr (inl
 pub shown_plain : ShowsPlain
 shown_plain = record {
   run = a_run turns refl refl made client.lawful server.lawful by_non_range in_range refl refl;
-  smooth = record { smooth = smooth; no_stranger = no_stranger turns refl };
+  smooth = record { smooth = smooth; told = inl (no_stranger turns refl) };
   alone = alone_of (client_of (entries_of turns)) refl;
   short = short_of by_non t (entries_of turns) refl;
   speaks = inl (record {

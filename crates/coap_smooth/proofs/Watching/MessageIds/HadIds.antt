@@ -1,7 +1,8 @@
 -- In a smooth run a Message ID was free for the server after each event more than 1,000 ms before another, whatever is
--- observed: few messages come to the client (RFC 7252, section 4.4).
+-- observed: few notifications are sent, or few messages come to the client and there is no other (RFC 7252, section
+-- 4.4).
 use Rattle.std.proofs.Common.{◌≡◌, ℕ, ◌+◌, ◌≤◌, ◌<◌, max, List, [], ◌∷◌, ◌++◌, refl, ap, sym, subst, ◌∙◌, arith}
-use Rattle.std.proofs.Common.{append_assoc}
+use Rattle.std.proofs.Common.{append_assoc, inl, inr}
 use Rattle.coap_types.specs.Past.{Ever, Always}
 use Rattle.coap_types.proofs.Facts.Traces.{Always_back}
 use Rattle.coap_layer.specs.Channel.{Hop}
@@ -16,6 +17,9 @@ use Rattle.coap_layer.specs.declared.setup.Setup.{Setup}
 use Rattle.coap_layer.proofs.Facts.IdsApart.{ids_apart}
 use Rattle.coap_types.specs.declared.endpoint.Endpoint.{Endpoint}
 use Rattle.coap_types.specs.declared.transmission.TheConstants.{ID_REUSE_AFTER_MS as id_reuse_after}
+use Rattle.coap_exchange.specs.AnswererIds.{IdIsFree}
+use Rattle.coap_exchange.specs.AnswererLaw.{ResponseLaw}
+use Rattle.coap_exchange.specs.AnswererTrace as R
 use Rattle.coap_server.specs.Follows.Attended.{NoId}
 use Rattle.coap_server.specs.Follows.Observes.{AreObservers}
 use Rattle.coap_server.specs.Law.{own_of}
@@ -24,13 +28,15 @@ use Rattle.coap_server_laws.proofs.Facts.Laws as server_facts
 use Rattle.coap_record.specs.Events.{Config}
 use Rattle.coap_promise.specs.Hops.{hops_of, across, server_asked}
 use Rattle.coap_record.specs.Record.{Entry, OfClient, OfServer, Turn, entries_of, server_trace}
-use Rattle.coap_smooth.specs.Smooth.{max_age, most_that_come, NoStranger}
+use Rattle.coap_smooth.specs.HasIds.{HasIds}
+use Rattle.coap_smooth.specs.Smooth.{max_age, most_that_come, NoStranger, FewTold}
 use Rattle.coap_promise.proofs.Facts.Paced.ChannelAcross.{once_across as channel_across}
 use Rattle.coap_promise.proofs.Facts.Delivery.EntriesInTime.{Every, every_map}
 use Rattle.coap_promise.proofs.Facts.Delivery.HopsAreAChannel as joined
 use Rattle.coap_promise.proofs.Facts.Delivery.HopsAreEntries.{server_layer}
 use Rattle.coap_smooth.proofs.Smoothly.Arriving.AllTaken.{Beneath, Goes, goes_before, taken_here}
 use Rattle.coap_smooth.proofs.Smoothly.Arriving.FewArrive.{few_arrive}
+use Rattle.coap_smooth.proofs.Smoothly.MessageIds.IdsFree.{has_ids}
 use Rattle.coap_smooth.proofs.Smoothly.Ticks.NothingIsLeft.{ran, legal_of, record_of}
 use Rattle.coap_smooth.proofs.Smoothly.Answers.OpenTo.{front_of}
 use Rattle.coap_smooth.specs.HadIds.{HadId, HadIds}
@@ -163,10 +169,28 @@ module _ (config : Config) (laws : IdLaws) (turn : Turn) (past : List Turn) (g :
         (goes_before config last older then),
   )
 
-pub had_ids : (config : Config) → IdLaws → (turns : List Turn) → Goes config turns → NoStranger turns
+-- where there is no stranger, few messages come to the client
+had_alone : (config : Config) → IdLaws → (turns : List Turn) → Goes config turns → NoStranger turns
     → HadIds config turns
-had_ids config laws [] g none = tt
-had_ids config laws (turn ∷ past) g none = (
+had_alone config laws [] g none = tt
+had_alone config laws (turn ∷ past) g none = (
   each_turn config laws turn past g none.1 [] past refl (goes_before config turn past g),
-  had_ids config laws past (goes_before config turn past g) none.1,
+  had_alone config laws past (goes_before config turn past g) none.1,
 )
+
+-- where one is free after each event, it was
+had_all : (config : Config) (top : Turn) (turns : List Turn) → HasIds config turns → Always (HadId config top) turns
+had_all config top [] ids = tt
+had_all config top (turn ∷ past) ids =
+    (λ early now later t so_far no_id. ids.0 now later t so_far no_id, had_all config top past ids.1)
+
+had_still : (config : Config) (turns : List Turn) → HasIds config turns → HadIds config turns
+had_still config [] ids = tt
+had_still config (turn ∷ past) ids = (had_all config turn past ids.1, had_still config past ids.1)
+
+pub had_ids : (config : Config) → IdLaws
+    → ((t : List R.Call) → ResponseLaw config.server_setup t → IdIsFree config.server_setup t) → (turns : List Turn)
+    → Goes config turns → FewTold config turns → HadIds config turns
+had_ids config laws free turns g (inl none) = had_alone config laws turns g none
+had_ids config laws free turns g (inr told) =
+    had_still config turns (has_ids config (laws.observers config) free turns g told)

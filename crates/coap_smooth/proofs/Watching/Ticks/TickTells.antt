@@ -190,7 +190,7 @@ module _ (config : Config) (x : Observed) (held : Held) where
             let split_past : entries_of past ≡ (entries_of rest.after ++ g.newer) ++ OfServer g.call ∷ g.older =
             all_parts ∙ (ap (λ l. entries_of rest.after ++ l) g.split
             ∙ sym (append_assoc (entries_of rest.after) g.newer (OfServer g.call ∷ g.older))) in
-            let its = k.of_it (entries_of rest.after ++ g.newer) g.older g.call g.told split_past g.here in
+            let its = k.of_it (entries_of rest.after ++ g.newer) g.older g.call g.told split_past g.here g.to in
             let holds : holds_at config x.path g.older ≡ Some held =
             subst (λ l. holds_at config x.path l ≡ Some held) (sym f.rest)
             (holds_then g.newer f.between (OfServer g.call) f.first) in
@@ -298,7 +298,7 @@ module _ (config : Config) (x : Observed) (held : Held) where
                   con to
                   begins in
                   let n : Notice = notice_of.0 in
-                  let its = k.of_it (entries_of rest.after ++ a) b c n split_past notice_of.1 in
+                  let its = k.of_it (entries_of rest.after ++ a) b c n split_past notice_of.1 notice_of.2 in
                   let holds : holds_at config x.path b ≡ Some held =
                   subst (λ l. holds_at config x.path l ≡ Some held) (sym f.rest)
                   (holds_then a f.between (OfServer c) f.first) in

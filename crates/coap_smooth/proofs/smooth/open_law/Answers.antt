@@ -100,7 +100,7 @@ returns-clause-ids c config events turns run legal smooth told none =
     config.client_setup
     (client_of (entries_of turns)) run.client in
     has_ids config (λ t. c.server_law.ensures.observers config.limits config.server_szx t)
-    (λ t law. c.answerer_law.ensures.id_free config.server_setup t law) turns goes observed none
+    (λ t law. c.answerer_law.ensures.id_free config.server_setup t law) turns goes
     (few_told config (λ t. c.server_law.ensures.observers config.limits config.server_szx t)
     (λ t law. c.answerer_law.ensures.id_free config.server_setup t law) turns goes observed none told)
 
