@@ -1,5 +1,5 @@
 -- What is asked is what the message says.
-use Rattle.std.proofs.Common.{◌≡◌, ◌≢◌, ℕ, ℤ, ◌==◌, Bool, true, false, List, Option, Some, None, refl, sym, subst, arith}
+use Rattle.std.proofs.Common.{◌≡◌, ℕ, ℤ, ◌==◌, Bool, true, false, List, Option, Some, None, refl, sym, subst, arith}
 use Rattle.std.proofs.Common.{if◌then◌else◌}
 use Rattle.std.proofs.lemmas.Bool.Decides.{nat_tests}
 use Rattle.coap_types.specs.CoapOption.{CoapOption}
@@ -17,7 +17,8 @@ use Rattle.knifesilver_exchange.specs.declared.held.Held.TheVariants.{Answerer, 
 -- a method that a code has, has that code
 of_tests : (a b c d : Bool) (code : ℕ) (m : Method) → (a ≡ true → code ≡ 1) → (b ≡ true → code ≡ 2)
     → (c ≡ true → code ≡ 3) → (d ≡ true → code ≡ 4)
-    → (if a then Some Get else if b then Some Post else if c then Some Put else if d then Some Delete else None) ≡ Some m
+    → (if a then Some Get else if b then Some Post else if c then Some Put else if d then Some Delete else None)
+    ≡ Some m
     → (method_code m).0 ≡ code
 of_tests true b c d code m one two three four h =
     subst (λ (x : Method). (method_code x).0 ≡ code) (let e : Get ≡ m = cc in e) (sym (one refl))

@@ -1,5 +1,5 @@
 -- What a handle of a client for any request holds, and what a call of it did.
-use Rattle.std.specs.Prelude.{◌≡◌, ⊤, Option, Some, None}
+use Rattle.std.specs.Prelude.{⊤, Option, Some, None}
 use Rattle.coap_exchange.specs.AskerTrace.{Call}
 use Rattle.coap_exchange.specs.AskerLaw.{Step}
 use Rattle.knifesilver_exchange.specs.declared.crossing.KsAnswer.{KsAnswer}

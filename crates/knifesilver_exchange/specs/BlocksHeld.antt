@@ -1,5 +1,5 @@
 -- What a handle of a body in blocks holds, and what a call of it did (RFC 7959).
-use Rattle.std.specs.Prelude.{⊤, ℕ, List, Option, Some, None}
+use Rattle.std.specs.Prelude.{⊤, Option, Some, None}
 use Rattle.coap_block.specs.UploadStep.{UploadValue}
 use Rattle.knifesilver_exchange.specs.declared.held.Held.{Held}
 use Rattle.knifesilver_exchange.specs.declared.held.Held.TheVariants.{Answerer, Asker, Fetch, Upload, Assembly}

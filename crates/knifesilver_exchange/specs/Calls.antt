@@ -1,5 +1,5 @@
 -- Which call of the exchanges an export makes, by what it was handed and answered.
-use Rattle.std.specs.Prelude.{◌≡◌, ◌<◌, ◌≤◌, ◌⊎◌, ◌^◌, max, ℕ, ℤ, pos, Bool, true, false, List, length, take, Option}
+use Rattle.std.specs.Prelude.{◌≡◌, ◌<◌, ◌≤◌, ◌⊎◌, ◌^◌, max, ℕ, ℤ, pos, Bool, List, Option}
 use Rattle.std.specs.Prelude.{Some, None}
 use Rattle.coap_types.specs.declared.endpoint.Endpoint.{Endpoint}
 use Rattle.coap_codec.specs.Message.{Message, Spells}

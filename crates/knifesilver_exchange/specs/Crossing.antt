@@ -1,5 +1,5 @@
 -- What C is told of a request, and tells (RFC 7252, section 5.2).
-use Rattle.std.specs.Prelude.{◌≡◌, ◌<◌, ◌⊎◌, ℕ, length}
+use Rattle.std.specs.Prelude.{◌≡◌, ◌<◌, ◌⊎◌, length}
 use Rattle.coap_codec.specs.Message.{Message, kind_number}
 use Rattle.coap_exchange.specs.declared.answerer.Asked.{Asked}
 use Rattle.knifesilver_exchange.specs.declared.crossing.KsAsked.{KsAsked}

@@ -2,7 +2,6 @@
 use Rattle.std.specs.Prelude.{◌≡◌, ◌==◌, ℕ, None, Option, if◌then◌else◌}
 use Rattle.coap_types.specs.declared.endpoint.Endpoint.{Endpoint}
 use Rattle.coap_types.specs.declared.remembered.TheConstants.{DEFAULT_REMEMBERED as default_remembered}
-use Rattle.coap_layer.specs.declared.setup.Setup.{Setup}
 use Rattle.coap_exchange.specs.AnswererLaw.{fresh_state}
 use Rattle.coap_exchange.specs.AskerLaw as asker
 use Rattle.knifesilver_exchange.specs.declared.held.Held.{Held}

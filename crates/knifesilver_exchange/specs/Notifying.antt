@@ -1,5 +1,5 @@
 -- What notifications ask of the exchanges (RFC 7641, section 4).
-use Rattle.std.specs.Prelude.{◌≡◌, ◌⊎◌, ℕ, ℤ, pos, Bool, true, false, List, Option, Some, None}
+use Rattle.std.specs.Prelude.{◌≡◌, ℕ, ℤ, true, List}
 use Rattle.coap_types.specs.declared.endpoint.Endpoint.{Endpoint}
 use Rattle.coap_codec.specs.Message.{Message, Spells}
 use Rattle.coap_exchange.specs.AnswererLaw.{State, Step}
