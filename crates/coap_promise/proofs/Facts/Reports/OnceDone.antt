@@ -1,5 +1,5 @@
--- Where Done is reported, a request of the call was applied between call and report, by two clocks: what stands of it at
--- any time (Any) is handed on.
+-- Where Done is reported, a request of the call was applied between call and report, by two clocks: what stands of it
+-- at any time (Any) is handed on.
 use Rattle.std.proofs.Common.{◌≡◌, ◌≤◌, ℕ, true, Some, List}
 use Rattle.coap_types.specs.Past.{Sometime}
 use Rattle.coap_codec.specs.Message.{Message}
