@@ -1,6 +1,7 @@
 -- What each client of a smooth run of many is promised (RFC 7252, sections 4.2, 5.2 and 5.8).
 use Rattle.std.specs.Prelude.{◌≡◌, ℕ, List, []}
 use Rattle.coap_types.specs.declared.endpoint.Endpoint.{Endpoint}
+use Rattle.coap_smooth.specs.Current.{CurrentAlone}
 use Rattle.coap_smooth.specs.Reported.{EightAreReported}
 use Rattle.coap_smooth.specs.Smooth as W
 use Rattle.coap_smooth.specs.SmoothAnswers.{AnsweredSmoothly}
@@ -29,3 +30,11 @@ EachIsAnswered config turns = (k : Client) → IsClient config k → GoesSmoothl
 abbrev pub EachHasEight : Config → List Turn → Type 0
 EachHasEight config turns = config.delays ≡ [] → (k : Client) → IsClient config k → GoesSmoothly config k turns
     → EightAreReported (world_of config k) (view config k.at turns)
+
+-- What a client and the server see goes smoothly, and few notifications are sent in all. Then, where this client takes
+-- on one observation and nothing else, its last value is the current one (`CurrentAlone`), whoever else is there (RFC
+-- 7641, sections 1.3, 3.4 and 4.5).
+abbrev pub EachIsCurrent : Config → List Turn → Type 0
+EachIsCurrent config turns = (k : Client) → IsClient config k
+    → W.SmoothFewTold (world_of config k) (view config k.at turns)
+    → CurrentAlone (world_of config k) (view config k.at turns)

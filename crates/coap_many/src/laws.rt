@@ -17,7 +17,7 @@ ghost use Rattle.coap_many.specs.Lost.{RefusedAreLost};
 ghost use Rattle.coap_many.specs.Points.{AtMostOnePoint, HavePoints};
 ghost use Rattle.coap_many.specs.ReadsBehind.{ReadsBehind};
 ghost use Rattle.coap_many.specs.Record.{RecordOf};
-ghost use Rattle.coap_many.specs.Smooth.{AreOneClock, EachHasEight, EachIsAnswered};
+ghost use Rattle.coap_many.specs.Smooth.{AreOneClock, EachHasEight, EachIsAnswered, EachIsCurrent};
 ghost use Rattle.coap_many.specs.TwoClients.{Crosses};
 ghost use Rattle.coap_many.specs.Views.{ViewsAreRecords, ViewsAreRuns};
 ghost use Rattle.coap_many.specs.Winners.{OneCallWins, OneRequestWins, RequestsMake};
@@ -78,6 +78,10 @@ pub fn agreement_of_many()
     // section 5.2; the numbers are a profile).
     ensures eight { (c : Clocks) (config : Config) (events : List Event) (turns : List Turn)
         → RecordOf config events turns → Legal c config turns → AreOneClock config c → EachHasEight config turns }
+    // .. and the last value of an observation that a client takes on alone is the current one, in the time that
+    // `agreement` says of one client (RFC 7641, sections 1.3, 3.4 and 4.5).
+    ensures current { (c : Clocks) (config : Config) (events : List Event) (turns : List Turn)
+        → RecordOf config events turns → Legal c config turns → AreOneClock config c → EachIsCurrent config turns }
 {
     client_follows_law();
     agreement();

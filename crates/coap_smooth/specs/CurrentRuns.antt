@@ -12,7 +12,7 @@ use Rattle.coap_promise.specs.LegalRuns.{config, from_client, from_server, Runs,
 use Rattle.coap_promise.specs.LegalRuns.{plain, t, puts, empty_ack}
 use Rattle.coap_promise.specs.ObservationRuns.{observe_bytes, first_bytes, second_bytes}
 use Rattle.coap_record.specs.Record.{Turn, entries_of, client_of}
-use Rattle.coap_smooth.specs.Smooth.{SmoothAlone}
+use Rattle.coap_smooth.specs.Smooth.{SmoothFewTold}
 use Rattle.coap_promise.specs.Words.{holds_at}
 
 -- the observation of all of these runs
@@ -91,7 +91,7 @@ pub record ShowsLate : Type 0 where
   pub run : Runs config shows_late (from_client 4003 second_ack ∷ from_server 3003 client_end third_bytes ∷ from_client
       1003 empty_ack ∷ from_server 3 client_end second_bytes ∷ from_server 1 client_end first_bytes ∷ from_client 0
       observe_bytes ∷ [])
-  pub smooth : SmoothAlone config run.turns
+  pub smooth : SmoothFewTold config run.turns
   pub alone : ObservesAlone watched (client_of (entries_of run.turns))
   -- 3,999 ms after the last change the value before is the last one, and 1 ms later the new one is
   pub old : Sometime (ShowsThen 4002 (value 2 (codes "b"))) run.turns

@@ -10,7 +10,7 @@ use Rattle.coap_record.specs.LegalEvents.{event}
 use Rattle.coap_promise.specs.LegalRuns.{config, from_client, from_server, Runs, token, tag, plain, t, puts}
 use Rattle.coap_promise.specs.ObservationRuns.{observe_bytes, first_bytes}
 use Rattle.coap_record.specs.Record.{Turn, entries_of, client_of}
-use Rattle.coap_smooth.specs.Smooth.{SmoothAlone}
+use Rattle.coap_smooth.specs.Smooth.{SmoothFewTold}
 
 -- the path is plain
 abbrev pub by_non : Config
@@ -54,7 +54,7 @@ pub record SpeaksThen (at : ℕ) (past : List Turn) (turn : Turn) : Type 0 where
 pub record ShowsPlain : Type 0 where
   pub run : Runs by_non shows_plain (from_server 3 client_end plain_bytes ∷ from_server 1 client_end first_bytes ∷
       from_client 0 observe_bytes ∷ [])
-  pub smooth : SmoothAlone by_non run.turns
+  pub smooth : SmoothFewTold by_non run.turns
   pub alone : ObservesAlone watched (client_of (entries_of run.turns))
   pub short : FitsABlock by_non t (entries_of run.turns)
   pub speaks : Sometime (SpeaksThen 5003) run.turns

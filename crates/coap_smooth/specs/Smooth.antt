@@ -162,7 +162,7 @@ abbrev pub FewTold : Config → List Turn → Type 0
 FewTold config turns = NoStranger turns ⊎ FewNotices config turns
 
 -- a smooth run in which the client may observe, and few notifications are sent
-pub record SmoothAlone (config : Config) (turns : List Turn) : Type 0 where
+pub record SmoothFewTold (config : Config) (turns : List Turn) : Type 0 where
   pub smooth : Smooth config turns
   pub told : FewTold config turns
 

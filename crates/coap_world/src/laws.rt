@@ -14,7 +14,7 @@ ghost use Rattle.coap_promise.specs.NoFault.{OfRecords, NeverFaults};
 ghost use Rattle.coap_record.specs.Events.{Event};
 ghost use Rattle.coap_record.specs.Record.{Turn, RecordOf};
 ghost use Rattle.coap_smooth.specs.Reported.{EightAreReported};
-ghost use Rattle.coap_smooth.specs.Smooth.{FewTold, NoneObserved, Smooth, SmoothAlone};
+ghost use Rattle.coap_smooth.specs.Smooth.{FewTold, NoneObserved, Smooth, SmoothFewTold};
 ghost use Rattle.coap_smooth.specs.SmoothAnswers.{AnsweredSmoothly};
 
 use coap_smooth::{answered_law, open_law, reported_law, sent_law, watch_law};
@@ -51,11 +51,11 @@ pub fn agreement()
     // numbers are a profile).
     ensures eight { OfLegalRuns (λ config turns. config.delays ≡ [] → Smooth config turns → FewTold config turns
         → NoneObserved turns → EightAreReported config turns) }
-    // In a smooth run without strangers in which the client takes on one observation and nothing else, of a path whose
-    // representations fit one block, and the client's limit is at least the server's, the last value is what the path
-    // holds, once that has stood for 5,000 ms and a first value was reported 5,000 ms before, while the observation
-    // goes on (RFC 7641, sections 1.3, 3.4 and 4.5).
-    ensures current { OfLegalRuns (λ config turns. SmoothAlone config turns → CurrentAlone config turns) }
+    // In a smooth run in which no stranger sends anything, or few notifications are sent, and in which the client takes
+    // on one observation and nothing else, of a path whose representations fit one block, and the client's limit is at
+    // least the server's, the last value is what the path holds, once that has stood for 5,000 ms and a first value was
+    // reported 5,000 ms before, while the observation goes on (RFC 7641, sections 1.3, 3.4 and 4.5).
+    ensures current { OfLegalRuns (λ config turns. SmoothFewTold config turns → CurrentAlone config turns) }
 {
     open_law();
     sent_law();

@@ -91,3 +91,10 @@ returns-clause-eight c = λ clocks config events turns run legal one none k clie
     (by_one_clock (world_of config k) _ _ v.legal
     (λ n. one k.at (is_member k config.clients client) (place config k.at turns n))) none goes.smooth goes.few_told
     goes.none_observed
+
+pub returns-clause-current : goal.returns-clause-current
+returns-clause-current c = λ clocks config events turns run legal one k client goes.
+    let v = views_are_runs clocks config events turns run legal k client in
+    c.agreement.ensures.current (world_of config k) _ _ v.seen.made
+    (by_one_clock (world_of config k) _ _ v.legal
+    (λ n. one k.at (is_member k config.clients client) (place config k.at turns n))) goes

@@ -20,13 +20,13 @@ use Rattle.coap_smooth.specs.ShowsHeld.{AllShown}
 use Rattle.coap_smooth.specs.NoticesTaken.{IsForIt, NoticesAreTaken, RequestsAreOfIt}
 use Rattle.coap_smooth.specs.StillThere.{AreStillThere}
 use Rattle.coap_record.specs.Legal.{Legal}
-use Rattle.coap_smooth.specs.Smooth.{SmoothAlone}
+use Rattle.coap_smooth.specs.Smooth.{SmoothFewTold}
 
 -- a smooth run without strangers
 pub record SmoothRun (config : Config) (turns : List Turn) : Type 0 where
   pub run : RecordOf config (map (λ (t : Turn). t.event) turns) turns
   pub legal : Legal config turns
-  pub smooth : SmoothAlone config turns
+  pub smooth : SmoothFewTold config turns
 
 -- of one run, and of it before its last turn
 pub record Known (config : Config) (x : Observed) (turn : Turn) (past : List Turn) : Type 0 where
