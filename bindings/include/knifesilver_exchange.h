@@ -60,8 +60,8 @@ typedef struct {
     uint8_t token[8];
 } ks_asked;
 
-/* .. and what it asks. Its options are read from the datagram by ks_next_option; its payload is the datagram's last
- * payload_len bytes. */
+/* .. and what it asks. Its options are read from the datagram by ks_options_walk or ks_next_option; its payload is the
+ * datagram's last payload_len bytes. */
 typedef struct {
     size_t payload_len;
     ks_asked asked;
@@ -168,8 +168,8 @@ enum ks_answer_kind {
     KS_NOTIFICATION = 17        /* a response with a token that is kept (RFC 7641, section 3.2) */
 };
 
-/* The options of an answer are read from the datagram that was fed by ks_next_option; its payload is the datagram's last
- * payload_len bytes. */
+/* The options of an answer are read from the datagram that was fed, by ks_options_walk or ks_next_option; its payload is the
+ * datagram's last payload_len bytes. */
 typedef struct {
     size_t payload_len;
     uint8_t kind;               /* KS_RESPONSE, KS_NOTIFICATION, KS_TIMEOUT, KS_RESET or KS_NO_RESPONSE */
@@ -286,9 +286,58 @@ int32_t ks_assembly_body(ks_assembly *handle, void *room, size_t room_len, size_
 
 /* Tells the option at *place of a message, which is 0 at first: KS_DONE with its number and its value at the front of the
  * room, and *place behind it; KS_OK: there is none, or the datagram is no message; KS_SMALL_ROOM with *value_len. It needs no
- * server, takes no memory and changes nothing else. */
+ * server, takes no memory and changes nothing else. Each call reads the message from its first byte, and a datagram may have
+ * thousands of options: where a stranger's are all to be read, use ks_options_walk. */
 int32_t ks_next_option(const void *datagram, size_t datagram_len, size_t *place, uint16_t *number, void *room,
                        size_t room_len, size_t *value_len);
+
+/* A walk over the options of a message, in one pass, in which nothing is copied. No proof covers it; it is tested to tell what
+ * ks_next_option tells. It is of a datagram that was fed, and handed up a request or brought an answer; in any other it may
+ * end early, and never reads outside.
+ *
+ *     ks_options_walk walk = ks_options_of(datagram, len);
+ *     while (ks_options_next(&walk)) use(walk.number, walk.value, walk.value_len); */
+typedef struct {
+    const uint8_t *value;       /* of the option, value_len bytes of the datagram */
+    size_t value_len;
+    const uint8_t *at;          /* what is not read yet, left bytes */
+    size_t left;
+    uint16_t number;            /* of the option */
+} ks_options_walk;
+
+static inline ks_options_walk ks_options_of(const void *datagram, size_t len) {
+    const uint8_t *bytes = (const uint8_t *)datagram;
+    size_t head = len < 4 ? len : 4 + (size_t)(bytes[0] & 0x0f);
+    ks_options_walk walk = {bytes, 0, bytes + (head < len ? head : len), head < len ? len - head : 0, 0};
+    return walk;
+}
+
+/* A delta or a length of 4 bits, with the bytes that it may have behind them (RFC 7252, section 3.1). */
+static inline bool ks_options_extended(ks_options_walk *walk, size_t *number) {
+    size_t more = *number == 13 ? 1 : *number == 14 ? 2 : 0;
+    if (*number == 15 || more > walk->left) return false;
+    if (more == 1) *number = 13 + (size_t)walk->at[0];
+    if (more == 2) *number = 269 + ((size_t)walk->at[0] << 8) + walk->at[1];
+    walk->at += more;
+    walk->left -= more;
+    return true;
+}
+
+/* Goes on to the next option: whether there is one. */
+static inline bool ks_options_next(ks_options_walk *walk) {
+    if (walk->left == 0 || walk->at[0] == 0xff) return false;
+    size_t delta = walk->at[0] >> 4, len = walk->at[0] & 0x0f;
+    walk->at++;
+    walk->left--;
+    if (!ks_options_extended(walk, &delta) || !ks_options_extended(walk, &len)) return false;
+    if (delta > 0xffffu - walk->number || len > walk->left) return false;
+    walk->number = (uint16_t)(walk->number + delta);
+    walk->value = walk->at;
+    walk->value_len = len;
+    walk->at += len;
+    walk->left -= len;
+    return true;
+}
 
 /* Tells the first critical option of a message that is none of these: KS_DONE with its number; KS_OK: there is none, or the
  * datagram is no message. A Confirmable request with one is to be answered 4.02, and a Non-confirmable one is to be ignored

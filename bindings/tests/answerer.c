@@ -110,6 +110,45 @@ static uint64_t draw(uint64_t most) {
     return drawn % most;
 }
 
+/* Of 100,000 datagrams, most of them messages, the walk over the options tells what ks_next_option tells, and reads
+ * nothing outside of any. */
+static int walks(void) {
+    unsigned messages = 0, told = 0;
+    for (int n = 0; n < 100000; n++) {
+        uint8_t *datagram = malloc(64), value[64], path[256];
+        size_t len = 4 + draw(60), place = 0, value_len;
+        uint16_t number;
+        ks_message shown;
+        for (size_t i = 0; i < len; i++) datagram[i] = (uint8_t)(draw(3) ? draw(256) & 0x33 : draw(256));
+        datagram[0] = (uint8_t)(0x40 | draw(4));
+        datagram[1] = KS_GET;
+        datagram = realloc(datagram, len);
+        bool is_message = ks_peek(datagram, len, &shown, (char *)path, sizeof path) == KS_OK;
+        ks_options_walk walk = ks_options_of(datagram, len);
+        while (is_message && ks_next_option(datagram, len, &place, &number, value, sizeof value, &value_len) == KS_DONE) {
+            WANT(ks_options_next(&walk) && walk.number == number && walk.value_len == value_len);
+            WANT(memcmp(walk.value, value, value_len) == 0);
+            told++;
+        }
+        WANT(!is_message || !ks_options_next(&walk));
+        while (!is_message && ks_options_next(&walk)) value[0] = walk.value_len > 0 ? walk.value[walk.value_len - 1] : 0;
+        messages += is_message;
+        free(datagram);
+    }
+    WANT(messages > 10000 && told > 50000);
+    return 0;
+}
+
+/* 65,507 bytes of options, of which each has its one byte, are read in one pass. */
+static int longest(void) {
+    static uint8_t datagram[65507] = {0x40, KS_GET};
+    size_t told = 0;
+    ks_options_walk walk = ks_options_of(datagram, sizeof datagram);
+    while (ks_options_next(&walk)) told++;
+    WANT(told == sizeof datagram - 4);
+    return 0;
+}
+
 /* Calls in any order, with what was asked now, before, or never: each is answered by a number that the header has. */
 static int any_order(long calls) {
     static const int32_t answers_of[] = {KS_OK, KS_DONE, KS_READY, KS_BAD_ARGUMENT, KS_ANSWER_NOT_ASKED, KS_ANSWER_GIVEN,
@@ -158,5 +197,5 @@ static int any_order(long calls) {
 }
 
 int main(void) {
-    return answers() || deferrals() || options() || any_order(100000);
+    return answers() || deferrals() || options() || walks() || longest() || any_order(100000);
 }

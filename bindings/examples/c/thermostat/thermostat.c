@@ -123,14 +123,13 @@ struct question { bool here, fahrenheit; int observe; };
 
 static struct question read_options(const uint8_t *datagram, size_t len) {
     struct question q = {true, false, -1};
-    char value_of[KS_DATAGRAM_ROOM];
-    size_t place = 0, value_len;
-    uint16_t number;
     int segments = 0;
-    while (ks_next_option(datagram, len, &place, &number, value_of, sizeof value_of, &value_len) == KS_DONE) {
-        if (number == URI_PATH) q.here = q.here && segments++ == 0 && value_len == 6 && memcmp(value_of, "target", 6) == 0;
-        if (number == URI_QUERY) q.fahrenheit = value_len == 6 && memcmp(value_of, "unit=f", 6) == 0;
-        if (number == OBSERVE) q.observe = value_len == 0 ? 0 : value_of[value_len - 1];
+    ks_options_walk it = ks_options_of(datagram, len);
+    while (ks_options_next(&it)) {
+        bool is_target = it.value_len == 6 && memcmp(it.value, "target", 6) == 0;
+        if (it.number == URI_PATH) q.here = q.here && segments++ == 0 && is_target;
+        if (it.number == URI_QUERY) q.fahrenheit = it.value_len == 6 && memcmp(it.value, "unit=f", 6) == 0;
+        if (it.number == OBSERVE) q.observe = it.value_len == 0 ? 0 : it.value[it.value_len - 1];
     }
     q.here = q.here && segments == 1;
     return q;
