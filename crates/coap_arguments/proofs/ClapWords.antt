@@ -28,7 +28,7 @@ use Rattle.coap_arguments.specs.declared.refusals.AddressRefusal.{AddressRefusal
 use Rattle.coap_arguments.specs.declared.refusals.AddressRefusal.TheVariants.{Host, Address as Own}
 use Rattle.coap_arguments.specs.declared.refusals.NumberRefusal.{NumberRefusal}
 use Rattle.coap_arguments.specs.declared.refusals.NumberRefusal.TheVariants.{Port, Count, Limit, Remember, Format}
-use Rattle.coap_arguments.specs.declared.refusals.NumberRefusal.TheVariants.{Accept, Times, Seconds, GiveUp}
+use Rattle.coap_arguments.specs.declared.refusals.NumberRefusal.TheVariants.{Accept, Times, Seconds, GiveUp, Every}
 use Rattle.coap_arguments.specs.declared.orders.Order.{Order}
 use Rattle.coap_arguments.specs.declared.refusals.SettingRefusal.{SettingRefusal}
 use Rattle.coap_arguments.specs.declared.refusals.SettingRefusal.TheVariants as setting
@@ -36,7 +36,7 @@ use Rattle.coap_arguments.specs.declared.refusals.TagsRefusal.{TagsRefusal}
 use Rattle.coap_arguments.specs.declared.refusals.TagsRefusal.TheVariants.{Etag, IfMatch}
 use Rattle.coap_arguments.specs.declared.orders.Wrong.{Wrong}
 use Rattle.coap_arguments.specs.declared.orders.Wrong.TheVariants.{Words, Path, Number, Word, Address, Size, Tags}
-use Rattle.coap_arguments.specs.declared.orders.Wrong.TheVariants.{Setting, Body, Store, Plains}
+use Rattle.coap_arguments.specs.declared.orders.Wrong.TheVariants.{Setting, Body, Store, Plains, Ends, Together}
 use Rattle.coap_arguments.specs.declared.orders.Wrong.TheVariants.{Hex, Memory}
 use Rattle.coap_arguments.proofs.Entered.{enters}
 use Rattle.coap_arguments.proofs.GivenWords.{asks, required_word}
@@ -94,6 +94,9 @@ serves_or_asks name = bytes_eq name (codes "serve") || is_ask name
 abbrev makes_end : Text → Bool
 makes_end name = bytes_eq name (codes "pair") || serves_or_asks name
 
+abbrev reads_again : Text → Bool
+reads_again name = bytes_eq name (codes "get") || bytes_eq name (codes "observe")
+
 abbrev remembers : Text → Bool
 remembers name = bytes_eq name (codes "sim") || makes_end name
 
@@ -123,6 +126,9 @@ one_serves_or_asks name is = first_or _ name (codes "serve") _ (one_asks name) i
 
 one_makes_end : (name : Text) → makes_end name ≡ true → MakesEnd name
 one_makes_end name is = first_or _ name (codes "pair") _ (one_serves_or_asks name) is
+
+one_reads_again : (name : Text) → reads_again name ≡ true → (name ≡ codes "get") ⊎ (name ≡ codes "observe")
+one_reads_again name is = first_or _ name (codes "get") _ (is_name name (codes "observe")) is
 
 one_remembers : (name : Text) → remembers name ≡ true → (name ≡ codes "sim") ⊎ MakesEnd name
 one_remembers name is = first_or _ name (codes "sim") _ (one_makes_end name) is
@@ -241,14 +247,16 @@ takes_number words name rows e Format =
 takes_number words name rows e Accept = taken_by
     (λ n. bytes_eq n (codes "get")) (TakesNumber Accept) (codes "accept") words name rows
     (λ n is. is_name n (codes "get") is) refl e
-takes_number words name rows e Times = taken_by
-    (λ n. bytes_eq n (codes "observe")) (TakesNumber Times) (codes "count") words name rows
-    (λ n is. is_name n (codes "observe") is) refl e
+takes_number words name rows e Times =
+    taken_by reads_again (TakesNumber Times) (codes "count") words name rows one_reads_again refl e
 takes_number words name rows e Seconds = taken_by
     (λ n. bytes_eq n (codes "observe")) (TakesNumber Seconds) (codes "seconds") words name rows
     (λ n is. is_name n (codes "observe") is) refl e
 takes_number words name rows e GiveUp =
     taken_by is_ask (TakesNumber GiveUp) (codes "give-up") words name rows one_asks refl e
+takes_number words name rows e Every = taken_by
+    (λ n. bytes_eq n (codes "get")) (TakesNumber Every) (codes "every") words name rows
+    (λ n is. is_name n (codes "get") is) refl e
 
 takes_word : (words : List Text) (name : Text) (rows : List Row) → Enters words name rows
     → (all_of (codes "word") rows ≡ None) ⊎ MakesEnd name
@@ -361,6 +369,8 @@ value_wrong name rows (Setting refusal) own h = elim (own.settings refusal) [
 value_wrong name rows Body own h = absurd h
 value_wrong name rows Store own h = absurd h
 value_wrong name rows Plains own h = absurd h
+value_wrong name rows (Ends refusal) own h = absurd h
+value_wrong name rows (Together refusal) own h = absurd h
 value_wrong name rows Hex own h = absurd h
 value_wrong name rows Memory own h = tt
 
@@ -377,6 +387,8 @@ plain_wrong name rows (Setting refusal) takes h = absurd h
 plain_wrong name rows Body takes h = absurd h
 plain_wrong name rows Store takes h = absurd h
 plain_wrong name rows Plains takes h = (takes, h)
+plain_wrong name rows (Ends refusal) takes h = absurd h
+plain_wrong name rows (Together refusal) takes h = absurd h
 plain_wrong name rows Hex takes h = absurd h
 plain_wrong name rows Memory takes h = tt
 
@@ -432,6 +444,8 @@ wrong_in words name rows (Setting refusal) e h = (name, rows, e, h)
 wrong_in words name rows Body e h = (name, rows, e, h)
 wrong_in words name rows Store e h = (name, rows, e, h)
 wrong_in words name rows Plains e h = (name, rows, e, h)
+wrong_in words name rows (Ends refusal) e h = (name, rows, e, h)
+wrong_in words name rows (Together refusal) e h = (name, rows, e, h)
 wrong_in words name rows Hex e h = (name, rows, e, h)
 wrong_in words name rows Memory e h = tt
 
@@ -457,6 +471,8 @@ wrong_of_clap words faults e (Setting refusal) same h kind = absurd h
 wrong_of_clap words faults e Body same h kind = absurd h
 wrong_of_clap words faults e Store same h kind = absurd h
 wrong_of_clap words faults e Plains same h kind = absurd h
+wrong_of_clap words faults e (Ends refusal) same h kind = absurd h
+wrong_of_clap words faults e (Together refusal) same h kind = absurd h
 wrong_of_clap words faults e Hex same h kind = absurd h
 wrong_of_clap words faults e Memory same h kind = tt
 

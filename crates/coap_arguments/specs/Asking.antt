@@ -15,8 +15,11 @@ use Rattle.coap_arguments.specs.declared.orders.Content.{Content}
 use Rattle.coap_arguments.specs.declared.orders.Content.TheVariants as content
 use Rattle.coap_arguments.specs.declared.refusals.NumberRefusal.{NumberRefusal}
 use Rattle.coap_arguments.specs.declared.refusals.NumberRefusal.TheVariants.{Format, Accept, Times, Seconds, GiveUp}
+use Rattle.coap_arguments.specs.declared.refusals.NumberRefusal.TheVariants.{Every}
 use Rattle.coap_arguments.specs.declared.refusals.TagsRefusal.{TagsRefusal}
 use Rattle.coap_arguments.specs.declared.refusals.TagsRefusal.TheVariants.{Etag, IfMatch}
+use Rattle.coap_arguments.specs.declared.refusals.TogetherRefusal.{TogetherRefusal}
+use Rattle.coap_arguments.specs.declared.refusals.TogetherRefusal.TheVariants as together
 use Rattle.coap_arguments.specs.declared.orders.What.{What}
 use Rattle.coap_arguments.specs.declared.orders.What.TheVariants.{Get, Put, Post, Delete, Observe}
 use Rattle.coap_arguments.specs.declared.orders.WordChoice.TheVariants.{Random}
@@ -45,9 +48,23 @@ abbrev pub HasNoContent : List Row → Type 0
 HasNoContent values = ((first_of (codes "BODY") values ≡ None) × (first_of (codes "file") values ≡ None))
     ⊎ ((body : Text) × (name : Text) × IsValue (codes "BODY") values body × IsValue (codes "file") values name)
 
+-- ---- a body that is asked for again and again
+
+-- `--count` goes with `--every`, and `--etag` does not
+abbrev pub GoTogether : List Row → Type 0
+GoTogether values = ((first_of (codes "every") values ≡ None) × (first_of (codes "count") values ≡ None))
+    ⊎ ((every : Text) × IsValue (codes "every") values every × (first_of (codes "etag") values ≡ None))
+
+-- this is there which does not go with what else is there, or is not
+abbrev pub AreApart : TogetherRefusal → List Row → Type 0
+AreApart together.Count values = (first_of (codes "every") values ≡ None)
+    × (count : Text) × IsValue (codes "count") values count
+AreApart together.Etag values = (every : Text) × (etag : Text) × IsValue (codes "every") values every
+    × IsValue (codes "etag") values etag
+
 -- what the subcommand with these values asks for
 abbrev pub IsWhat : Text → List Row → What → Type 0
-IsWhat subcommand values Get = subcommand ≡ codes "get"
+IsWhat subcommand values Get = (subcommand ≡ codes "get") × GoTogether values
 IsWhat subcommand values (Put content) = (subcommand ≡ codes "put") × HasContent values content
 IsWhat subcommand values (Post content) = (subcommand ≡ codes "post") × HasContent values content
 IsWhat subcommand values Delete = subcommand ≡ codes "delete"
@@ -97,6 +114,7 @@ pub record HasOptions (values : List Row) (options : AskOptions) : Type 0 where
   pub etags : HasTags Etag values options.etags
   pub if_match : HasTags IfMatch values options.if_match
   pub if_none_match : HasFlag (codes "if-none-match") values options.if_none_match
+  pub every : HasOptionalNumber Every values options.every
   pub times : HasOptionalNumber Times values options.times
   pub seconds : HasOptionalNumber Seconds values options.seconds
   pub hex : HasFlag (codes "hex") values options.hex

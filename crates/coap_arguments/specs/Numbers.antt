@@ -9,7 +9,7 @@ use Rattle.coap_arguments.specs.Formats.{IsFormatName}
 use Rattle.coap_arguments.specs.declared.orders.TheConstants.{FOREVER as forever}
 use Rattle.coap_arguments.specs.declared.refusals.NumberRefusal.{NumberRefusal}
 use Rattle.coap_arguments.specs.declared.refusals.NumberRefusal.TheVariants.{Port, Count, Limit, Remember, Format}
-use Rattle.coap_arguments.specs.declared.refusals.NumberRefusal.TheVariants.{Accept, Times, Seconds, GiveUp}
+use Rattle.coap_arguments.specs.declared.refusals.NumberRefusal.TheVariants.{Accept, Times, Seconds, GiveUp, Every}
 
 -- the text says this number
 abbrev pub IsNumber : Text → ℕ → Type 0
@@ -27,6 +27,7 @@ IsWordFor Accept text n = IsFormatName text n
 IsWordFor Times text n = ⊥
 IsWordFor Seconds text n = ⊥
 IsWordFor GiveUp text n = ⊥
+IsWordFor Every text n = ⊥
 
 -- the text says this number of the argument
 abbrev pub SaysNumber : NumberRefusal → Text → ℕ → Type 0
@@ -43,6 +44,7 @@ argument_of Accept = codes "accept"
 argument_of Times = codes "count"
 argument_of Seconds = codes "seconds"
 argument_of GiveUp = codes "give-up"
+argument_of Every = codes "every"
 
 abbrev pub least_of : NumberRefusal → ℕ
 least_of Port = 0
@@ -54,6 +56,7 @@ least_of Accept = 0
 least_of Times = 0
 least_of Seconds = 0
 least_of GiveUp = 0
+least_of Every = 1
 
 abbrev pub most_of : NumberRefusal → ℕ
 most_of Port = 2 ^ 16 - 1
@@ -65,6 +68,7 @@ most_of Accept = 2 ^ 16 - 1
 most_of Times = 2 ^ 64 - 1
 most_of Seconds = 2 ^ 64 - 1
 most_of GiveUp = 2 ^ 64 - 1
+most_of Every = 2 ^ 64 - 1
 
 -- the text says a number in range
 abbrev pub IsInRange : NumberRefusal → Text → ℕ → Type 0

@@ -11,7 +11,7 @@ use Rattle.coap_arguments.specs.Texts.{texts_of}
 use Rattle.coap_arguments.specs.declared.orders.TheConstants.{MAX_PLAINS as max_plains}
 use Rattle.coap_arguments.specs.declared.orders.Wrong.{Wrong}
 use Rattle.coap_arguments.specs.declared.orders.Wrong.TheVariants.{Words, Path, Number, Word, Address, Size, Tags}
-use Rattle.coap_arguments.specs.declared.orders.Wrong.TheVariants.{Setting, Body, Store, Plains}
+use Rattle.coap_arguments.specs.declared.orders.Wrong.TheVariants.{Setting, Body, Store, Plains, Ends, Together}
 use Rattle.coap_arguments.specs.declared.orders.Wrong.TheVariants.{Hex, Memory}
 
 -- the path is one of these
@@ -58,5 +58,7 @@ IsWrongPlain values (Setting refusal) = ⊥
 IsWrongPlain values Body = ⊥
 IsWrongPlain values Store = ⊥
 IsWrongPlain values Plains = HasTooManyPlains values
+IsWrongPlain values (Ends refusal) = ⊥
+IsWrongPlain values (Together refusal) = ⊥
 IsWrongPlain values Hex = ⊥
 IsWrongPlain values Memory = ⊤

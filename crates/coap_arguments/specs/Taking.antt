@@ -12,13 +12,13 @@ use Rattle.coap_arguments.specs.declared.refusals.AddressRefusal.{AddressRefusal
 use Rattle.coap_arguments.specs.declared.refusals.AddressRefusal.TheVariants.{Host, Address as Own}
 use Rattle.coap_arguments.specs.declared.refusals.NumberRefusal.{NumberRefusal}
 use Rattle.coap_arguments.specs.declared.refusals.NumberRefusal.TheVariants.{Port, Count, Limit, Remember, Format}
-use Rattle.coap_arguments.specs.declared.refusals.NumberRefusal.TheVariants.{Accept, Times, Seconds, GiveUp}
+use Rattle.coap_arguments.specs.declared.refusals.NumberRefusal.TheVariants.{Accept, Times, Seconds, GiveUp, Every}
 use Rattle.coap_arguments.specs.declared.refusals.SettingRefusal.{SettingRefusal}
 use Rattle.coap_arguments.specs.declared.refusals.TagsRefusal.{TagsRefusal}
 use Rattle.coap_arguments.specs.declared.refusals.TagsRefusal.TheVariants.{Etag, IfMatch}
 use Rattle.coap_arguments.specs.declared.orders.Wrong.{Wrong}
 use Rattle.coap_arguments.specs.declared.orders.Wrong.TheVariants.{Words, Path, Number, Word, Address, Size, Tags}
-use Rattle.coap_arguments.specs.declared.orders.Wrong.TheVariants.{Setting, Body, Store, Plains}
+use Rattle.coap_arguments.specs.declared.orders.Wrong.TheVariants.{Setting, Body, Store, Plains, Ends, Together}
 use Rattle.coap_arguments.specs.declared.orders.Wrong.TheVariants.{Hex, Memory}
 
 -- the subcommand takes a PATH
@@ -37,9 +37,10 @@ TakesNumber Limit subcommand = MakesEnd subcommand
 TakesNumber Remember subcommand = (subcommand ≡ codes "sim") ⊎ MakesEnd subcommand
 TakesNumber Format subcommand = SendsBody subcommand
 TakesNumber Accept subcommand = subcommand ≡ codes "get"
-TakesNumber Times subcommand = subcommand ≡ codes "observe"
+TakesNumber Times subcommand = (subcommand ≡ codes "get") ⊎ (subcommand ≡ codes "observe")
 TakesNumber Seconds subcommand = subcommand ≡ codes "observe"
 TakesNumber GiveUp subcommand = IsAsk subcommand
+TakesNumber Every subcommand = subcommand ≡ codes "get"
 
 -- the subcommand takes this argument, an address
 abbrev pub TakesAddress : AddressRefusal → Text → Type 0
@@ -80,6 +81,8 @@ IsWrongOption values (Setting refusal) = HasNoSetting refusal values
 IsWrongOption values Body = ⊥
 IsWrongOption values Store = ⊥
 IsWrongOption values Plains = ⊥
+IsWrongOption values (Ends refusal) = ⊥
+IsWrongOption values (Together refusal) = ⊥
 IsWrongOption values Hex = ⊥
 IsWrongOption values Memory = ⊤
 

@@ -6,8 +6,10 @@ use Rattle.coap_types.specs.Path.{HoldsAtMost}
 use Rattle.coap_types.specs.declared.path.TheConstants.{MAX_SEGMENT_LEN as max_segment_len}
 use Rattle.coap_types.specs.declared.path.TheConstants.{MAX_SEGMENTS as max_segments}
 use Rattle.coap_arguments.specs.Addresses.{HasNoAddress}
-use Rattle.coap_arguments.specs.Asking.{HasFlag, HasNoContent, HasNoTags, HasOptions, IsAsk, IsWhat, SendsBody}
+use Rattle.coap_arguments.specs.Asking.{AreApart, HasFlag, HasNoContent, HasNoTags, HasOptions, IsAsk, IsWhat}
+use Rattle.coap_arguments.specs.Asking.{SendsBody}
 use Rattle.coap_arguments.specs.CommandLine.{coap_app}
+use Rattle.coap_arguments.specs.Ends.{AreNoEnds, HasEnds}
 use Rattle.coap_arguments.specs.Plains.{HasNoPlain, HasPlains, HasTooManyPlains}
 use Rattle.coap_arguments.specs.Serving.{HasNoSetting, HasServeOptions, serving_word}
 use Rattle.coap_arguments.specs.Sizes.{HasNoSize}
@@ -22,7 +24,7 @@ use Rattle.coap_arguments.specs.declared.orders.TheConstants.{DEFAULT_WORD as de
 use Rattle.coap_arguments.specs.declared.orders.WordChoice.TheVariants.{Given}
 use Rattle.coap_arguments.specs.declared.orders.Wrong.{Wrong}
 use Rattle.coap_arguments.specs.declared.orders.Wrong.TheVariants.{Words, Path, Number, Word, Address, Size, Tags}
-use Rattle.coap_arguments.specs.declared.orders.Wrong.TheVariants.{Setting, Body, Store, Plains}
+use Rattle.coap_arguments.specs.declared.orders.Wrong.TheVariants.{Setting, Body, Store, Plains, Ends, Together}
 use Rattle.coap_arguments.specs.declared.orders.Wrong.TheVariants.{Hex, Memory}
 
 -- the subcommand with these values says this order
@@ -42,9 +44,10 @@ AsksForIn subcommand values (Serve port count options) =
 AsksForIn subcommand values (Ask port path what options) =
     IsWhat subcommand values what × HasNumber Port values port × HasPath values path
     × HoldsAtMost max_segments max_segment_len path × HasOptions values options
-AsksForIn subcommand values (Sim file store plains remembered chart) =
+AsksForIn subcommand values (Sim file store plains remembered chart client server) =
     (subcommand ≡ codes "sim") × IsValue (codes "FILE") values file.now × HasStore values store
     × HasPlains values plains.items × HasRemembered values remembered × HasFlag (codes "chart") values chart
+    × HasEnds values client server
 
 -- the words say this order
 abbrev pub AsksFor : List Text → Order → Type 0
@@ -85,6 +88,10 @@ IsWrongIn subcommand values Body = SendsBody subcommand × HasNoContent values
 IsWrongIn subcommand values Store = (subcommand ≡ codes "sim") × HasNoStore values
 -- `--plain` names more paths than a server takes
 IsWrongIn subcommand values Plains = TakesPlains subcommand × HasTooManyPlains values
+-- the ends of the run have no place to stand at, or one for both
+IsWrongIn subcommand values (Ends refusal) = (subcommand ≡ codes "sim") × AreNoEnds refusal values
+-- `--count` of a body that is read once, or `--etag` of one that is read again and again
+IsWrongIn subcommand values (Together refusal) = (subcommand ≡ codes "get") × AreApart refusal values
 -- a PATH is a text of a path, and HEX is the hex of no list of bytes
 IsWrongIn subcommand values Hex = IsPathFine subcommand values × HasNoBytes values
 IsWrongIn subcommand values Memory = ⊤
@@ -107,5 +114,7 @@ IsWrong words (Setting refusal) = EntersWrong words (Setting refusal)
 IsWrong words Body = EntersWrong words Body
 IsWrong words Store = EntersWrong words Store
 IsWrong words Plains = EntersWrong words Plains
+IsWrong words (Ends refusal) = EntersWrong words (Ends refusal)
+IsWrong words (Together refusal) = EntersWrong words (Together refusal)
 IsWrong words Hex = EntersWrong words Hex
 IsWrong words Memory = ⊤

@@ -12,6 +12,7 @@ ghost use Rattle.coap_arguments.specs.Taking.{IsWrongOption};
 use crate::formats::format_in;
 use crate::orders::{AskOptions, Content, WordChoice, Wrong};
 use crate::refusals::{AddressRefusal, NumberRefusal, TagsRefusal};
+use crate::repeating::every_of;
 use crate::sizes::size_of;
 use crate::words::{limit, number, optional, remembered, word};
 use clap::ArgMatches;
@@ -51,6 +52,7 @@ pub(crate) fn options_of(alloc: Global, given: &ArgMatches<'_>) -> Result<AskOpt
     let etags = tags_of(alloc, given, TagsRefusal::Etag)?;
     let if_match = tags_of(alloc, given, TagsRefusal::IfMatch)?;
     let if_none_match = is_set(given, "if-none-match");
+    let every = every_of(given)?;
     let times = number_of(given, NumberRefusal::Times)?;
     let seconds = number_of(given, NumberRefusal::Seconds)?;
     let hex = is_set(given, "hex");
@@ -73,6 +75,7 @@ pub(crate) fn options_of(alloc: Global, given: &ArgMatches<'_>) -> Result<AskOpt
         etags,
         if_match,
         if_none_match,
+        every,
         times,
         seconds,
         hex,

@@ -5,12 +5,14 @@
 mod arguments;
 mod asking;
 mod command_line;
+mod ends;
 mod formats;
 mod orders;
 mod path_text;
 mod plains;
 mod put_away;
 mod refusals;
+mod repeating;
 mod serving;
 mod sizes;
 mod tables;
@@ -22,5 +24,7 @@ pub use orders::{
     ServeOptions, StoreKind, What, WordChoice, Wrong,
 };
 pub use path_text::path_of_text;
-pub use refusals::{AddressRefusal, NumberRefusal, SettingRefusal, TagsRefusal};
+pub use refusals::{
+    AddressRefusal, EndsRefusal, NumberRefusal, SettingRefusal, TagsRefusal, TogetherRefusal,
+};
 pub use words::order;

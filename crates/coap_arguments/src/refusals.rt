@@ -37,6 +37,9 @@ pub enum NumberRefusal {
     /// After how many seconds a client gives up.
     #[error("--give-up is no number from 0 to 18446744073709551615")]
     GiveUp,
+    /// After how many seconds a body is asked for again.
+    #[error("--every is no number from 1 to 18446744073709551615")]
+    Every,
 }
 
 impl NumberRefusal {
@@ -54,6 +57,7 @@ impl NumberRefusal {
             NumberRefusal::Times => "count",
             NumberRefusal::Seconds => "seconds",
             NumberRefusal::GiveUp => "give-up",
+            NumberRefusal::Every => "every",
         }
     }
 }
@@ -125,4 +129,29 @@ impl SettingRefusal {
             SettingRefusal::Delay => "delay",
         }
     }
+}
+
+/// Why the ends of a run can't stand where the words say.
+#[derive(Clone, Copy, Debug, PartialEq, Eq, Error)]
+pub enum EndsRefusal {
+    /// That of the client is no address with a port.
+    #[error("--client is no IPv4 address with a port, as 127.0.0.1:40001; a name is none")]
+    Client,
+    /// That of the server is none.
+    #[error("--server is no IPv4 address with a port, as 127.0.0.1:5683; a name is none")]
+    Server,
+    /// Both are one.
+    #[error("--client and --server are one; left out, these are 127.0.0.1:40001 and 127.0.0.1:5683")]
+    Same,
+}
+
+/// Which options of `get` don't go together.
+#[derive(Clone, Copy, Debug, PartialEq, Eq, Error)]
+pub enum TogetherRefusal {
+    /// A number of readings, where there is one reading.
+    #[error("error: unexpected argument '--count' found\n\n  tip: get takes --count where it takes --every")]
+    Count,
+    /// Readings again and again, and a body that is there already.
+    #[error("--etag does not go with --every")]
+    Etag,
 }

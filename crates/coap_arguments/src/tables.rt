@@ -109,6 +109,22 @@ const TIMES: Argument = Argument {
            A signal that ends it sends no cancel: the server goes on until a notification is not acknowledged",
 };
 
+// --count of readings.
+const READINGS: Argument = Argument {
+    form: Form::Single { value_name: "N" },
+    name: "count",
+    help: "with --every, ends after this many readings",
+};
+
+const EVERY: Argument = Argument {
+    form: Form::Single {
+        value_name: "SECONDS",
+    },
+    name: "every",
+    help: "reads again after so many seconds, at least 1, and so on and on, a line each; one that fails is told on \
+        standard error. Not with --etag",
+};
+
 const SECONDS: Argument = Argument {
     form: Form::Single { value_name: "N" },
     name: "seconds",
@@ -254,6 +270,24 @@ const CHART: Argument = Argument {
            thing that happens, as in: coap sim examples/get.sim --chart",
 };
 
+// --client of a run.
+const CLIENT_END: Argument = Argument {
+    form: Form::Single {
+        value_name: "A.B.C.D:PORT",
+    },
+    name: "client",
+    help: "where the client of the script stands, 127.0.0.1:40001 where it is left out",
+};
+
+// --server of a run.
+const SERVER_END: Argument = Argument {
+    form: Form::Single {
+        value_name: "A.B.C.D:PORT",
+    },
+    name: "server",
+    help: "where the server of the script stands, 127.0.0.1:5683 where it is left out; not where the client does",
+};
+
 const PLAIN: Argument = Argument {
     form: Form::Repeated { value_name: "PATH" },
     name: "plain",
@@ -306,7 +340,7 @@ pub(crate) static OTHERS: [Subcommand; 6] = [
         name: "sim",
         about: "Runs a script over a client and a server, and prints what comes of it",
         example: "Example: coap sim examples/get.sim --chart",
-        arguments: &[FILE, STORE, PLAIN, REMEMBER, CHART],
+        arguments: &[FILE, STORE, PLAIN, REMEMBER, CHART, CLIENT_END, SERVER_END],
     },
 ];
 
@@ -321,6 +355,8 @@ pub(crate) static ASKING: [Subcommand; 5] = [
             PATH,
             ACCEPT,
             ETAG,
+            EVERY,
+            READINGS,
             HOST,
             SIZE,
             TRACE,

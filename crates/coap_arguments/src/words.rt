@@ -15,10 +15,12 @@ ghost use Rattle.coap_arguments.specs.declared.orders.WordChoice.{WordChoice as 
 
 use crate::asking::{content_of, is_set, options_of};
 use crate::command_line::coap_command;
+use crate::ends::ends_of;
 use crate::orders::{DEFAULT_WORD, FOREVER, Order, StoreKind, What, WordChoice, Wrong};
 use crate::path_text::path_of_text;
 use crate::plains::plains_of;
 use crate::refusals::NumberRefusal;
+use crate::repeating::apart;
 use crate::serving::{serve_options_of, serving_word};
 use clap::ArgMatches;
 use coap_types::{BodyLimit, Remembered};
@@ -37,9 +39,10 @@ pub fn order<'a>(alloc: Global, words: &'a [String]) -> Result<Order<'a>, Wrong>
     // is no size of a block. `Tags`: clap takes them, and an argument is no entity-tag, or given more than four times.
     // `Setting`: clap takes them, and a value of `--hold` or `--delay` says nothing, or `--delay` is given more than 16
     // times. `Body`: clap takes them, and both of BODY and `--file` are there, or neither. `Store`: clap takes them,
-    // and `--store` names no store. `Plains`: clap takes them, and `--plain` names more than 16 paths. `Hex`: clap
-    // takes them, PATH is a path where there is one, and HEX is the hex of no bytes. `Memory` says nothing of the
-    // words.
+    // and `--store` names no store. `Plains`: clap takes them, and `--plain` names more than 16 paths. `Ends`: clap
+    // takes them, and `--client` or `--server` is no address of IPv4 with a port, or they are one. `Together`: clap
+    // takes them, and `get` has `--count` without `--every`, or both of `--every` and `--etag`. `Hex`: clap takes
+    // them, PATH is a path where there is one, and HEX is the hex of no bytes. `Memory` says nothing of the words.
     ensures wrong { IfErr result (IsWrong (map string_bytes words.now)) }
 {
     let matches = coap_command(alloc)?.try_get_matches_from(words)?;
@@ -170,7 +173,10 @@ fn what_of<'a>(subcommand: &str, given: &ArgMatches<'a>) -> Result<What<'a>, Wro
         (IsWrongIn subcommand.now (rows_of (found_of given.now))) }
 {
     match subcommand {
-        "get" => Ok(What::Get),
+        "get" => match apart(given) {
+            Some(refusal) => Err(Wrong::Together(refusal)),
+            None => Ok(What::Get),
+        },
         "put" => match content_of(given) {
             Some(content) => Ok(What::Put(content)),
             None => Err(Wrong::Body),
@@ -199,6 +205,10 @@ fn sim_order<'a>(alloc: Global, given: &ArgMatches<'a>) -> Result<Order<'a>, Wro
     };
     let plains = plains_of(alloc, given)?;
     let chart = is_set(given, "chart");
+    let (client, server) = match ends_of(given) {
+        Ok(ends) => ends,
+        Err(refusal) => return Err(Wrong::Ends(refusal)),
+    };
     let file = value(given, "FILE");
     Ok(Order::Sim {
         file,
@@ -206,6 +216,8 @@ fn sim_order<'a>(alloc: Global, given: &ArgMatches<'a>) -> Result<Order<'a>, Wro
         plains,
         remembered,
         chart,
+        client,
+        server,
     })
 }
 
