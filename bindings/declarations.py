@@ -1,4 +1,4 @@
-"""What crosses to C and to Rust is written in three places: the library's source, the C header, the Rust crate's raw.rs.
+"""What crosses to C and to Rust stands in three places: the library's source, the C header, the Rust crate's raw.rs.
 
 `differences` compares its calls with their parameters, its structs with the order of their fields, and its numbers.
 `sizes` writes assertions of sizes and offsets for both compilers. `unnoticed` tries the comparison with wrong
@@ -12,6 +12,7 @@ TOP = HERE.parent
 HEADER = "bindings/include/knifesilver.h"
 NAMES = "bindings/include/ks_names.h"
 RAW = "bindings/rust/src/raw.rs"
+RAW_EXCHANGE = "bindings/rust/src/raw_exchange.rs"
 LIBRARY = "crates/knifesilver/src/"
 TYPES = "crates/coap_types/src/"
 CODEC = "crates/coap_codec/src/"
@@ -30,13 +31,16 @@ RUST_OF = {"void": "c_void", "char": "c_char", **{c: rust for c, rust, _ in PLAI
 POINTER = "*mut ()"
 POINTER_LEN = 8
 WRAPPERS = ("ks_server", "ks_client")
+EXCHANGE_WRAPPERS = ("ks_answerer", "ks_asker", "ks_fetch", "ks_upload", "ks_assembly")
+# Answers and kinds of the exchanges that refuse nothing.
+EXCHANGE_ANSWERS = ("KS_READY", "KS_JOINED", "KS_AGAIN", "KS_RESPONSE", "KS_NOTIFICATION")
 # Parameters that are lent as text, where others are bytes.
 TEXTS = {("ks_server_applied", "room"), ("ks_peek", "room")}
 
 
 def read_all():
     """The texts that are compared, by file."""
-    files = [HEADER, EXCHANGE_HEADER, NAMES, RAW]
+    files = [HEADER, EXCHANGE_HEADER, NAMES, RAW, RAW_EXCHANGE]
     for folder in (LIBRARY, EXCHANGE, TYPES, CODEC):
         files += sorted(str(file.relative_to(TOP)) for file in (TOP / folder).glob("**/*.rt"))
     return {file: (TOP / file).read_text() for file in files}
@@ -132,8 +136,8 @@ def in_rust(kind):
     return RUST_OF[kind]
 
 
-def raw(texts):
-    text = uncommented(texts[RAW])
+def raw(texts, file=RAW):
+    text = uncommented(texts[file])
     calls, structs = {}, {}
     for call, params, result in re.findall(r"^    fn (ks_\w+)\((.*?)\)(?: -> (\w+))?;", text, re.M):
         calls[call] = (result or None, [tuple(it.split(": ")[::-1]) for it in params.split(", ") if it])
@@ -160,29 +164,46 @@ def compared(texts):
         yield name, (c_structs.get(name), r_structs.get(name)), (["ks_handle handle"], [("handle", "ks_handle")])
 
 
-def compared_exchange(texts):
-    """The same of the exchanges, which have no Rust crate yet; some of their structs stand in the other header."""
-    (calls, structs), (c_calls, c_structs) = exports(texts, EXCHANGE), header(texts, EXCHANGE_HEADER)
-    others = header(texts)[1]
-    # (the other header has a ks_request already)
+def exchange_exports(texts):
+    """The exports of the exchanges and their structs, by their names in C (the other header has a ks_request)."""
+    calls, structs = exports(texts, EXCHANGE)
     calls = {call: (result, [(kind.replace("ks_request *", "ks_request_told *"), name) for kind, name in params])
              for call, (result, params) in calls.items()}
-    structs = {"ks_request_told" if name == "ks_request" else name: fields for name, fields in structs.items()}
+    return calls, {"ks_request_told" if name == "ks_request" else name: fields for name, fields in structs.items()}
+
+
+def compared_exchange(texts):
+    """The same of the exchanges, some of whose structs stand in the other header and in raw.rs."""
+    (calls, structs), (c_calls, c_structs) = exchange_exports(texts), header(texts, EXCHANGE_HEADER)
+    r_calls, r_structs = raw(texts, RAW_EXCHANGE)
+    others, r_others = header(texts)[1], raw(texts)[1]
     yield "calls of the header of the exchanges", sorted(c_calls), sorted(calls)
+    yield "calls of raw_exchange.rs", sorted(r_calls), sorted(calls)
     for call, (result, params) in calls.items():
         yield f"{call} in the header", c_calls.get(call), (result, params)
+        rust = (None if result == "void" else RUST_OF[result], [(in_rust(kind), name) for kind, name in params])
+        yield f"{call} in raw_exchange.rs", r_calls.get(call), rust
     for name, fields in structs.items():
-        shown = c_structs.get(name) or others.get(name)
+        shown, r_shown = c_structs.get(name) or others.get(name), r_structs.get(name) or r_others.get(name)
         yield f"{name} in the header", shown, [c_field(field, kind) for field, kind in fields]
-    yield "ks_answerer", c_structs.get("ks_answerer"), ["ks_handle handle"]
+        yield f"{name} in raw_exchange.rs", r_shown, [(field, rust_field(kind)) for field, kind in fields]
+    for name in EXCHANGE_WRAPPERS:
+        yield name, (c_structs.get(name), r_structs.get(name)), (["ks_handle handle"], [("handle", "ks_handle")])
 
 
 def exchange_numbers(texts):
     """Where numbers of the exchanges differ, or one is taken already."""
     ours, theirs = header_numbers(texts[EXCHANGE_HEADER])[0], header_numbers(texts[HEADER])[0]
     found = {"KS_READY": number_in(texts[EXCHANGE + "answerer/turns.rt"], "READY")}
-    for name, n in re.findall(r"^const (\w+): i32 = (\d+);", texts[EXCHANGE + "numbers.rt"], re.M):
-        found["KS_" + name] = int(n)
+    for name in ("JOINED", "AGAIN"):
+        found["KS_" + name] = number_in(texts[EXCHANGE + "blocks/fetching.rt"], name)
+    numbers = r"^(?:pub\(crate\) )?const (\w+): (?:i32|u8) = (\d+);"
+    for name, n in re.findall(numbers, texts[EXCHANGE + "numbers.rt"], re.M):
+        # (a Timeout, a Reset and NoResponse are kinds of a report)
+        if "KS_" + name not in theirs:
+            found["KS_" + name] = int(n)
+        elif theirs["KS_" + name] != int(n):
+            yield f"KS_{name} is {theirs['KS_' + name]} in the header, and {n} in the library of the exchanges"
     for name, n in re.findall(r"^pub\(crate\) const (\w+): i32 = (-?\d+);", texts[EXCHANGE + "answers.rt"], re.M):
         name = "KS_" + OTHER_NAMES.get(name, name)
         if name[3:] not in NOT_IN_C and theirs.get(name) != int(n):
@@ -190,9 +211,12 @@ def exchange_numbers(texts):
     for name in sorted(ours.keys() | found.keys()):
         if ours.get(name) != found.get(name):
             yield f"{name} is {ours.get(name)} in the header, and {found.get(name)} in the library of the exchanges"
+    for name, n in raw_numbers(texts, RAW_EXCHANGE):
+        if ours.get(name) != n:
+            yield f"{name} is {n} in raw_exchange.rs, and {ours.get(name)} in the header"
     taken = {n for name, n in theirs.items() if name in header_numbers(texts[HEADER])[1]}
     for name, n in ours.items():
-        if name != "KS_READY" and (n in taken or list(ours.values()).count(n) > 1):
+        if name not in EXCHANGE_ANSWERS and (n in taken or list(ours.values()).count(n) > 1):
             yield f"{name} is {n}, which another refusal is"
 
 
@@ -216,6 +240,11 @@ def header_numbers(text):
     for name, n in re.findall(r"#define (KS_\w+) \(?(-?\d+)u?\)?", text):
         numbers[name] = int(n)
     return numbers, refusals
+
+
+def raw_numbers(texts, file):
+    """The numbers of a file of the Rust crate, by their names."""
+    return [(name, int(n)) for name, n in re.findall(r"^pub const (KS_\w+): \w+ = (-?\d+);", texts[file], re.M)]
 
 
 def number_in(text, name):
@@ -256,8 +285,8 @@ def number_faults(texts):
     for name in sorted(numbers.keys() | wanted.keys()):
         if numbers.get(name) != wanted.get(name):
             yield f"{name} is {numbers.get(name)} in the header, and {wanted.get(name)} in the library"
-    for name, n in re.findall(r"^pub const (KS_\w+): \w+ = (-?\d+);", texts[RAW], re.M):
-        if numbers.get(name) != int(n):
+    for name, n in raw_numbers(texts, RAW):
+        if numbers.get(name) != n:
             yield f"{name} is {n} in raw.rs, and {numbers.get(name)} in the header"
     # (a header without proofs has refusals of its own)
     more, more_refusals = header_numbers(texts[NAMES])
@@ -309,23 +338,28 @@ def placed(structs, fields):
 def sizes(texts):
     """Assertions, in C and in Rust, that each struct has the size of the library's, and each field its place."""
     structs, in_c, in_rust_ = exports(texts)[1], [], []
+    more = {name: fields for name, fields in exchange_exports(texts)[1].items() if name not in structs}
+    structs = {**structs, **more}
     for name, fields in structs.items():
+        file = "raw_exchange" if name in more else "raw"
         places, size, align = placed(structs, fields)
         in_c.append((f"sizeof ({name}) == {size}", f"_Alignof ({name}) == {align}"))
-        in_rust_.append((f"size_of::<raw::{name}>() == {size}", f"align_of::<raw::{name}>() == {align}"))
+        in_rust_.append((f"size_of::<{file}::{name}>() == {size}", f"align_of::<{file}::{name}>() == {align}"))
         for field, place in places:
             in_c.append((f"offsetof ({name}, {field}) == {place}",))
             # (the handle's fields are private there)
             if name != "ks_handle":
-                in_rust_.append((f"offset_of!(raw::{name}, {field}) == {place}",))
-    for name in WRAPPERS:
-        size = placed(structs, structs["ks_handle"])[1]
-        in_c.append((f"sizeof ({name}) == {size}",))
-        in_rust_.append((f"size_of::<raw::{name}>() == {size}",))
+                in_rust_.append((f"offset_of!({file}::{name}, {field}) == {place}",))
+    for file, names in (("raw", WRAPPERS), ("raw_exchange", EXCHANGE_WRAPPERS)):
+        for name in names:
+            size = placed(structs, structs["ks_handle"])[1]
+            in_c.append((f"sizeof ({name}) == {size}",))
+            in_rust_.append((f"size_of::<{file}::{name}>() == {size}",))
     c = [f'_Static_assert({it}, "{it}");' for them in in_c for it in them]
     rust = [f"const _: () = assert!({it});" for them in in_rust_ for it in them]
-    return "\n".join(['#include "knifesilver.h"', *c, ""]), "\n".join([
+    return "\n".join(['#include "knifesilver_exchange.h"', *c, ""]), "\n".join([
         "#![allow(dead_code)]", f'#[path = "{TOP / RAW}"]', "mod raw;",
+        f'#[path = "{TOP / RAW_EXCHANGE}"]', "mod raw_exchange;",
         "use std::mem::{align_of, offset_of, size_of};", *rust, ""])
 
 
@@ -346,8 +380,14 @@ WRONG = (
     (EXCHANGE_HEADER, "KS_ANSWER_GIVEN = 113", "KS_ANSWER_GIVEN = 112"),
     (EXCHANGE_HEADER, "uint64_t delay_ms);", "uint32_t delay_ms);"),
     (EXCHANGE + "crossing.rt", "pub id: u16,", "pub id: u32,"),
+    (EXCHANGE_HEADER, "KS_ASK_NO_IDS = 122", "KS_ASK_NO_IDS = 116"),
+    (EXCHANGE_HEADER, "#define KS_JOINED 3", "#define KS_JOINED 1"),
+    (EXCHANGE + "numbers.rt", "TIMEOUT: u8 = 8", "TIMEOUT: u8 = 9"),
     (RAW, "KS_FAULT_SHORT: i32 = 81", "KS_FAULT_SHORT: i32 = 1"),
     (RAW, "pub body_limit: u32,", "pub body_limit: u64,"),
+    (RAW_EXCHANGE, "KS_ANSWER_GIVEN: i32 = 113", "KS_ANSWER_GIVEN: i32 = 112"),
+    (RAW_EXCHANGE, "pub token_len: u8,", "pub token_len: u16,"),
+    (RAW_EXCHANGE, "delay_ms: u64) -> i32;", "delay_ms: u32) -> i32;"),
 )
 
 
@@ -358,6 +398,8 @@ SWAPPED = (
      "KS_CANCEL_QUEUE_FULL = 57"),
     (RAW, "KS_FAULT_SHORT: i32 = 81", "KS_FAULT_SHORT: i32 = 82", "KS_FAULT_VERSION: i32 = 82",
      "KS_FAULT_VERSION: i32 = 81"),
+    (RAW_EXCHANGE, "KS_ANSWER_NOT_ASKED: i32 = 112", "KS_ANSWER_NOT_ASKED: i32 = 113", "KS_ANSWER_GIVEN: i32 = 113",
+     "KS_ANSWER_GIVEN: i32 = 112"),
     (LIBRARY + "config.rt", "body_limit: u32,", "remembered: u32,", "remembered: u32,", "body_limit: u32,"),
     (LIBRARY + "answers.rt", "NOT_LIVE: i32 = -1", "NOT_LIVE: i32 = -2", "NO_MEMORY: i32 = -2", "NO_MEMORY: i32 = -1"),
 )

@@ -1,5 +1,6 @@
 """What the scripts beside this file that try things share."""
 
+import os
 import pathlib
 import signal
 import socket
@@ -10,6 +11,7 @@ import time
 BOUND_WITHIN_S = 20
 SEEN_WITHIN_S = 60
 ENDED_WITHIN_S = 30
+SAID_AT_MOST = 1 << 24
 
 
 class Failed(Exception):
@@ -73,5 +75,5 @@ class Server:
             want(status == self.wants, f"{self.words}: status {status}: {self.said()[-3000:]}")
 
     def said(self):
-        self.out.seek(0)
-        return self.out.read()
+        # (what is written goes to where this file stands, so it is not moved)
+        return os.pread(self.out.fileno(), SAID_AT_MOST, 0).decode("utf-8", "replace")

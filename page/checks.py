@@ -16,6 +16,8 @@ EXAMPLES = TOP / "examples"
 COAP = pathlib.Path(os.environ.get("COAP", TOP / "crates" / "coap" / "out" / "coap"))
 SECONDS = int(os.environ.get("CLICK_SECONDS", "60"))
 SEED = int(os.environ.get("SEED", "1"))
+# A run that is played has gone on so many seconds later.
+PLAYS_WITHIN_S = 10
 PHONE = (390, 844)
 DESK = (1500, 1300)
 # What can be touched is at least so high, in CSS pixels (WCAG 2.2, 2.5.8).
@@ -141,7 +143,9 @@ def playing(page):
         want(text_of(page, "told") != "", "a step is not told to a screen reader")
     want(steps >= 10 and len(listed(page, "#reports li")) == 2, f"{steps} steps")
     page.run("document.getElementById('speed').value = '4'; document.getElementById('back').click(); play()")
-    time.sleep(0.6)
+    end = time.monotonic() + PLAYS_WITHIN_S
+    while page.run("state.shown") <= 1 and time.monotonic() < end:
+        time.sleep(0.05)
     want(page.run("state.shown") > 1 and text_of(page, "play") == "Pause", "it plays")
     page.run("play()")
     want(text_of(page, "play") == "Play", "it pauses")

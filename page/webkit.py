@@ -65,7 +65,7 @@ class Page(Driven):
             except OSError:
                 if time.monotonic() > end or self.process.poll() is not None:
                     raise RuntimeError("WebKit does not start") from None
-                time.sleep(0.1)
+            time.sleep(0.1)
 
     def _ask(self, verb, path, words=None):
         link = http.client.HTTPConnection("127.0.0.1", self.port, timeout=ANSWER_SECONDS)

@@ -1,11 +1,19 @@
 """Waiting, for scripts that begin programs."""
 
 import pathlib
+import socket
 import time
 
 TABLES = (pathlib.Path("/proc/net/udp"), pathlib.Path("/proc/net/udp6"))
 LONGEST = 20.0
 STEP = 0.05
+
+
+def free_port():
+    """A UDP port of the loopback that is free now."""
+    with socket.socket(socket.AF_INET, socket.SOCK_DGRAM) as it:
+        it.bind(("127.0.0.1", 0))
+        return it.getsockname()[1]
 
 
 def is_open(port):

@@ -16,6 +16,15 @@ is_open() {
     grep -qis "^ *[0-9]*: [0-9a-f]*:$(printf %04x "$1") " /proc/net/udp /proc/net/udp6
 }
 
+# free_port: a UDP port that no socket of this machine has now, 5683 or the next one.
+free_port() {
+    port=5683
+    while is_open "$port"; do
+        port=$((port + 1))
+    done
+    echo "$port"
+}
+
 # has_bytes FILE N: whether the file has so many bytes.
 has_bytes() {
     [ -f "$1" ] && [ "$(wc -c <"$1")" -ge "$2" ]

@@ -1,4 +1,5 @@
-/* knifesilver_exchange.h: a server of CoAP whose answers your code computes (RFC 7252, section 5; RFC 7641, section 4).
+/* knifesilver_exchange.h: a server of CoAP whose answers your code computes, a client for any request of one datagram, and
+ * bodies in blocks (RFC 7252, section 5; RFC 7641, section 4; RFC 7959).
  *
  * knifesilver.h has a server that stores values: no function of yours is called. Here a request is handed to your code, with
  * its method, its options and its payload, and your code says what is answered. The exchanges below are the proved ones: a
@@ -110,6 +111,177 @@ int32_t ks_answerer_ready(ks_answerer *handle, uint64_t now, const ks_address *t
 int32_t ks_answerer_notify(ks_answerer *handle, uint64_t now, const ks_address *to, const void *token, size_t token_len,
                            const void *message, size_t message_len, uint64_t word, uint16_t *id);
 
+/* ---- The asking side: a client of one server, for any request of one datagram ------------------------------------- */
+
+/* It runs one exchange at a time (RFC 7252, section 4.7). What it is asked goes out in a Confirmable message with a fresh
+ * token, and has at most one answer.
+ *
+ *     ks_asker_ask(&asker, now(), draft.bytes, draft.len, word(), &token);
+ *     for (;;) {
+ *         while (ks_asker_tick(&asker, now()) == KS_DONE) ask_answer();            what is due is done; then
+ *         while (ks_asker_next_out(&asker, &to, room, sizeof room, &len) == KS_DONE) send(to, room, len);
+ *         wait for a datagram, until the moment that ks_asker_due tells;
+ *         if (ks_asker_feed(&asker, now(), &from, datagram, len) == KS_DONE) ask_answer();
+ *     }
+ *
+ * ask_answer stands for ks_asker_next_answer: the next feed or tick forgets what the last one brought. */
+typedef struct { ks_handle handle; } ks_asker;
+
+/* Why a request is not sent. Nothing is done then, but that of the first three the moment counts. */
+enum ks_ask_refusal {
+    KS_ASK_RUNNING = 116,       /* an exchange runs */
+    KS_ASK_TOKENS_SPENT = 117,  /* each token was given once */
+    KS_ASK_NO_IDS = 122,        /* no Message ID is free */
+    KS_ASK_BAD_REQUEST = 123    /* a code that is none of enum ks_method, or a message of over 1,152 bytes with 8 of token */
+};
+
+/* A token of at most 8 bytes. */
+typedef struct { uint8_t len; uint8_t bytes[8]; } ks_token;
+
+/* Makes a client of that server, to which nothing has happened, that remembers so many messages (0: 4,096; at most
+ * 1,048,576); what the handle held is freed. KS_OK; KS_BAD_REMEMBERED, KS_NO_MEMORY, after which the handle holds what it
+ * held. */
+int32_t ks_asker_new(ks_asker *handle, const ks_address *server, uint32_t remembered, const ks_seed *seed);
+
+/* Frees it. The handle is empty then: it may be freed again, and used for a new client. */
+void ks_asker_free(ks_asker *handle);
+
+/* Sends a request: the code (enum ks_method), the options and the payload of a message, as ks_draft makes one; its type and
+ * Message ID count for nothing. *token is the token that it got. A message with a token cancels the observation that has
+ * that token: the request goes out with it (ks_draft_token). KS_OK; ks_ask_refusal; KS_BAD_ARGUMENT (no message),
+ * KS_NO_MEMORY, KS_NOT_LIVE. */
+int32_t ks_asker_ask(ks_asker *handle, uint64_t now, const void *message, size_t message_len, uint64_t word,
+                     ks_token *token);
+
+/* Takes a datagram that arrived. KS_DONE: it brought an answer, a notification or a Reset, which ks_asker_next_answer tells.
+ * KS_OK: it brought none. KS_NO_MEMORY, after which it counts as lost; KS_NOT_LIVE. */
+int32_t ks_asker_feed(ks_asker *handle, uint64_t now, const ks_address *from, const void *datagram,
+                      size_t datagram_len);
+
+/* Does one thing that is due: the request is sent again, or its exchange ends, which ks_asker_next_answer tells. KS_DONE
+ * where there was one, KS_OK where there was none; KS_NO_MEMORY, KS_NOT_LIVE. */
+int32_t ks_asker_tick(ks_asker *handle, uint64_t now);
+
+/* What came of a request, beside KS_TIMEOUT, KS_RESET and KS_NO_RESPONSE of ks_report_kind. */
+enum ks_answer_kind {
+    KS_RESPONSE = 16,           /* the answer to the request: the exchange is over */
+    KS_NOTIFICATION = 17        /* a response with a token that is kept (RFC 7641, section 3.2) */
+};
+
+/* The options of an answer are read from the datagram that was fed by ks_next_option; its payload is the datagram's last
+ * payload_len bytes. */
+typedef struct {
+    size_t payload_len;
+    uint8_t kind;               /* KS_RESPONSE, KS_NOTIFICATION, KS_TIMEOUT, KS_RESET or KS_NO_RESPONSE */
+    uint8_t code;               /* of a KS_RESPONSE or KS_NOTIFICATION, as in ks_report; else 0 */
+    uint8_t token_len;
+    uint8_t token[8];           /* of a KS_RESPONSE or KS_NOTIFICATION */
+} ks_answer;
+
+/* What the last feed or tick brought: KS_DONE with *answer, once; KS_OK: nothing, or it was told already. KS_NOT_LIVE. */
+int32_t ks_asker_next_answer(ks_asker *handle, ks_answer *answer);
+
+/* Keeps the token of an observation, so that its notifications are told; the others are rejected. KS_DONE; KS_OK: it is not
+ * kept, since 16 others are; KS_BAD_ARGUMENT (over 8 bytes), KS_NOT_LIVE. Keep it before the answer to the registration
+ * is taken. */
+int32_t ks_asker_keep(ks_asker *handle, const void *token, size_t token_len);
+
+/* Keeps it no more. KS_DONE; KS_OK: it was not kept; KS_BAD_ARGUMENT, KS_NOT_LIVE. */
+int32_t ks_asker_release(ks_asker *handle, const void *token, size_t token_len);
+
+/* As ks_answerer_due and ks_answerer_next_out. */
+int32_t ks_asker_due(ks_asker *handle, uint64_t now, uint64_t *at);
+int32_t ks_asker_next_out(ks_asker *handle, ks_address *to, void *room, size_t room_len, size_t *len);
+
+/* ---- Bodies in blocks (RFC 7959) ---------------------------------------------------------------------------------- */
+
+/* The value of a Block1 or Block2 option (section 2.2): a number, whether more follows, and 0 to 6 for a size of 16, 32, ..
+ * 1,024 bytes. */
+typedef struct { uint32_t num; bool more; uint8_t szx; } ks_block;
+
+#define KS_JOINED 3             /* of ks_fetch_accept: whole, but joined of parts with no entity-tag */
+#define KS_AGAIN 4              /* of ks_fetch_accept: the body changed; ask anew */
+
+/* The block that the first option of this number says (27 Block1, 23 Block2): KS_DONE with *block; KS_OK: there is none, or
+ * the datagram is no message; KS_BAD_ARGUMENT: the value is no block. It needs no handle. */
+int32_t ks_block_in(const void *datagram, size_t datagram_len, uint16_t number, ks_block *block);
+
+/* The bytes of a body that a block asks for, and the block that they are, whose `more` says whether others follow: KS_DONE
+ * with the bytes at the front of the room; KS_OK: the block begins at or past the end; KS_SMALL_ROOM with *len;
+ * KS_BAD_ARGUMENT (a szx over 6). It needs no handle. */
+int32_t ks_slice(const void *body, size_t body_len, const ks_block *asked, ks_block *given, void *room,
+                 size_t room_len, size_t *len);
+
+/* A body that is fetched in blocks by Block2 (section 2.4). */
+typedef struct { ks_handle handle; } ks_fetch;
+
+enum ks_fetch_refusal {
+    KS_FETCH_BAD_BLOCK = 124,   /* not the block that was asked for, not of its size, or no Block2 after others */
+    KS_FETCH_NO_TAG = 125,      /* one of several parts has no entity-tag */
+    KS_FETCH_TOO_LARGE = 126,   /* the body is longer than the limit */
+    KS_FETCH_CHANGED = 127      /* the body changed again and again */
+};
+
+/* Makes a fetch that has nothing yet: block_size and body_limit as in ks_config. `untagged` allows a body whose parts have
+ * no entity-tag: it is KS_JOINED. KS_OK; KS_BAD_BLOCK_SIZE, KS_BAD_BODY_LIMIT, KS_NO_MEMORY, after which the handle holds
+ * what it held. */
+int32_t ks_fetch_new(ks_fetch *handle, uint32_t block_size, uint32_t body_limit, bool untagged);
+void ks_fetch_free(ks_fetch *handle);
+
+/* Takes the part of the body that came in a message, a 2.05: its Block2, its ETag and its payload. KS_OK with *next: ask for
+ * that block. KS_DONE with *body_len: the body is whole, and its parts had one entity-tag, or it is one part. KS_JOINED with
+ * *body_len: it is joined, not proved to be of one version. KS_AGAIN: the body changed (another entity-tag, or a tag in some
+ * parts and none in others): ask as at first, with no Block2. ks_fetch_refusal; KS_BAD_ARGUMENT (no message, a Block2 that
+ * is none), KS_NO_MEMORY, KS_NOT_LIVE. */
+int32_t ks_fetch_accept(ks_fetch *handle, const void *datagram, size_t datagram_len, ks_block *next,
+                        size_t *body_len);
+
+/* The body that the last accept made whole: KS_DONE with *len and its bytes at the front of the room; KS_OK: the last accept
+ * made none; KS_SMALL_ROOM with *len; KS_NOT_LIVE. */
+int32_t ks_fetch_body(ks_fetch *handle, void *room, size_t room_len, size_t *len);
+
+/* A body that is sent in blocks by Block1 (section 2.5). */
+typedef struct { ks_handle handle; } ks_upload;
+
+/* Makes an upload of a copy of the body; block_size as in ks_config. KS_OK; KS_BAD_BLOCK_SIZE, KS_NO_MEMORY, after which the
+ * handle holds what it held. */
+int32_t ks_upload_new(ks_upload *handle, const void *body, size_t body_len, uint32_t block_size);
+void ks_upload_free(ks_upload *handle);
+
+/* The block to send now, and its bytes at the front of the room; the same until it is accepted: KS_DONE; KS_SMALL_ROOM with
+ * *len; KS_NOT_LIVE. */
+int32_t ks_upload_next(ks_upload *handle, ks_block *block, void *room, size_t room_len, size_t *len);
+
+/* Takes the answer to that block. KS_DONE: it is a 2.31 that fits, and ks_upload_next tells the next one. KS_OK: the upload is
+ * where it was. KS_BAD_ARGUMENT (no message), KS_NOT_LIVE. */
+int32_t ks_upload_accepted(ks_upload *handle, const void *datagram, size_t datagram_len);
+
+/* Bodies that come in blocks by Block1, at a server (section 2.5): at most 16 at a time, told apart by sender, path and
+ * method. */
+typedef struct { ks_handle handle; } ks_assembly;
+
+enum ks_assembly_refusal {
+    KS_ASSEMBLY_BAD_REQUEST = 128, /* a block that is not of its size: answer 4.00 */
+    KS_ASSEMBLY_INCOMPLETE = 129, /* a block that is not the next one: 4.08 */
+    KS_ASSEMBLY_TOO_LARGE = 130, /* the body is longer than the limit: 4.13 */
+    KS_ASSEMBLY_FULL = 131      /* 16 other bodies are being joined: 5.03 */
+};
+
+/* Makes one that has nothing yet: block_size and body_limit as in ks_config. KS_OK; KS_BAD_BLOCK_SIZE, KS_BAD_BODY_LIMIT,
+ * KS_NO_MEMORY, after which the handle holds what it held. */
+int32_t ks_assembly_new(ks_assembly *handle, uint32_t block_size, uint32_t body_limit);
+void ks_assembly_free(ks_assembly *handle);
+
+/* Takes the block of a request that was handed up: its Block1, its payload, its Uri-Path and its code. KS_OK: it is joined;
+ * answer 2.31 with *answer in Block1. KS_DONE with *body_len: the body is whole; answer with *answer in Block1.
+ * ks_assembly_refusal; KS_BAD_PATH (over 16 segments, or one of over 255 bytes), KS_BAD_ARGUMENT (no message with a Block1
+ * and a code of enum ks_method), KS_NO_MEMORY, KS_NOT_LIVE. */
+int32_t ks_assembly_take(ks_assembly *handle, uint64_t now, const ks_address *from, const void *datagram,
+                         size_t datagram_len, ks_block *answer, size_t *body_len);
+
+/* The body that the last take made whole. As ks_fetch_body. */
+int32_t ks_assembly_body(ks_assembly *handle, void *room, size_t room_len, size_t *len);
+
 /* ---- Options ------------------------------------------------------------------------------------------------------ */
 
 /* Tells the option at *place of a message, which is 0 at first: KS_DONE with its number and its value at the front of the
@@ -155,6 +327,18 @@ static inline int32_t ks_draft_uint(ks_draft *draft, uint16_t number, uint32_t v
     size_t skip = 0;
     while (skip < 4 && bytes[skip] == 0) skip++;
     return ks_draft_option(draft, number, bytes + skip, 4 - skip);
+}
+
+/* The token of a message that has no options yet, of at most 8 bytes: of the cancel of an observation. */
+static inline void ks_draft_token(ks_draft *draft, const ks_token *token) {
+    draft->bytes[0] = (uint8_t)(0x40 + token->len);
+    memcpy(draft->bytes + 4, token->bytes, token->len);
+    draft->len = 4 + (size_t)token->len;
+}
+
+/* A Block1 (27) or Block2 (23). */
+static inline int32_t ks_draft_block(ks_draft *draft, uint16_t number, const ks_block *block) {
+    return ks_draft_uint(draft, number, block->num << 4 | (block->more ? 8u : 0u) | block->szx);
 }
 
 /* The payload, which is the last part. KS_OK; KS_SMALL_ROOM. */

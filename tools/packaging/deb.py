@@ -2,6 +2,7 @@
 
 from __future__ import annotations
 
+import gzip
 import os
 import pathlib
 import shutil
@@ -24,12 +25,23 @@ Description: CoAP client and server as proved state machines
 """
 
 
+def _as_debian_has_it(share: pathlib.Path) -> None:
+    """Man pages are compressed, and completions of zsh have a folder of their own."""
+    for page in sorted((share / "man").rglob("*.[1-9]")):
+        page.with_name(f"{page.name}.gz").write_bytes(gzip.compress(page.read_bytes(), 9, mtime=0))
+        page.unlink()
+    of_zsh = share / "zsh"
+    if of_zsh.is_dir():
+        (of_zsh / "site-functions").rename(of_zsh / "vendor-completions")
+
+
 def make(folder: pathlib.Path, place: Place, target: Target, moment: int) -> pathlib.Path:
     """Makes it in that folder, of what is laid out below ROOT/usr."""
     root = place.prefix.parent
     (root / "DEBIAN").mkdir()
     doc = place.prefix / "share" / "doc" / "knifesilver"
     shutil.move(str(doc / "LICENSE"), doc / "copyright")
+    _as_debian_has_it(place.prefix / "share")
     wants = [
         oldest_glibc(it)
         for it in (place.prefix / place.lib / soname(), place.prefix / "bin" / "coap")

@@ -13,6 +13,8 @@ TOP = pathlib.Path(__file__).resolve().parent.parent.parent
 BINDINGS = TOP / "bindings"
 HEADER = BINDINGS / "include" / "knifesilver.h"
 PROGRAM = TOP / "crates" / "coap" / "out" / "coap"
+#: The man page and the completions of shells, laid out as below PREFIX/share (tools/words makes them).
+SHARE = TOP / "tools" / "packaging" / "share"
 PAGE = TOP / "page" / "out" / "knifesilver.html"
 #: What the program is linked of.
 OBJECT = PROGRAM.with_suffix(".o")
@@ -86,10 +88,9 @@ def moment() -> int:
 
 def kit() -> pathlib.Path:
     """The folder of the toolchain."""
-    rt = shutil.which("rt")
-    if rt is None:
+    if shutil.which("rt") is None:
         raise Problem("the toolchain is missing: its command rt is not on the PATH")
-    return pathlib.Path(rt).resolve().parent.parent
+    return pathlib.Path(said("rt", "doc").strip()).parent
 
 
 def oldest_glibc(file: pathlib.Path) -> str:

@@ -15,6 +15,7 @@ from .setting import (
     OBJECT,
     PAGE,
     PROGRAM,
+    SHARE,
     TERMS_OF_GLIBC,
     TOP,
     Target,
@@ -121,12 +122,15 @@ def library(place: Place, archive: pathlib.Path, target: Target) -> None:
 
 
 def program(place: Place, target: Target) -> str:
-    """The program coap, where it is built and for this machine; what it wants, in words."""
+    """The program coap, where it is built and for this machine, with its man page and the completions of shells; what
+    it wants, in words."""
     if target.triple or not PROGRAM.is_file():
         return ""
     to = place.at("bin", "coap")
     shutil.copyfile(PROGRAM, to)
     to.chmod(_PROGRAM_MODE)
+    for file in files_of(SHARE):
+        shutil.copyfile(file, place.at("share", str(file.relative_to(SHARE))))
     return f"{', '.join(wanted_libraries(to))}; glibc {oldest_glibc(to)} or later"
 
 

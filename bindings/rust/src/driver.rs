@@ -1,9 +1,10 @@
-//! A client that blocks and a server's loop, each over a [`std::net::UdpSocket`] of its own. Nothing here is proved.
+//! Clients that block and servers' loops, each over a [`std::net::UdpSocket`] of its own. Nothing here is proved.
 //!
-//! Both keep what the ends below ask of a program: they read a monotonic clock, draw fresh random words, send each datagram
-//! at once or never, and drop what came from UDP port 0 and what waited in the socket's buffer for over 50 s. Two premises
-//! stay with the program. An end that begins anew at its old address may break promises to those who knew the old one: see
-//! `docs/EMBEDDING.md`. And [`std::time::Instant`] stands still on Linux while the machine sleeps: open new ends after that.
+//! They keep what the ends below ask of a program: they read a monotonic clock, draw fresh random words, send each
+//! datagram at once or never, and drop what came from UDP port 0 and what waited in the socket's buffer for over 50 s.
+//! Two premises stay with the program. An end that begins anew at its old address may break promises to those who knew
+//! the old one: see `docs/EMBEDDING.md`. And [`std::time::Instant`] stands still on Linux while the machine sleeps:
+//! open new ends after that.
 //!
 //! ```
 //! use knifesilver::driver::{Client, Server};
@@ -31,11 +32,15 @@
 //! # Ok::<(), Box<dyn std::error::Error>>(())
 //! ```
 
+mod answerer;
+mod asker;
 mod client;
 mod error;
 mod server;
 mod socket;
 
+pub use answerer::{Answerer, Told};
+pub use asker::Asker;
 pub use client::{Client, Observation};
-pub use error::{Error, OpenError};
+pub use error::{Error, NoAnswer, NoBody, OpenError};
 pub use server::{Server, Verdict};

@@ -1,10 +1,10 @@
 //! A CoAP client and server (RFC 7252, with Observe, RFC 7641, and blocks, RFC 7959) as state machines with no input or
 //! output, in the manner of `quinn-proto`: you own the socket, the clock and the loop.
 //!
-//! After each call that is handed something take [`Server::poll_transmit`] until `None` and send what it gives; then wait
-//! for a datagram, at most until [`Server::poll_timeout`]; hand it to [`Server::handle`], and call
-//! [`Server::handle_timeout`] when that moment has come. A server tells by [`Server::poll_applied`] what clients had it do,
-//! a client by [`Client::poll_report`] what became of its calls.
+//! After each call that is handed something take [`Server::poll_transmit`] until `None` and send what it gives; then
+//! wait for a datagram, at most until [`Server::poll_timeout`]; hand it to [`Server::handle`], and call
+//! [`Server::handle_timeout`] when that moment has come. A server tells by [`Server::poll_applied`] what clients had
+//! it do, a client by [`Client::poll_report`] what became of its calls.
 //!
 //! ```
 //! use knifesilver::{Client, Config, Report, Request, Server, MAX_DATAGRAM, TEXT_PLAIN};
@@ -36,20 +36,26 @@
 //! # Ok::<(), Box<dyn std::error::Error>>(())
 //! ```
 //!
-//! The library below is proved to meet its contracts; `docs/EMBEDDING.md` says what they promise, of which calls, and what
-//! this crate promises without proof. An end is [`Send`] and not [`Sync`].
+//! The library below is proved to meet its contracts; `docs/EMBEDDING.md` says what they promise, of which calls, and
+//! what this crate promises without proof. An end is [`Send`] and not [`Sync`].
 //!
-//! With the feature `std-driver` the module `driver` has a client that blocks and a server's loop, each with a socket of its
-//! own. With the feature `stub` the crate can be checked and documented where its archive is not there.
+//! A server stores values, and calls no function of yours. In [`exchange`] your code computes the answers, and a
+//! client asks for anything that one datagram can ask.
+//!
+//! With the feature `std-driver` the module `driver` has clients that block and servers' loops, each with a socket of
+//! its own. With the feature `stub` the crate can be checked and documented where its archive is not there.
 
 #![deny(unsafe_code, missing_docs)]
 
 mod client;
 #[cfg(feature = "std-driver")]
 pub mod driver;
+#[macro_use]
 mod errors;
+pub mod exchange;
 mod message;
 mod raw;
+mod raw_exchange;
 mod server;
 mod setting;
 

@@ -15,18 +15,68 @@ use std::fmt;
 pub struct Code(pub u8);
 
 impl Code {
+    /// 0.01 GET.
+    pub const GET: Code = Code(0x01);
+    /// 0.02 POST.
+    pub const POST: Code = Code(0x02);
+    /// 0.03 PUT.
+    pub const PUT: Code = Code(0x03);
+    /// 0.04 DELETE.
+    pub const DELETE: Code = Code(0x04);
+    /// 0.05 FETCH (RFC 8132, section 2).
+    pub const FETCH: Code = Code(0x05);
+    /// 0.06 PATCH (RFC 8132, section 3).
+    pub const PATCH: Code = Code(0x06);
+    /// 0.07 iPATCH (RFC 8132, section 3).
+    pub const IPATCH: Code = Code(0x07);
     /// 2.01 Created.
     pub const CREATED: Code = Code(0x41);
     /// 2.02 Deleted.
     pub const DELETED: Code = Code(0x42);
+    /// 2.03 Valid.
+    pub const VALID: Code = Code(0x43);
     /// 2.04 Changed.
     pub const CHANGED: Code = Code(0x44);
     /// 2.05 Content.
     pub const CONTENT: Code = Code(0x45);
+    /// 2.31 Continue (RFC 7959, section 2.9.1).
+    pub const CONTINUE: Code = Code(0x5f);
+    /// 4.00 Bad Request.
+    pub const BAD_REQUEST: Code = Code(0x80);
+    /// 4.01 Unauthorized.
+    pub const UNAUTHORIZED: Code = Code(0x81);
+    /// 4.02 Bad Option.
+    pub const BAD_OPTION: Code = Code(0x82);
+    /// 4.03 Forbidden.
+    pub const FORBIDDEN: Code = Code(0x83);
     /// 4.04 Not Found.
     pub const NOT_FOUND: Code = Code(0x84);
+    /// 4.05 Method Not Allowed.
+    pub const METHOD_NOT_ALLOWED: Code = Code(0x85);
+    /// 4.06 Not Acceptable.
+    pub const NOT_ACCEPTABLE: Code = Code(0x86);
+    /// 4.08 Request Entity Incomplete (RFC 7959, section 2.9.2).
+    pub const REQUEST_ENTITY_INCOMPLETE: Code = Code(0x88);
+    /// 4.09 Conflict (RFC 8132, section 3.4).
+    pub const CONFLICT: Code = Code(0x89);
     /// 4.12 Precondition Failed.
     pub const PRECONDITION_FAILED: Code = Code(0x8c);
+    /// 4.13 Request Entity Too Large.
+    pub const REQUEST_ENTITY_TOO_LARGE: Code = Code(0x8d);
+    /// 4.15 Unsupported Content-Format.
+    pub const UNSUPPORTED_CONTENT_FORMAT: Code = Code(0x8f);
+    /// 4.22 Unprocessable Entity (RFC 8132, section 3.4).
+    pub const UNPROCESSABLE_ENTITY: Code = Code(0x96);
+    /// 5.00 Internal Server Error.
+    pub const INTERNAL_SERVER_ERROR: Code = Code(0xa0);
+    /// 5.01 Not Implemented.
+    pub const NOT_IMPLEMENTED: Code = Code(0xa1);
+    /// 5.02 Bad Gateway.
+    pub const BAD_GATEWAY: Code = Code(0xa2);
+    /// 5.03 Service Unavailable.
+    pub const SERVICE_UNAVAILABLE: Code = Code(0xa3);
+    /// 5.04 Gateway Timeout.
+    pub const GATEWAY_TIMEOUT: Code = Code(0xa4);
 
     /// 0 of a request, 2 to 5 of a response.
     pub fn class(self) -> u8 {

@@ -1,4 +1,4 @@
-//! The calls of `knifesilver.h`, and a safe method for each: the one file with `unsafe` in it.
+//! The calls of `knifesilver.h`, and a safe method for each. With `raw_exchange.rs` it is all that has `unsafe` in it.
 //!
 //! `bindings/check` compares these declarations with the header and with the library's exports, since no compiler does:
 //! numbers, names, parameters, the order of fields, sizes.
@@ -206,7 +206,7 @@ extern "C" {
 // at a time. Each other pointer is that of a Rust reference, so it is not null and aligned, and where it is written through
 // it is apart from all others; each length is that of its slice. No export asks for more.
 
-const EMPTY: ks_handle = ks_handle { at: null_mut(), live: false };
+pub const EMPTY: ks_handle = ks_handle { at: null_mut(), live: false };
 
 /// The version of the library that is linked.
 pub fn version() -> u32 {

@@ -1,7 +1,9 @@
 //! The client that blocks and the server's loop, over sockets of 127.0.0.1.
 #![cfg(feature = "std-driver")]
 
-use knifesilver::driver::{Client, Error, OpenError, Server, Verdict};
+use knifesilver::driver::{Answerer, Asker, Client, Error, NoAnswer, NoBody, OpenError, Server, Told, Verdict};
+use knifesilver::exchange::blocks::{slice, Assembled, Assembly, Block, Fetch, FetchError, Fetched, Upload};
+use knifesilver::exchange::{AskError, Message, Observers};
 use knifesilver::{Applied, CallError, Code, Config, Method, NewError, Report, Request, Tag, TEXT_PLAIN};
 use std::net::{Ipv4Addr, SocketAddr, SocketAddrV4, UdpSocket};
 use std::ops::ControlFlow;
@@ -293,4 +295,104 @@ fn a_turn_with_nothing_to_do_ends_in_time() {
     assert_eq!(server.update("t", None, b"1"), Ok((1, false)));
     assert_eq!(server.get("t").map(|it| it.body), Some(b"1".to_vec()));
     assert_eq!((server.remove("t"), server.get("t")), (Ok(true), None));
+}
+
+/// A request that is deferred is told again in each turn until it is answered.
+#[test]
+fn answers_that_are_computed_later() {
+    let mut server = Answerer::open(FREE, &Config::default()).unwrap();
+    let client = UdpSocket::bind(FREE).unwrap();
+    client.set_read_timeout(Some(PATIENCE)).unwrap();
+    client.send_to(b"\x41\x05\x00\x07\x09\xff2", server.address()).unwrap();
+    let (mut told, mut body) = (Vec::new(), Vec::new());
+    while !told.ends_with(&["answered"]) {
+        server.turn(OFTEN, |end, what| match what {
+            Told::Request(request) => {
+                body = request.payload().to_vec();
+                end.defer(Instant::now(), &request.asked(), Duration::ZERO).unwrap();
+                told.push("deferred");
+            }
+            Told::Ready(_) if told.len() < 4 => told.push("ready"),
+            Told::Ready(asked) => {
+                end.respond(&asked, &Message::new(Code::CONTENT).with_payload(body.as_slice())).unwrap();
+                told.push("answered");
+            }
+        });
+    }
+    assert_eq!(told, ["deferred", "ready", "ready", "ready", "answered"]);
+    let mut bytes = [0; 64];
+    assert_eq!(client.recv(&mut bytes).unwrap(), 4);
+    assert_eq!(&bytes[..4], b"\x60\x00\x00\x07");
+    let len = client.recv(&mut bytes).unwrap();
+    assert_eq!((&bytes[..2], &bytes[4..len]), (&b"\x41\x45"[..], &b"\x09\xff2"[..]));
+    server.turn(OFTEN, |_, what| panic!("{what:?}"));
+}
+
+/// A server with one body, which is fetched and sent in blocks of 64 bytes, without entity-tag, and is observed.
+fn keep_a_body(mut server: Answerer, ended: &Receiver<()>) {
+    let mut assembly = Assembly::new(&Config::default().with_block_size(64), Instant::now()).unwrap();
+    let (mut body, mut observers) = (b"first".to_vec(), Observers::default());
+    while ended.try_recv().is_err() {
+        server.turn(OFTEN, |end, told| {
+            let Told::Request(request) = told else { panic!("{told:?}") };
+            let (asked, message) = (request.asked(), request.message());
+            let answer = match (message.code(), message.path().unwrap().as_slice()) {
+                (Code::PUT, ["body"]) => match assembly.take(Instant::now(), asked.from(), &message) {
+                    Ok(Assembled::Whole(block, whole)) => {
+                        body = whole;
+                        observers.changed();
+                        Message::new(Code::CHANGED).with_block1(block)
+                    }
+                    Ok(Assembled::Joined(block)) => Message::new(Code::CONTINUE).with_block1(block),
+                    other => Message::new(other.unwrap_err().code()),
+                },
+                (Code::GET, ["body"]) => {
+                    let first = message.block2().or(Block::new(0, false, 64)).unwrap();
+                    let (given, bytes) = slice(&body, first).expect("it is in the body");
+                    let content = Message::new(Code::CONTENT).with_block2(given).with_payload(bytes);
+                    observers.answer(&asked, &message, content)
+                }
+                _ => Message::new(Code::NOT_FOUND).with_location("else/where"),
+            };
+            end.answer(&asked, &answer).unwrap();
+        });
+        let (given, bytes) = slice(&body, Block::new(0, false, 64).unwrap()).unwrap();
+        let shown = Message::new(Code::CONTENT).with_block2(given).with_payload(bytes);
+        observers.tell(server.end(), Instant::now(), &shown);
+    }
+}
+
+#[test]
+fn a_client_for_any_request() {
+    let server = Answerer::open(FREE, &Config::default()).unwrap();
+    let (at, (end, ended)) = (server.address(), channel());
+    let serving = std::thread::spawn(move || keep_a_body(server, &ended));
+    let mut client = Asker::open(at).unwrap();
+    let (get, put) = (Message::get("body"), Message::put("body"));
+    let config = Config::default().with_block_size(64);
+    let nothing = client.ask(&Message::get("nothing")).unwrap();
+    assert_eq!((nothing.code(), nothing.location()), (Code::NOT_FOUND, Some(vec!["else", "where"])));
+    assert_eq!(client.ask(&Message::fetch("body")), Err(NoAnswer::Refused(AskError::BadRequest)));
+    let (observed, first) = client.observe(&get.clone().with_observe(0)).unwrap();
+    assert_eq!((first.observe(), first.payload()), (Some(0), &b"first"[..]));
+    let body: Vec<u8> = (0..1_000).map(|place| (place % 251) as u8).collect();
+    let stored = client.store(&put, Upload::new(&config, &body).unwrap()).unwrap();
+    assert_eq!((stored.code(), stored.block1()), (Code::CHANGED, Block::new(15, false, 64)));
+    let (token, notification) = client.notification(PATIENCE).expect("a notification");
+    assert_eq!((Some(token), notification.payload()), (observed, &body[..64]));
+    assert_eq!(client.notification(OFTEN), None);
+    // The parts have no entity-tag.
+    assert_eq!(client.load(&get, Fetch::untagged(&config).unwrap()), Ok(Fetched::Joined(body)));
+    assert_eq!(client.load(&get, Fetch::new(&config).unwrap()), Err(NoBody::Blocks(FetchError::NoTag)));
+    let lost = client.load(&Message::get("nothing"), Fetch::new(&config).unwrap());
+    assert!(matches!(lost, Err(NoBody::Response(response)) if response.code() == Code::NOT_FOUND));
+    let cancelled = client.cancel(&token, &get.clone().with_observe(1)).unwrap();
+    assert_eq!((cancelled.code(), cancelled.observe()), (Code::CONTENT, None));
+    client.store(&put, Upload::new(&config, b"last").unwrap()).unwrap();
+    assert_eq!(client.notification(OFTEN), None);
+    // What can't be observed.
+    let (none, answer) = client.observe(&Message::get("nothing").with_observe(0)).unwrap();
+    assert_eq!((none, answer.code()), (None, Code::NOT_FOUND));
+    end.send(()).unwrap();
+    serving.join().unwrap();
 }

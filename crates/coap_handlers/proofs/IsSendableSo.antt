@@ -1,5 +1,5 @@
 -- What is spelled in few enough bytes with one type and Message ID may be sent with any.
-use Rattle.std.proofs.Common.{◌≡◌, ◌≢◌, ◌≤◌, ◌<◌, ℕ, ◌+◌, List, ◌++◌, length, refl, sym, ap, ◌∙◌, subst, arith}
+use Rattle.std.proofs.Common.{◌≡◌, ◌≢◌, ◌≤◌, ◌<◌, ℕ, List, ◌++◌, length, refl, subst, arith}
 use Rattle.std.proofs.Common.{take}
 use Rattle.std.proofs.lemmas.List.{length-take}
 use Rattle.coap_types.specs.Roles.{role_of}
@@ -11,7 +11,7 @@ use Rattle.coap_exchange.specs.AnswererTrace.{Response}
 use Rattle.coap_exchange.specs.AnswererSteps.{content_with}
 use Rattle.coap_types.specs.declared.limits.TheConstants.{MAX_MESSAGE_LEN as max_message_len}
 use Rattle.coap_types.specs.declared.message.TheConstants.{MESSAGE_IDS as message_ids}
-use Rattle.coap_codec.specs.Message.{Message, Spells, header, marked}
+use Rattle.coap_codec.specs.Message.{Spells, header, marked}
 use Rattle.coap_codec.specs.Spelling.{message_bytes}
 use Rattle.coap_codec.proofs.Facts.Spelling.{message_length, spelled_by_no_others}
 use Rattle.coap_layer.specs.Sendable.{IsSendable}

@@ -1,3 +1,4 @@
+pub mod IsAskableSo
 pub mod IsSendableSo
 pub mod StillHeld
 pub mod WhyRefused

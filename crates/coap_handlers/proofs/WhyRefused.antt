@@ -1,10 +1,10 @@
 -- Why an answer or a deferral is refused.
-use Rattle.std.proofs.Common.{◌≡◌, ◌≢◌, ◌⊎◌, ◌↔◌, inl, inr, Bool, true, false, Option, Some, ap, sym, subst, ◌∙◌}
+use Rattle.std.proofs.Common.{◌≡◌, ◌≢◌, ◌⊎◌, ◌↔◌, inl, inr, Bool, true, false, Option, Some, sym, subst, ◌∙◌}
 use Rattle.coap_types.specs.declared.endpoint.Moment.{Moment}
 use Rattle.coap_exchange.specs.declared.answerer.Asked.{Asked}
 use Rattle.coap_exchange.specs.AnswererTrace.{Response}
 use Rattle.coap_exchange.specs.Machine.AnswererShown.{IsAnswer}
-use Rattle.coap_handlers.specs.Refusals.{IsAnswerRefused, IsDeferRefused, IsRespondRefused, IsNotReady}
+use Rattle.coap_handlers.specs.Refusals.{IsAnswerRefused, IsDeferRefused, IsRespondRefused}
 use Rattle.coap_handlers.specs.Shown.{Shown, ready_at}
 use Rattle.coap_handlers.specs.declared.refusal.AnswerRefusal.{AnswerRefusal}
 use Rattle.coap_handlers.specs.declared.refusal.AnswerRefusal.TheVariants.{NotAsked, Given, NotReady}

@@ -3,10 +3,12 @@
 #![tactic(auto)]
 
 mod refusal;
+mod request;
 mod responder;
 mod response;
 mod same;
 
 pub use refusal::{AnswerRefusal, NotifyRefusal};
+pub use request::is_request;
 pub use responder::{Ready, Responder};
 pub use response::is_response;

@@ -1,7 +1,7 @@
 //! Options that are written, and read again.
 use crate::server::want;
 use coap_codec::{View, decode};
-use coap_options::{AddRefusal, add_option, option_at, unknown_critical};
+use coap_options::{AddRefusal, add_option, option_at, unknown_critical, value_of};
 use std::test::*;
 
 // The message of these bytes.
@@ -64,5 +64,7 @@ fn options_are_written_in_rising_order(_: HostRuntime) -> Result<(), Fail> {
         )?,
         None => return Err(Fail::new("no option")),
     }
-    want(option_at(&view, 3).is_none(), "an option more")
+    want(option_at(&view, 3).is_none(), "an option more")?;
+    want(value_of(&view, 14) == Some([5].as_slice()), "another value")?;
+    want(value_of(&view, 11).is_none(), "a value more")
 }

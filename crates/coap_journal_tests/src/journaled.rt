@@ -73,7 +73,8 @@ fn kept<R: Abort + AllocGlobal>(
 
 fn feed<R: Abort + AllocGlobal, E: End<Global>>(rt: &R, end: &mut E, now: u64, digits: &str) {
     let bytes = bytes_of(rt, digits);
-    end.feed(Moment(now), PEER, bytes.as_slice(), 1).expect(rt, "memory");
+    end.feed(Moment(now), PEER, bytes.as_slice(), 1)
+        .expect(rt, "memory");
 }
 
 // The code of what goes out, 0 where nothing does.

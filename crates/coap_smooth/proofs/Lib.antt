@@ -7,3 +7,4 @@ pub mod Progress
 pub mod Smoothly
 pub mod Reported
 pub mod Watching
+pub mod ByDue

@@ -2,6 +2,7 @@
 pub mod SmoothTurns
 pub mod DefersLate
 pub mod DefersLongest
+pub mod DefersByDue
 pub mod ObservedAlone
 pub mod ShowsLate
 pub mod StaysOld

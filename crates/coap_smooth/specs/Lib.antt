@@ -17,7 +17,7 @@ pub mod Current
 pub mod CurrentRuns
 pub mod PlainRuns
 pub mod BlockRuns
-pub mod WhenDue
+pub mod ByDue
 pub mod NoticesCome
 pub mod NoticesTaken
 pub mod ShowsHeld

@@ -68,13 +68,18 @@ module _ (config : Config) where
   abbrev pub AllNoticesCome : List Turn → Type 0
   AllNoticesCome turns = Always NoticesCome turns
 
-  -- a notification is of this observation, under the token of its registration
+  -- a notification to the client is of this observation, under the token of its registration
   pub record IsOfIt (x : Observed) (older : List Entry) (n : Notice) : Type 0 where
     pub to_is : n.observer.to ≡ config.addresses.client
     pub path_is : n.observer.path ≡ x.path
     pub registered : WasRegistered config.client_sizes x.number n.observer.token (client_of older)
 
-  -- each of a run is
+  -- no other is told
+  abbrev pub NoticesGoToClient : List Entry → Type 0
+  NoticesGoToClient all = (newer older : List Entry) (c : S.Call) (n : Notice) → all ≡ newer ++ OfServer c ∷ older
+      → notice c ≡ Some n → n.observer.to ≡ config.addresses.client
+
+  -- each to the client is so (strangers may be told of anything)
   abbrev pub NoticesAreOfIt : Observed → List Entry → Type 0
   NoticesAreOfIt x all = (newer older : List Entry) (c : S.Call) (n : Notice) → all ≡ newer ++ OfServer c ∷ older
-      → notice c ≡ Some n → IsOfIt x older n
+      → notice c ≡ Some n → n.observer.to ≡ config.addresses.client → IsOfIt x older n

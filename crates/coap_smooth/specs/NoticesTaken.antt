@@ -64,9 +64,10 @@ module _ (config : Config) where
     pub taken : IsTakenIn x (notice_message config comes.kind comes.id older n)
         (client_of (comes.between ++ OfServer c ∷ older)) comes.call
 
-  -- so each that was sent more than 1,000 ms before an event, where the observation goes on until then
+  -- so each to the client that was sent more than 1,000 ms before an event, where the observation goes on until then
   abbrev pub NoticesAreTaken : Observed → List Turn → Turn → Type 0
   NoticesAreTaken x past turn = Watches config x.number (entries_of past)
       → (newer older : List Entry) (c : S.Call) (n : Notice) → entries_of past ≡ newer ++ OfServer c ∷ older
-      → notice c ≡ Some n → server_moment config older c + max_age < turn.event.at
+      → notice c ≡ Some n → n.observer.to ≡ config.addresses.client
+      → server_moment config older c + max_age < turn.event.at
       → NoticeIsTaken x n newer older c

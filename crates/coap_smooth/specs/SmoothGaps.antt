@@ -1,4 +1,5 @@
--- In a smooth run no event is more than 1,000 ms behind the one before, and so not each legal run is smooth.
+-- Where both ends tick each 1,000 ms no event is more than 1,000 ms behind the one before; and not each legal run is
+-- smooth.
 use Rattle.std.specs.Prelude.{◌≤◌, ℕ, ◌+◌, List, [], ◌∷◌}
 use Rattle.coap_record.specs.Events.{Event}
 use Rattle.coap_promise.specs.LegalRuns.{Runs, config, times_out}

@@ -13,7 +13,7 @@ use Rattle.coap_promise.specs.LegalRuns.{from_client, from_server, Runs, Reports
 use Rattle.coap_promise.specs.LegalRuns.{get_bytes, token}
 use Rattle.coap_promise.specs.LegalRuns.{empty_ack, separate_bytes, plain, tag, t, sizes, config, with_delays, TimesOut}
 use Rattle.coap_record.specs.Record.{Turn, entries_of, client_of}
-use Rattle.coap_smooth.specs.Smooth.{Smooth, NoStranger, NoneObserved}
+use Rattle.coap_smooth.specs.Smooth.{Smooth, NoStranger, NoneObserved, TicksOften}
 use Rattle.coap_smooth.specs.SmoothAnswers.{EndByAnswers, AnsweredSmoothly}
 use Rattle.coap_smooth.specs.Young.{AreYoung}
 
@@ -118,6 +118,29 @@ pub record DefersLongest : Type 0 where
   -- at an event the exchange is 12,999 ms old
   pub old : Sometime (λ past (turn : Turn). (turn.event.at ≡ 12999)
       × IsOpenSince sizes 0 (client_of (entries_of past))) run.turns
+
+-- The same where each end ticks only when something is due: from 2,000 to 11,999 nothing happens. (The request is ready
+-- at 11,000; the client has a retransmission due at 2,000, unless it is acknowledged.)
+
+abbrev pub defers_by_due : List Event
+defers_by_due =
+    event 12999 (Deliver 2) ∷
+    event 11999 TickServer ∷
+    event 2000 (Deliver 1) ∷
+    event 1000 (Deliver 0) ∷
+    event 0 TickClient ∷
+    event 0 (Calls get) ∷
+    event 0 hi ∷
+    []
+
+pub record DefersByDue : Type 0 where
+  pub run : Runs slowest defers_by_due (from_client 12999 empty_ack ∷ from_server 11999 client_end separate_bytes ∷
+      from_server 1000 client_end empty_ack ∷ from_client 0 get_bytes ∷ [])
+  pub reports : Reports run (reported (Body (Some (tag 1)) (Some plain) (codes "hi")) ∷ [])
+  pub smooth : Smooth slowest run.turns
+  pub no_stranger : NoStranger run.turns
+  pub none_observed : NoneObserved run.turns
+  pub rare : TicksOften run.turns → ⊥
 
 -- Of the run in which a POST times out that is not true: its exchange is open for 62,000 ms, and ends without an
 -- answer.

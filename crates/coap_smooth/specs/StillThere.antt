@@ -17,7 +17,7 @@ use Rattle.coap_smooth.specs.Smooth.{max_age}
 use Rattle.coap_smooth.specs.NoticesCome.{server_moment}
 
 module _ (config : Config) where
-  -- a notification that is no 2.05 was sent at most 1,000 ms before this moment
+  -- a notification that is no 2.05 was sent to the client at most 1,000 ms before this moment
   pub record WasGone (at : ℕ) (all : List Entry) : Type 0 where
     pub newer : List Entry
     pub older : List Entry
@@ -25,6 +25,7 @@ module _ (config : Config) where
     pub told : Notice
     pub split : all ≡ newer ++ OfServer call ∷ older
     pub here : notice call ≡ Some told
+    pub to : told.observer.to ≡ config.addresses.client
     pub gone : told.reply.code ≢ content
     pub soon : at ≤ server_moment config older call + max_age
 

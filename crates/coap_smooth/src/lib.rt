@@ -4,5 +4,7 @@
 mod smooth;
 mod watches;
 
-pub use smooth::{answered_law, open_law, received_law, reported_law, sent_law, smooth_witness};
+pub use smooth::{
+    answered_law, due_law, open_law, received_law, reported_law, sent_law, smooth_witness,
+};
 pub use watches::watch_law;

@@ -2,6 +2,7 @@
 ghost use Rattle.std.specs.Prelude.{map};
 ghost use Rattle.coap_smooth.specs.AtOnce.{OldWait};
 ghost use Rattle.coap_smooth.specs.BlockRuns.{PutsInBlocks};
+ghost use Rattle.coap_smooth.specs.ByDue.{ClientByDue, ServerByDue};
 ghost use Rattle.coap_smooth.specs.CurrentRuns.{ShowsLate, StaysOld};
 ghost use Rattle.coap_smooth.specs.EndsSmoothly.{SentByAnswers, YoungEndByAnswers};
 ghost use Rattle.coap_smooth.specs.HasIds.{HasIds};
@@ -13,13 +14,13 @@ ghost use Rattle.coap_smooth.specs.Received.{AreReceived};
 ghost use Rattle.coap_record.specs.Record.{Turn, entries_of};
 ghost use Rattle.coap_smooth.specs.Reported.{AreReported};
 ghost use Rattle.coap_smooth.specs.Separate.{SeparateEnds, TicksAnswer};
-ghost use Rattle.coap_smooth.specs.Smooth.{FewTold, NoneObserved, Smooth};
+ghost use Rattle.coap_smooth.specs.Smooth.{FewTold, KeepUp, NoneObserved, Smooth, TicksOften};
 ghost use Rattle.coap_smooth.specs.SmoothAnswers.{AllAnswer, ChangesAnswered, GetsHeld};
 ghost use Rattle.coap_smooth.specs.Young.{AreYoung};
 ghost use Rattle.coap_smooth.specs.SmoothGaps.{AreClose, TimesOutRoughly};
-ghost use Rattle.coap_smooth.specs.SmoothRuns.{DefersLate, DefersLongest, PutsLate, Unanswered};
+ghost use Rattle.coap_smooth.specs.SmoothRuns.{DefersByDue, DefersLate, DefersLongest, PutsLate, Unanswered};
 ghost use Rattle.coap_smooth.specs.TakenInTime.{AllTakenInTime};
-ghost use Rattle.coap_smooth.specs.TicksLeave.{TicksInTime, TicksLeaveNone};
+ghost use Rattle.coap_smooth.specs.TicksLeave.{KeepsUpInTime, TicksInTime, TicksLeaveNone};
 
 use coap_client_laws::{client_exchanges_law, client_follows_law, client_law, client_values_law};
 use coap_exchange::answerer_law;
@@ -33,6 +34,8 @@ pub fn smooth_witness()
     ensures late { DefersLate }
     // .. and where its exchange is open for 12,999 ms.
     ensures longest { DefersLongest }
+    // The same in a smooth run in which each end ticks only when something is due, so nothing happens for 9,999 ms.
+    ensures by_due { DefersByDue }
     // A PUT to such a path is applied, once, and its success is reported (RFC 7252, sections 5.2.2 and 5.8.3).
     ensures put { PutsLate }
     // A run in which a POST times out is not smooth ..
@@ -51,10 +54,22 @@ pub fn smooth_witness()
     ensures old { StaysOld }
 {}
 
+/// When an end of a run has nothing to do: so its `due` says, and a program that asks it ticks in time.
+pub fn due_law()
+    // The client has nothing to do, in the sense of a smooth run, exactly where its `due` says that a tick does nothing
+    // (RFC 7252, sections 4.2, 4.7 and 5.2.2).
+    ensures client { OfLegalRuns ClientByDue }
+    // The server has nothing to do, in that sense, exactly where its `due` says so (RFC 7252, sections 4.2 and 5.2.2;
+    // RFC 7641, section 4.5).
+    ensures server { OfLegalRuns ServerByDue }
+    // Ends that tick each 1,000 ms, whether or not something is due, keep up as a smooth run asks (profile).
+    ensures seconds { OfLegalRuns (λ config turns. TicksOften turns → KeepUp config turns) }
+{}
+
 /// What becomes of the datagrams of a run.
 pub fn received_law()
-    // In a smooth run no event is more than 1,000 ms behind the one before.
-    ensures close { OfLegalRuns (λ config turns. Smooth config turns → AreClose (map (λ (t : Turn). t.event) turns)) }
+    // In a run in which each end ticks each 1,000 ms no event is more than 1,000 ms behind the one before.
+    ensures close { OfLegalRuns (λ config turns. TicksOften turns → AreClose (map (λ (t : Turn). t.event) turns)) }
     // In a smooth run each that is given out to an end is fed to it, at most 1,000 ms later.
     ensures prompt { OfLegalRuns (λ config turns. Smooth config turns → AllPrompt config.addresses turns) }
     // What an end is fed, its message layer receives at that moment (RFC 7252, section 4.2).
@@ -86,10 +101,12 @@ pub fn open_law()
     // .. and behind the ticks of a moment nothing is left that can be answered, unless no Message ID is free (sections
     // 4.7 and 5.2.2).
     ensures leaves { OfLegalRuns TicksLeaveNone }
-    // In a smooth run it ticks in each 1,000 ms.
-    ensures often { OfLegalRuns (λ config turns. Smooth config turns → TicksInTime turns) }
+    // Where it ticks each 1,000 ms, it ticks less than 1,000 ms after each moment ..
+    ensures often { OfLegalRuns (λ config turns. TicksOften turns → TicksInTime turns) }
+    // .. and in each smooth run it does so, or has nothing to do then.
+    ensures keeps_up { OfLegalRuns (λ config turns. Smooth config turns → KeepsUpInTime config turns) }
     // Where nothing is observed, and no stranger sends anything or the server sends few notifications, a Message ID is
-    // free at each tick of the server (section 4.4) ..
+    // free after each call of the server (section 4.4) ..
     ensures ids { OfLegalRuns (λ config turns. Smooth config turns → FewTold config turns → NoneObserved turns
         → HasIds config turns) }
     // .. so no exchange is open for longer than the longest delay and 2,999 ms, and for more than 2,000 ms where no

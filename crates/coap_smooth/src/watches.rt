@@ -7,11 +7,11 @@ ghost use Rattle.coap_smooth.specs.Current.{Alone, CurrentAlone, FitsABlock};
 ghost use Rattle.coap_smooth.specs.HadIds.{HadIds};
 ghost use Rattle.coap_smooth.specs.HeldVersions.{VersionsAreNumbers, VersionsRise};
 ghost use Rattle.coap_record.specs.Legal.{InLegalRuns, OfLegalRuns};
-ghost use Rattle.coap_smooth.specs.NoticesCome.{AllNoticesCome, NoticesAreOfIt};
+ghost use Rattle.coap_smooth.specs.NoticesCome.{AllNoticesCome, NoticesAreOfIt, NoticesGoToClient};
 ghost use Rattle.coap_smooth.specs.NoticesTaken.{NoticesAreTaken, RequestsAreOfIt};
 ghost use Rattle.coap_record.specs.Record.{client_of, entries_of};
 ghost use Rattle.coap_smooth.specs.ShowsHeld.{AllShown};
-ghost use Rattle.coap_smooth.specs.Smooth.{SmoothAlone};
+ghost use Rattle.coap_smooth.specs.Smooth.{NoStranger, Smooth, SmoothAlone};
 ghost use Rattle.coap_smooth.specs.StillThere.{AreStillThere};
 
 use coap_client_laws::{client_exchanges_law, client_follows_law, client_watches_law};
@@ -21,13 +21,16 @@ use coap_server_laws::{server_law, server_must_law};
 
 /// What becomes of the notifications of a smooth run, and what they show.
 pub fn watch_law()
-    // A Message ID was free at each tick of the server more than 1,000 ms before an event, whatever is observed (RFC
-    // 7252, section 4.4).
+    // After each event more than 1,000 ms before another, a Message ID was free for the server, whatever is observed
+    // (RFC 7252, section 4.4).
     ensures ids { OfLegalRuns (λ config turns. SmoothAlone config turns → HadIds config turns) }
-    // Each notification that was sent more than 1,000 ms ago came to the client within 1,000 ms, behind its sending
-    // (RFC 7641, section 4.5).
+    // Each notification to the client that was sent more than 1,000 ms ago came to it within 1,000 ms, behind its
+    // sending (RFC 7641, section 4.5).
     ensures comes { OfLegalRuns (λ config turns. SmoothAlone config turns → AllNoticesCome config turns) }
-    // Where the client takes on one observation alone, each notification is of that, under the token of its
+    // Where no stranger sends anything, each notification goes to the client (RFC 7641, section 4.2).
+    ensures alone { OfLegalRuns (λ config turns. Smooth config turns → NoStranger turns
+        → NoticesGoToClient config (entries_of turns)) }
+    // Where the client takes on one observation alone, each notification to it is of that, under the token of its
     // registration (RFC 7641, sections 3.1 and 4.1) ..
     ensures of_it { OfLegalRuns (λ config turns. SmoothAlone config turns → (x : Observed)
         → Alone x (client_of (entries_of turns)) → NoticesAreOfIt config x (entries_of turns)) }
@@ -35,8 +38,8 @@ pub fn watch_law()
     // section 2.6) ..
     ensures requests { OfLegalRuns (λ config turns. SmoothAlone config turns → (x : Observed)
         → Alone x (client_of (entries_of turns)) → RequestsAreOfIt config x (entries_of turns)) }
-    // .. and, while the observation goes on, each notification that comes is heard as the answer to the registration,
-    // or noted under its token (RFC 7641, section 3.2).
+    // .. and, while the observation goes on, each notification to it that comes is heard as the answer to the
+    // registration, or noted under its token (RFC 7641, section 3.2).
     ensures notices { OfLegalRuns (λ config turns. SmoothAlone config turns → (x : Observed)
         → Alone x (client_of (entries_of turns)) → Always (NoticesAreTaken config x) turns) }
     // So, once a notification was taken and while the observation goes on, the server has its registration, or told in

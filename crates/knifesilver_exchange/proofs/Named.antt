@@ -7,7 +7,7 @@ use Rattle.coap_exchange.specs.AnswererTrace.{Response}
 use Rattle.coap_handlers.specs.Refusals.{IsAnswerRefused, IsRespondRefused}
 use Rattle.knifesilver_exchange.specs.declared.crossing.KsAsked.{KsAsked}
 use Rattle.knifesilver_exchange.specs.declared.held.Held.{Held}
-use Rattle.knifesilver_exchange.specs.declared.held.Held.TheVariants.{Answerer}
+use Rattle.knifesilver_exchange.specs.declared.held.Held.TheVariants.{Answerer, Asker, Fetch, Upload, Assembly}
 use Rattle.knifesilver_exchange.specs.Calls.{RefusesAnswer, RefusesRespond, response_in}
 use Rattle.knifesilver_exchange.specs.Crossing.{AreAsked}
 use Rattle.knifesilver_exchange.specs.Held.{IsNamedFor}
@@ -26,6 +26,10 @@ pub answer_named : (answer : ℤ) (told : KsAsked) (message : List ℕ) (a : Ask
     → IsNamedFor answer (RefusesAnswer told message) (Some held)
 answer_named answer told message a m r (Answerer s) asked spells same h =
     (h.0, h.1, (a, m, asked, spells, subst (λ (x : Response). IsAnswerRefused h.0 s a x) same h.2))
+answer_named answer told message a m r (Asker x) asked spells same h = absurd h.2
+answer_named answer told message a m r (Fetch x) asked spells same h = absurd h.2
+answer_named answer told message a m r (Upload x) asked spells same h = absurd h.2
+answer_named answer told message a m r (Assembly x) asked spells same h = absurd h.2
 
 pub respond_named : (answer : ℤ) (told : KsAsked) (message : List ℕ) (a : Asked) (m : Message) (r : Response)
     (held : Held)
@@ -34,3 +38,7 @@ pub respond_named : (answer : ℤ) (told : KsAsked) (message : List ℕ) (a : As
     → IsNamedFor answer (RefusesRespond told message) (Some held)
 respond_named answer told message a m r (Answerer s) asked spells same h =
     (h.0, h.1, (a, m, asked, spells, subst (λ (x : Response). IsRespondRefused h.0 s a x) same h.2))
+respond_named answer told message a m r (Asker x) asked spells same h = absurd h.2
+respond_named answer told message a m r (Fetch x) asked spells same h = absurd h.2
+respond_named answer told message a m r (Upload x) asked spells same h = absurd h.2
+respond_named answer told message a m r (Assembly x) asked spells same h = absurd h.2

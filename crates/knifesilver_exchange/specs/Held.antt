@@ -5,12 +5,16 @@ use Rattle.coap_exchange.specs.AnswererLaw.{Step}
 use Rattle.coap_handlers.specs.Shown.{Shown}
 use Rattle.coap_handlers.specs.declared.refusal.AnswerRefusal.{AnswerRefusal}
 use Rattle.knifesilver_exchange.specs.declared.held.Held.{Held}
-use Rattle.knifesilver_exchange.specs.declared.held.Held.TheVariants.{Answerer}
+use Rattle.knifesilver_exchange.specs.declared.held.Held.TheVariants.{Answerer, Asker, Fetch, Upload, Assembly}
 use Rattle.knifesilver_exchange.specs.Numbers.{answer_number}
 
 -- a server of which this holds
 abbrev pub IsIn : (Shown → Type 0) → Held → Type 0
 IsIn P (Answerer s) = P s
+IsIn P (Asker a) = ⊥
+IsIn P (Fetch f) = ⊥
+IsIn P (Upload u) = ⊥
+IsIn P (Assembly a) = ⊥
 
 abbrev pub HoldsIn : (Shown → Type 0) → Option Held → Type 0
 HoldsIn P None = ⊥

@@ -1,8 +1,14 @@
 pub mod Answers
+pub mod AskerHeld
+pub mod Asking
+pub mod Blocks
+pub mod BlocksHeld
 pub mod Calls
+pub mod Chosen
 pub mod Crossing
 pub mod Fresh
 pub mod Held
+pub mod Moves
 pub mod Notifying
 pub mod Numbers
 pub mod Options

@@ -164,3 +164,41 @@ pub(crate) fn asked_in(asked: &KsAsked) -> Option<Asked>
         token,
     })
 }
+
+/// C's `ks_token`: at most 8 bytes.
+#[repr(C)]
+#[derive(Clone, Copy)]
+pub struct KsToken {
+    /// How many bytes count.
+    pub len: u8,
+    /// The bytes.
+    pub bytes: [u8; 8],
+}
+
+/// C's `ks_answer`: what came of a request.
+#[repr(C)]
+#[derive(Clone, Copy)]
+pub struct KsAnswer {
+    /// How many bytes the payload has: the last ones of the datagram.
+    pub payload_len: usize,
+    /// What it is.
+    pub kind: u8,
+    /// The code of a response.
+    pub code: u8,
+    /// How many bytes of its token count.
+    pub token_len: u8,
+    /// Its token.
+    pub token: [u8; 8],
+}
+
+/// C's `ks_block`: the value of a Block option (RFC 7959, section 2.2).
+#[repr(C)]
+#[derive(Clone, Copy)]
+pub struct KsBlock {
+    /// Its number.
+    pub num: u32,
+    /// Whether more follows.
+    pub more: bool,
+    /// Its size exponent.
+    pub szx: u8,
+}

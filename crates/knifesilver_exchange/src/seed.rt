@@ -1,7 +1,9 @@
-//! What an end begins with that a stranger must not guess.
-ghost use Rattle.std.specs.Prelude.{◌≡◌};
+//! What an end begins with: what a stranger must not guess, and how many messages are remembered.
+ghost use Rattle.std.specs.Prelude.{◌≡◌, ◌<◌, ◌≤◌, IfSome, IfNone};
+ghost use Rattle.knifesilver_exchange.specs.Fresh.{chosen};
 ghost use Rattle.knifesilver_exchange.specs.Seeds.{first_state};
 
+use coap_types::{DEFAULT_REMEMBERED, MAX_REMEMBERED, Remembered};
 use core::hash::keyed_hasher;
 use std::hash::{BuildHasher, DefaultHasher};
 
@@ -43,5 +45,17 @@ pub(crate) fn hash_of(seed: &KsSeed) -> SeededHash
     SeededHash {
         key0: seed.key0,
         key1: seed.key1,
+    }
+}
+
+/// So many messages that are remembered, or the usual number for 0.
+pub(crate) fn remembered_of(remembered: u32) -> Option<Remembered>
+    ensures some { IfSome result (λ r. (remembered ≤ MAX_REMEMBERED) × (r ≡ chosen DEFAULT_REMEMBERED remembered)) }
+    ensures none { IfNone result (MAX_REMEMBERED < remembered) }
+{
+    if remembered == 0 {
+        Some(Remembered::default())
+    } else {
+        Remembered::new(remembered)
     }
 }

@@ -3,6 +3,8 @@
 mod plain;
 mod proved;
 
+use bench_common::body;
+use bench_common::table::{Pairs, print_head};
 use std::hint::black_box;
 use std::time::Instant;
 
@@ -27,14 +29,8 @@ struct Row {
     plain: Transfer,
     /// How many transfers one timing takes.
     rounds: usize,
-    /// Nanoseconds a block of the proved transfer and, right behind, of the plain one.
-    timings: Vec<(f64, f64)>,
-}
-
-fn median(values: impl Iterator<Item = f64>) -> f64 {
-    let mut values: Vec<_> = values.collect();
-    values.sort_by(f64::total_cmp);
-    values[values.len() / 2]
+    /// Nanoseconds a block.
+    timings: Pairs,
 }
 
 impl Row {
@@ -42,12 +38,12 @@ impl Row {
         let size = 16 << exponent;
         let mut row = Row {
             name: format!("{name}, {len} bytes, blocks of {size}"),
-            body: (0..len).map(|i| (i * 7) as u8).collect(),
+            body: body(len),
             exponent,
             proved,
             plain,
             rounds: 10,
-            timings: Vec::with_capacity(TIMINGS),
+            timings: Pairs::with_capacity(TIMINGS),
         };
         let trial = row.nanoseconds(plain) * row.blocks();
         row.rounds = (TIMING / trial).ceil() as usize;
@@ -67,17 +63,12 @@ impl Row {
     }
 
     fn time(&mut self) {
-        let timing = (self.nanoseconds(self.proved), self.nanoseconds(self.plain));
+        let timing = [self.nanoseconds(self.proved), self.nanoseconds(self.plain)];
         self.timings.push(timing);
     }
 
-    /// Prints the medians; the ratio is that of the ratios of neighbouring timings.
     fn print(&self) {
-        let name = &self.name;
-        let proved = median(self.timings.iter().map(|timing| timing.0));
-        let plain = median(self.timings.iter().map(|timing| timing.1));
-        let ratio = median(self.timings.iter().map(|timing| timing.0 / timing.1));
-        println!("| {name} | {proved:.1} | {plain:.1} | {ratio:.2} |");
+        self.timings.print(&self.name);
     }
 }
 
@@ -104,15 +95,14 @@ fn main() {
     for _ in 0..TIMINGS {
         rows.iter_mut().for_each(Row::time);
     }
-    println!("| nanoseconds a block | proved | plain Rust | ratio |");
-    println!("|---|---:|---:|---:|");
+    print_head("nanoseconds a block");
     rows.iter().for_each(Row::print);
 }
 
 #[test]
 fn both_carry_each_body() {
     for len in [0, 1, 16, 17, 200, 65_536] {
-        let body: Vec<u8> = (0..len).map(|i: usize| (i * 7) as u8).collect();
+        let body = body(len);
         for exponent in 0..=6 {
             assert_eq!(proved::upload(&body, exponent, 2), 2 * len as u64);
             assert_eq!(plain::upload(&body, exponent, 2), 2 * len as u64);

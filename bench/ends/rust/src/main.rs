@@ -4,13 +4,14 @@ mod block;
 mod client;
 mod codec;
 mod forgetting;
-mod memory;
 mod message;
 mod plain;
 mod proved;
 mod server;
 mod work;
 
+use bench_common::table::{print_head, print_row};
+use bench_common::{body, memory};
 use std::hint::black_box;
 use work::{Store, Timed};
 
@@ -37,10 +38,6 @@ enum Work {
     Put(usize),
     /// Its GET.
     Get(usize),
-}
-
-fn body(len: usize) -> Vec<u8> {
-    (0..len).map(|i| (i * 7) as u8).collect()
 }
 
 impl Work {
@@ -94,11 +91,8 @@ impl Row {
     }
 
     fn print(&self) {
-        let name = self.name;
         let exchanges = f64::from(self.work.exchanges());
-        let [proved, plain] = self.least.map(|least| least as f64 / exchanges);
-        let ratio = proved / plain;
-        println!("| {name} | {proved:.0} | {plain:.0} | {ratio:.2} |");
+        print_row(self.name, self.least.map(|least| least as f64 / exchanges));
     }
 }
 
@@ -120,8 +114,7 @@ fn time_all() {
     for _ in 0..TIMINGS {
         rows.iter_mut().for_each(Row::time);
     }
-    println!("| nanoseconds an exchange | proved | plain Rust | ratio |");
-    println!("|---|---:|---:|---:|");
+    print_head("nanoseconds an exchange");
     rows.iter().for_each(Row::print);
     forgetting::rows().iter().for_each(forgetting::Row::print);
 }
@@ -158,12 +151,26 @@ fn print_forgetting(held: &str) {
         .for_each(forgetting::Row::print);
 }
 
+/// What a reply has beside the body: its head, entity-tag, format and payload marker.
+const BESIDE_BODY: usize = 15;
+
+/// Has a server remember so many messages with replies of so many bytes, and prints what each takes of memory.
+fn print_kept(count: &str, len: &str) {
+    let cells = format!("{count} | {len}");
+    let count: u32 = count.parse().expect("how many messages");
+    let len: usize = len.parse().expect("how many bytes a reply has");
+    let body = vec![0x60; len - BESIDE_BODY];
+    memory::print(&cells, count, || {
+        assert_eq!(proved::keep(count, &body), u64::from(count) * len as u64);
+    });
+}
+
 fn main() {
     let words: Vec<String> = std::env::args().skip(1).collect();
     match words.as_slice() {
         [] => time_all(),
         [word, held] if word == "forgetting" => print_forgetting(held),
-        [word, count, len] if word == "keep" => memory::print(count, len),
+        [word, count, len] if word == "keep" => print_kept(count, len),
         [row, ends] => repeat(row, ends),
         _ => panic!("forgetting HELD, ROW proved, ROW plain, keep COUNT LEN, or nothing"),
     }

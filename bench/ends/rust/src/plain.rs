@@ -3,7 +3,8 @@
 use crate::client::{Client, Report};
 use crate::message::Endpoint;
 use crate::server::Server;
-use crate::work::{FORGOTTEN_AFTER_MS, GET_LAST, GET_ONE, Timed, numbered};
+use crate::work::{GET_LAST, GET_ONE, Timed, numbered};
+use bench_common::forgetting::FORGOTTEN_AFTER_MS;
 use std::time::Instant;
 
 const CLIENT: Endpoint = ([127, 0, 0, 1], 40_001);

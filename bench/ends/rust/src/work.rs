@@ -14,9 +14,6 @@ pub enum Store {
     Map,
 }
 
-/// Right after so many milliseconds a message is forgotten.
-pub const FORGOTTEN_AFTER_MS: u64 = 247_001;
-
 /// A GET of `temperature`.
 pub const GET_ONE: [u8; 16] = *b"\x40\x01\0\0\xbbtemperature";
 

@@ -2,23 +2,9 @@
 //! mean over a full 247 s, and what the dearest of all takes.
 
 use crate::{plain, proved};
+use bench_common::forgetting::{FORGOTTEN_AFTER_MS, TOGETHER, before, mean, timed, timings};
+use bench_common::table::print_row;
 use std::hint::black_box;
-
-/// Right after so many milliseconds a message is forgotten.
-const FORGOTTEN_AFTER_MS: u64 = 247_001;
-
-/// So many requests are timed together: what is forgotten in one batch is in the time of few others.
-const TOGETHER: u32 = 1_024;
-
-/// How many timings the least is taken of, and where only some requests are timed.
-const TIMINGS: usize = 5;
-const TIMINGS_OF_FEW: usize = 301;
-/// So few are some.
-const FEW: u32 = 5_000;
-
-fn timings(held: u32) -> usize {
-    if held <= FEW { TIMINGS_OF_FEW } else { TIMINGS }
-}
 
 /// What takes in requests: `proved::paced` or `plain::paced`.
 type Layer = fn(Pace, u32, u32, &mut [u64]) -> u64;
@@ -45,16 +31,6 @@ impl Pace {
             request * FORGOTTEN_AFTER_MS / held
         }
     }
-
-    /// So many come in two lifetimes: then all room is there, and each more forgets one.
-    fn before(self) -> u32 {
-        2 * self.held
-    }
-
-    /// So many are timed: those of a lifetime, or some more.
-    fn timed(self) -> u32 {
-        self.held.next_multiple_of(TOGETHER).max(4 * TOGETHER)
-    }
 }
 
 /// A row of the table.
@@ -77,12 +53,11 @@ impl Row {
     /// timings counts.
     fn time(&self, layer: Layer) -> f64 {
         let pace = self.pace;
-        let mut times = vec![u64::MAX; (pace.timed() / TOGETHER) as usize];
-        for _ in 0..timings(pace.held) {
-            let sum = layer(black_box(pace), pace.before(), TOGETHER, &mut times);
-            assert_eq!(sum, 4 * u64::from(pace.before() + pace.timed()));
-        }
-        times.into_iter().sum::<u64>() as f64 / f64::from(pace.timed())
+        let before = before(pace.held);
+        mean(pace.held, timings(pace.held), |times| {
+            let sum = layer(black_box(pace), before, TOGETHER, times);
+            assert_eq!(sum, 4 * u64::from(before + timed(pace.held)));
+        })
     }
 
     pub fn remembers(&self, held: u32) -> bool {
@@ -90,23 +65,19 @@ impl Row {
     }
 
     pub fn print(&self) {
-        let name = self.name;
-        let [proved, plain] = [self.time(proved::paced), self.time(plain::paced)];
-        let ratio = proved / plain;
-        println!("| {name} | {proved:.0} | {plain:.0} | {ratio:.2} |");
+        print_row(
+            self.name,
+            [self.time(proved::paced), self.time(plain::paced)],
+        );
     }
 
     /// Does the work once, and reads the clock at its begin and its end alone; prints how many
     /// requests lie between.
     pub fn count(&self, layer: Layer) {
         let pace = self.pace;
-        layer(
-            black_box(pace),
-            pace.before(),
-            pace.timed(),
-            &mut [u64::MAX],
-        );
-        println!("{} requests", pace.timed());
+        let timed = timed(pace.held);
+        layer(black_box(pace), before(pace.held), timed, &mut [u64::MAX]);
+        println!("{timed} requests");
     }
 }
 
@@ -190,10 +161,12 @@ pub fn print_dearest(held: u32) {
 #[test]
 fn both_answer_all() {
     for Row { pace, .. } in rows() {
-        let len = (pace.timed() / TOGETHER) as usize;
+        let before = before(pace.held);
         for layer in [proved::paced, plain::paced] {
-            let sum = layer(pace, pace.before(), TOGETHER, &mut vec![0; len]);
-            assert_eq!(sum, 4 * u64::from(pace.before() + pace.timed()));
+            mean(pace.held, 1, |times| {
+                let sum = layer(pace, before, TOGETHER, times);
+                assert_eq!(sum, 4 * u64::from(before + timed(pace.held)));
+            });
         }
     }
 }

@@ -1,10 +1,11 @@
 //! Times the proved message layer and a plain one on the same datagrams, and prints a table.
 
 mod forgetting;
-mod memory;
 mod plain;
 mod proved;
 
+use bench_common::memory;
+use bench_common::table::{print_head, print_row};
 use std::hint::black_box;
 use std::time::Instant;
 
@@ -79,10 +80,7 @@ impl Row {
     }
 
     fn print(&self) {
-        let name = self.name;
-        let [proved, plain] = self.steps();
-        let ratio = proved / plain;
-        println!("| {name} | {proved:.0} | {plain:.0} | {ratio:.2} |");
+        print_row(self.name, self.steps());
     }
 }
 
@@ -128,8 +126,7 @@ fn time_all() {
     for _ in 0..TIMINGS {
         rows.iter_mut().for_each(Row::time);
     }
-    println!("| nanoseconds | proved | plain Rust | ratio |");
-    println!("|---|---:|---:|---:|");
+    print_head("nanoseconds");
     rows.iter().for_each(Row::print);
     forgetting::rows().iter().for_each(forgetting::Row::print);
     println!("\n| microseconds of the dearest datagram | proved | plain Rust |");
@@ -170,6 +167,16 @@ fn print_forgetting(held: &str) {
         .for_each(forgetting::Row::print);
 }
 
+/// Has a layer remember so many messages with replies of so many bytes, and prints what each takes of memory.
+fn print_kept(count: &str, len: &str) {
+    let cells = format!("{count} | {len}");
+    let count: u32 = count.parse().expect("how many messages");
+    let reply = vec![0x60; len.parse().expect("how many bytes a reply has")];
+    memory::print(&cells, count, || {
+        assert_eq!(proved::keep(count, &reply), u64::from(count));
+    });
+}
+
 fn main() {
     let words: Vec<String> = std::env::args().skip(1).collect();
     match words.as_slice() {
@@ -178,7 +185,7 @@ fn main() {
         [word, held] if word == "dearest" => {
             forgetting::print_dearest(held.parse().expect("how many are remembered"));
         }
-        [word, count, len] if word == "keep" => memory::print(count, len),
+        [word, count, len] if word == "keep" => print_kept(count, len),
         [row, layer] => repeat(row, layer),
         _ => panic!(
             "forgetting HELD, dearest HELD, ROW proved, ROW plain, keep COUNT LEN, or nothing"

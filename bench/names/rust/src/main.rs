@@ -1,7 +1,8 @@
 //! Times the calls of a table of names, and prints tables.
 
-mod memory;
 mod proved;
+
+use bench_common::memory;
 
 /// So many places a table has.
 const PLACES: [u32; 3] = [4_096, 65_536, 1_048_576];
@@ -60,11 +61,19 @@ fn time_all() {
     println!("| a datagram from a new peer, a place is free |{cells}");
 }
 
+/// Fills a table of so many places, and prints what each takes of memory.
+fn print_kept(places: &str) {
+    let count: u32 = places.parse().expect("how many places");
+    memory::print(places, count, || {
+        assert_eq!(proved::keep(count), u64::from(count));
+    });
+}
+
 fn main() {
     let words: Vec<String> = std::env::args().skip(1).collect();
     match words.as_slice() {
         [] => time_all(),
-        [keep, places] if keep == "keep" => memory::print(places),
+        [keep, places] if keep == "keep" => print_kept(places),
         _ => panic!("no words, or `keep` and a number of places"),
     }
 }

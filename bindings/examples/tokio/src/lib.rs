@@ -12,6 +12,7 @@
 
 mod client;
 mod error;
+pub mod exchange;
 mod server;
 
 pub use client::{Client, Observation};

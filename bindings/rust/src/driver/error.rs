@@ -1,5 +1,7 @@
 //! What goes wrong.
 
+use crate::exchange::blocks::FetchError;
+use crate::exchange::{AskError, Message};
 use crate::{CallError, Code, NewError, Report};
 use std::fmt;
 
@@ -54,6 +56,90 @@ impl From<Report> for Error {
             Report::Ended(code) => Error::Ended(code),
             other => Error::PerhapsApplied(other),
         }
+    }
+}
+
+/// Why a request of the exchange door has no response.
+#[derive(Clone, Debug, PartialEq, Eq)]
+#[non_exhaustive]
+pub enum NoAnswer {
+    /// It was not sent.
+    Refused(AskError),
+    /// No acknowledgement came. The server may have handled it.
+    Timeout,
+    /// The server rejected it by a Reset.
+    Reset,
+    /// It was acknowledged, but no response came. The server may have handled it.
+    NoResponse,
+}
+
+impl fmt::Display for NoAnswer {
+    fn fmt(&self, f: &mut fmt::Formatter<'_>) -> fmt::Result {
+        match self {
+            NoAnswer::Refused(why) => write!(f, "refused: {why}"),
+            NoAnswer::Timeout => f.write_str("no acknowledgement came"),
+            NoAnswer::Reset => f.write_str("the server rejected it"),
+            NoAnswer::NoResponse => f.write_str("it was acknowledged, but no response came"),
+        }
+    }
+}
+
+impl std::error::Error for NoAnswer {
+    fn source(&self) -> Option<&(dyn std::error::Error + 'static)> {
+        match self {
+            NoAnswer::Refused(why) => Some(why),
+            _ => None,
+        }
+    }
+}
+
+impl From<AskError> for NoAnswer {
+    fn from(why: AskError) -> NoAnswer {
+        NoAnswer::Refused(why)
+    }
+}
+
+/// Why a body is not fetched.
+#[derive(Clone, Debug, PartialEq, Eq)]
+#[non_exhaustive]
+pub enum NoBody {
+    /// A block has no response.
+    NoAnswer(NoAnswer),
+    /// The response is no 2.05.
+    Response(Message),
+    /// The blocks make no body.
+    Blocks(FetchError),
+}
+
+impl fmt::Display for NoBody {
+    fn fmt(&self, f: &mut fmt::Formatter<'_>) -> fmt::Result {
+        match self {
+            NoBody::NoAnswer(why) => why.fmt(f),
+            NoBody::Response(response) => write!(f, "the response is {}", response.code()),
+            NoBody::Blocks(why) => why.fmt(f),
+        }
+    }
+}
+
+impl std::error::Error for NoBody {
+    fn source(&self) -> Option<&(dyn std::error::Error + 'static)> {
+        match self {
+            NoBody::NoAnswer(why) => Some(why),
+            NoBody::Blocks(why) => Some(why),
+            NoBody::Response(_) => None,
+        }
+    }
+}
+
+impl From<NoAnswer> for NoBody {
+    fn from(why: NoAnswer) -> NoBody {
+        NoBody::NoAnswer(why)
+    }
+}
+
+impl From<FetchError> for NoBody {
+    fn from(why: FetchError) -> NoBody {
+        NoBody::Blocks(why)
     }
 }
 

@@ -10,7 +10,7 @@ use Rattle.coap_layer.specs.Trace.{Packet}
 use Rattle.coap_client.specs.Trace as C
 use Rattle.coap_server.specs.Trace as S
 use Rattle.coap_promise.specs.Delivery.{FedToServer, FedToClient}
-use Rattle.coap_record.specs.Events.{Deliver}
+use Rattle.coap_record.specs.Events.{Config, Deliver}
 use Rattle.coap_record.specs.Legal.{AllLegal}
 use Rattle.coap_smooth.specs.Prompt.{FedWithin, AllPrompt}
 use Rattle.coap_record.specs.Record.{Given, Entry, OfClient, OfServer, Turn, IsNumber, IsOne, OnClient, OnServer}
@@ -68,32 +68,35 @@ AllMade addresses turns = Always (λ past t. Makes addresses past t.event.at t.e
     t.entries) turns
 
 -- the turn in which the datagram of a number is delivered
-module _ (addresses : Addresses) (two : addresses.client ≡ addresses.server → ⊥) (number : ℕ) (turn : Turn)
+module _ (config : Config) (two : config.addresses.client ≡ config.addresses.server → ⊥) (number : ℕ) (turn : Turn)
     (past : List Turn)
-    (made : Makes addresses past turn.event.at turn.event.word turn.event.what turn.refused turn.entries)
-    (legal : AllLegal addresses (turn ∷ past)) (goes : GoesSmoothly addresses past turn)
+    (made : Makes config.addresses past turn.event.at turn.event.word turn.event.what turn.refused turn.entries)
+    (legal : AllLegal config.addresses (turn ∷ past)) (goes : GoesSmoothly config past turn)
     (is : turn.event.what ≡ Deliver number) where
-  pub makes : Makes addresses past turn.event.at turn.event.word (Deliver number) false turn.entries
-  makes = subst (λ r. Makes addresses past turn.event.at turn.event.word (Deliver number) r turn.entries) goes.all_made
-      (subst (λ w. Makes addresses past turn.event.at turn.event.word w turn.refused turn.entries) is made)
+  pub makes : Makes config.addresses past turn.event.at turn.event.word (Deliver number) false turn.entries
+  makes = subst (λ r. Makes config.addresses past turn.event.at turn.event.word (Deliver number) r turn.entries)
+      goes.all_made
+      (subst (λ w. Makes config.addresses past turn.event.at turn.event.word w turn.refused turn.entries) is made)
 
   -- its moment, where it comes in time
   pub times : (Fed : Entry → Type 0) → turn.event.at ≤ makes.0.at + max_age → Ever Fed turn.entries
       → FedWithin Fed makes.0 past turn
   times Fed soon fed =
-      let before = not_later addresses past turn.event.at makes.0 legal.1 legal.0.later
-      (Ever_of_Sometime _ (λ h. h ≡ makes.0) (λ b h k. inl k.0) (all_of (given_in addresses) past) makes.1) in
+      let before = not_later config.addresses past turn.event.at makes.0 legal.1 legal.0.later
+      (Ever_of_Sometime _ (λ h. h ≡ makes.0) (λ b h k. inl k.0) (all_of (given_in config.addresses) past) makes.1) in
       record { fed = fed; from = before; till = soon }
 
   -- where it is for the server, and for the client
-  pub to_server : (g : Given) → turn.event.at ≤ makes.0.at + max_age → makes.0 ≡ g → g.packet.to ≡ addresses.server
+  pub to_server : (g : Given) → turn.event.at ≤ makes.0.at + max_age → makes.0 ≡ g
+      → g.packet.to ≡ config.addresses.server
       → FedWithin (FedToServer g.from g.packet.bytes) g past turn
   to_server g soon same to = subst (λ (x : Given). FedWithin (FedToServer x.from x.packet.bytes) x past turn) same
       (⊎_elim (λ d. times (FedToServer makes.0.from makes.0.packet.bytes) soon
       (fed_server makes.0.from makes.0.packet.bytes turn.event.at turn.event.word d.1 turn.entries d.2 d.3))
       (λ d. absurd (two (sym d.0 ∙ (ap (λ (x : Given). x.packet.to) same ∙ to)))) makes.2)
 
-  pub to_client : (g : Given) → turn.event.at ≤ makes.0.at + max_age → makes.0 ≡ g → g.packet.to ≡ addresses.client
+  pub to_client : (g : Given) → turn.event.at ≤ makes.0.at + max_age → makes.0 ≡ g
+      → g.packet.to ≡ config.addresses.client
       → FedWithin (FedToClient g.from g.packet.bytes) g past turn
   to_client g soon same to = subst (λ (x : Given). FedWithin (FedToClient x.from x.packet.bytes) x past turn) same
       (⊎_elim (λ d. absurd (two (sym (ap (λ (x : Given). x.packet.to) same ∙ to) ∙ d.0)))
@@ -106,52 +109,53 @@ module _ (addresses : Addresses) (two : addresses.client ≡ addresses.server �
       goes.in_time number makes.0 makes.1 (⊎_elim (λ d. inr d.0) (λ d. inl d.0) makes.2) late
 
 -- of the turns in which it is delivered, one that is in time
-module _ (addresses : Addresses) (two : addresses.client ≡ addresses.server → ⊥) (whole : List Turn) (number : ℕ)
-    (g : Given) (is : IsNumber addresses number g whole) where
+module _ (config : Config) (two : config.addresses.client ≡ config.addresses.server → ⊥) (whole : List Turn)
+    (number : ℕ) (g : Given) (is : IsNumber config.addresses number g whole) where
   delivered : (P : List Turn → Turn → Type 0)
       → ((turn : Turn) (past : List Turn)
-      (made : Makes addresses past turn.event.at turn.event.word turn.event.what turn.refused turn.entries)
-      (legal : AllLegal addresses (turn ∷ past)) (goes : GoesSmoothly addresses past turn)
+      (made : Makes config.addresses past turn.event.at turn.event.word turn.event.what turn.refused turn.entries)
+      (legal : AllLegal config.addresses (turn ∷ past)) (goes : GoesSmoothly config past turn)
       (w : turn.event.what ≡ Deliver number)
-      → turn.event.at ≤ (makes addresses two number turn past made legal goes w).0.at + max_age
-      → (makes addresses two number turn past made legal goes w).0 ≡ g → P past turn)
-      → (r : List Turn) → ((x : Given) → IsNumber addresses number x r → IsNumber addresses number x whole)
-      → AllMade addresses r → AllLegal addresses r
-      → Always (GoesSmoothly addresses) r → WasDelivered number r → Sometime P r
+      → turn.event.at ≤ (makes config two number turn past made legal goes w).0.at + max_age
+      → (makes config two number turn past made legal goes w).0 ≡ g → P past turn)
+      → (r : List Turn)
+      → ((x : Given) → IsNumber config.addresses number x r → IsNumber config.addresses number x whole)
+      → AllMade config.addresses r → AllLegal config.addresses r
+      → Always (GoesSmoothly config) r → WasDelivered number r → Sometime P r
   delivered P f [] lift made legal goes h = absurd h
   delivered P f (turn ∷ past) lift made legal goes (inl w) =
-      let m = makes addresses two number turn past made.0 legal goes.0 w in
+      let m = makes config two number turn past made.0 legal goes.0 w in
       ⊎_elim
       (λ soon. inl (f turn past made.0 legal goes.0 w soon (number_unique number m.0 g
-      (all_of (given_in addresses) whole)
-      (lift m.0 (Sometime_back _ (given_in addresses turn) (all_of (given_in addresses) past) m.1)) is)))
-      (λ late. inr (delivered P f past (λ x k. lift x (Sometime_back _ (given_in addresses turn)
-      (all_of (given_in addresses) past) k))
-      made.1 legal.1 goes.1 (came_before addresses two number turn past made.0 legal goes.0 w late)))
+      (all_of (given_in config.addresses) whole)
+      (lift m.0 (Sometime_back _ (given_in config.addresses turn) (all_of (given_in config.addresses) past) m.1)) is)))
+      (λ late. inr (delivered P f past (λ x k. lift x (Sometime_back _ (given_in config.addresses turn)
+      (all_of (given_in config.addresses) past) k))
+      made.1 legal.1 goes.1 (came_before config two number turn past made.0 legal goes.0 w late)))
       (in_or_late turn.event.at (m.0.at + max_age))
   delivered P f (turn ∷ past) lift made legal goes (inr h) =
-      inr (delivered P f past (λ x k. lift x (Sometime_back _ (given_in addresses turn)
-      (all_of (given_in addresses) past) k)) made.1 legal.1
+      inr (delivered P f past (λ x k. lift x (Sometime_back _ (given_in config.addresses turn)
+      (all_of (given_in config.addresses) past) k)) made.1 legal.1
       goes.1 h)
 
-pub all_prompt : (addresses : Addresses) → (addresses.client ≡ addresses.server → ⊥) → (turns : List Turn)
-    → AllMade addresses turns → AllLegal addresses turns → Always (GoesSmoothly addresses) turns
-    → AllPrompt addresses turns
-all_prompt addresses two [] made legal goes = tt
-all_prompt addresses two (turn ∷ past) made legal goes = (
+pub all_prompt : (config : Config) → (config.addresses.client ≡ config.addresses.server → ⊥) → (turns : List Turn)
+    → AllMade config.addresses turns → AllLegal config.addresses turns → Always (GoesSmoothly config) turns
+    → AllPrompt config.addresses turns
+all_prompt config two [] made legal goes = tt
+all_prompt config two (turn ∷ past) made legal goes = (
   record {
     server = λ g h to late.
-        (let k = numbered g (all_of (given_in addresses) past) h in
-        delivered addresses two past k.0 g k.1 (FedWithin (FedToServer g.from g.packet.bytes) g)
-        (λ t p m l s w soon same. to_server addresses two k.0 t p m l s w g soon same to) past (λ x y. y) made.1 legal.1
+        (let k = numbered g (all_of (given_in config.addresses) past) h in
+        delivered config two past k.0 g k.1 (FedWithin (FedToServer g.from g.packet.bytes) g)
+        (λ t p m l s w soon same. to_server config two k.0 t p m l s w g soon same to) past (λ x y. y) made.1 legal.1
         goes.1
         (goes.0.in_time k.0 g k.1 (inr to) late));
     client = λ g h to late.
-        (let k = numbered g (all_of (given_in addresses) past) h in
-        delivered addresses two past k.0 g k.1 (FedWithin (FedToClient g.from g.packet.bytes) g)
-        (λ t p m l s w soon same. to_client addresses two k.0 t p m l s w g soon same to) past (λ x y. y) made.1 legal.1
+        (let k = numbered g (all_of (given_in config.addresses) past) h in
+        delivered config two past k.0 g k.1 (FedWithin (FedToClient g.from g.packet.bytes) g)
+        (λ t p m l s w soon same. to_client config two k.0 t p m l s w g soon same to) past (λ x y. y) made.1 legal.1
         goes.1
         (goes.0.in_time k.0 g k.1 (inl to) late));
   },
-  all_prompt addresses two past made.1 legal.1 goes.1,
+  all_prompt config two past made.1 legal.1 goes.1,
 )

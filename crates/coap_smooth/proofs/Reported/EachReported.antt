@@ -22,6 +22,7 @@ use Rattle.coap_smooth.specs.Young.{AreYoung}
 use Rattle.coap_smooth.proofs.Reported.InTurn.{AreQuiet, IsReported}
 use Rattle.coap_smooth.proofs.Reported.NoneBad.{NoneBad, none_bad}
 use Rattle.coap_smooth.proofs.Reported.Since.{Goes, way, client_join, too_late, in_bound, one_more, begins}
+use Rattle.coap_smooth.proofs.Reported.Since.{reported_or_not}
 use Rattle.coap_smooth.proofs.Reports.ByAnswer.{Answering}
 use Rattle.coap_smooth.proofs.Smoothly.Ticks.NothingIsLeft.{Stands, before}
 
@@ -94,34 +95,45 @@ module _ (config : Config) where
           is = by k.was k.is;
         }
       where
+        still_told : IsReported config x.number (calls past)
+            → IsReported config x.number (calls (turn ∷ past))
+            ⊎ Goes config x.number at (others + further) (turn ∷ past)
+        still_told told =
+            inl (subst (IsReported config x.number) (sym (client_join turn.entries (entries_of past)))
+            (Sometime_back _ (client_of turn.entries) (calls past) told))
+
         by : WasTaken x (calls past) → IsReported config x.number (calls past)
             ⊎ Goes config x.number at (others + h.0) past
             → IsReported config x.number (calls (turn ∷ past))
             ⊎ Goes config x.number at (others + further) (turn ∷ past)
-        by was (inl told) =
-            inl (subst (IsReported config x.number) (sym (client_join turn.entries (entries_of past)))
-            (Sometime_back _ (client_of turn.entries) (calls past) told))
+        by was (inl told) = still_told told
         by was (inr g) =
             let is = h.2 in
             let most : further_in config (client_of turn.entries) (calls past) + (others + h.0) ≡ others + further =
             omega (arith, is) in
-            ⊎_elim (λ told. inl told)
+            ⊎_elim still_told
+            (λ untold. ⊎_elim (λ told. inl told)
             (λ n. inr (subst (λ (i : ℕ). Goes config x.number at i (turn ∷ past)) most n))
-            (one_more config answered turn past s young q x was at (others + h.0) g)
+            (one_more config answered turn past s young q x was untold at (others + h.0) g))
+            (reported_or_not config x.number (calls past))
 
     reported_here : (turn : Turn) (past : List Turn) → Stands config (turn ∷ past) → AreYoung config (turn ∷ past)
         → AreQuiet config (calls (turn ∷ past)) → (x : Taken) (at others further : ℕ)
         → TakenSince config x at others further past → at + most_ms config others further + 1 ≤ turn.event.at
         → IsReported config x.number (calls past)
     reported_here turn past s young q x at others further h late =
-        by (known past (before config turn past s) young.1 (quiet_before turn past q) x at others further h).is
+        let k = known past (before config turn past s) young.1 (quiet_before turn past q) x at others further h in
+        by k.was (reported_or_not config x.number (calls past)) k.is
       where
-        by : IsReported config x.number (calls past) ⊎ Goes config x.number at (others + further) past
+        by : WasTaken x (calls past)
+            → IsReported config x.number (calls past) ⊎ (IsReported config x.number (calls past) → ⊥)
+            → IsReported config x.number (calls past) ⊎ Goes config x.number at (others + further) past
             → IsReported config x.number (calls past)
-        by (inl told) = told
-        by (inr g) =
+        by was (inl told) k = told
+        by was (inr untold) (inl told) = told
+        by was (inr untold) (inr g) =
             absurd (too_late turn.event.at (at + (1 + (others + further)) * way config)
-            (in_bound config answered turn past s young (quiet_before turn past q) x.number at (others + further) g)
+            (in_bound config answered turn past s young (quiet_before turn past q) x was untold at (others + further) g)
             late)
 
     pub each_reported : (turns : List Turn) → Stands config turns → AreYoung config turns

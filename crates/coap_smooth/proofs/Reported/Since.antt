@@ -22,10 +22,12 @@ use Rattle.coap_client_laws.proofs.Facts.Exchanges.{open_runs}
 use Rattle.coap_record.specs.Events.{Config, What, TickClient}
 use Rattle.coap_record.specs.Record.{Entry, OfClient, OfServer, Turn, entries_of, client_of}
 use Rattle.coap_smooth.specs.Reported.{unfinished, further_in}
-use Rattle.coap_smooth.specs.Smooth.{max_age}
+use Rattle.coap_record.specs.Legal.{NotBefore}
+use Rattle.coap_smooth.specs.Smooth.{max_age, ClientRests, HasRested, HasTicked}
 use Rattle.coap_smooth.specs.Young.{max_open, AreYoung}
 use Rattle.coap_smooth.proofs.Reported.InTurn.{InTurn, in_all, sent_in, IsReported, AreQuiet, go_on, plain_of}
 use Rattle.coap_smooth.proofs.Reported.InTurn.{linked_of}
+use Rattle.coap_smooth.proofs.Reported.NeverRests.{never_rests}
 use Rattle.coap_smooth.proofs.Reported.OpenNow.{IsOpen, IsShut, open_or_shut, since_by_clock, began_now}
 use Rattle.coap_smooth.proofs.Reported.TakenBy.{CallAlone, taken_by}
 use Rattle.coap_smooth.proofs.Reported.TickOpens.{IsTaking, still_open, was_open, turn_opens}
@@ -93,12 +95,23 @@ module _ (config : Config) where
   abbrev calls : List Turn → List C.Call
   calls turns = client_of (entries_of turns)
 
-  -- no exchange is open, since then at most, and the client did not tick behind that
+  -- after fewer turns than these there is no later moment at which the client had nothing to do
+  abbrev RestsBy : ℕ → List Turn → Type 0
+  RestsBy since past = Always (λ older (u : Turn). (now : ℕ) → NotBefore older now → now ≤ u.event.at
+      → ClientRests config older now → now ≤ since) past
+
+  rests_until : (since : ℕ) (us : List Turn) → Always (λ p (u : Turn). u.event.at ≤ since) us → RestsBy since us
+  rests_until since [] h = tt
+  rests_until since (u ∷ us) h =
+      (λ now behind before_next rests. (let a = h.0 in omega (arith, a, before_next)), rests_until since us h.1)
+
+  -- no exchange is open, since then at most, and after that the client did not tick, and had something to do
   pub record Rests (till : ℕ) (past : List Turn) : Type 0 where
     since : ℕ
     soon : since ≤ till
     shut : IsShut config.client_sizes (calls past)
     ticks : Always (λ older (u : Turn). u.event.what ≡ TickClient → u.event.at ≤ since) past
+    rests : RestsBy since past
 
   -- it waits, or runs
   pub record Goes (number at most : ℕ) (past : List Turn) : Type 0 where
@@ -132,7 +145,7 @@ module _ (config : Config) where
       → ReportedNow number t c → ⊥
   none_now number t c is k = let z = sym is ∙ k.2.made in cc z
 
-  reported_or_not : (number : ℕ) (t : List C.Call) → IsReported config number t ⊎ (IsReported config number t → ⊥)
+  pub reported_or_not : (number : ℕ) (t : List C.Call) → IsReported config number t ⊎ (IsReported config number t → ⊥)
   reported_or_not number [] = inr (λ h. h)
   reported_or_not number (c ∷ t) = by (reports (own_of config.client_sizes t) c) refl (reported_or_not number t)
     where
@@ -154,9 +167,29 @@ module _ (config : Config) where
       → AreAnswered server sizes setup t) where
     -- the next event comes soon
     pub next_soon : (turn : Turn) (past : List Turn) → Stands config (turn ∷ past) → AreYoung config (turn ∷ past)
-        → (number at most : ℕ) (g : Goes number at most past) → turn.event.at ≤ at + g.sent * way + max_age
-    next_soon turn past s young number at most g = by g.rest
+        → AreQuiet config (calls past) → (x : Taken) → WasTaken x (calls past)
+        → (IsReported config x.number (calls past) → ⊥)
+        → (at most : ℕ) (g : Goes x.number at most past) → turn.event.at ≤ at + g.sent * way + max_age
+    next_soon turn past s young quiet x was untold at most g = by g.rest
       where
+        -- after these turns it has something to do
+        rested : (us : List Turn) (since next : ℕ)
+            → ((now : ℕ) → NotBefore us now → now ≤ next → ClientRests config us now → now ≤ since)
+            → RestsBy since us → HasRested (ClientRests config) turn.event.at next us
+            → turn.event.at ≤ since + max_age
+        rested [] since next here all h = absurd h
+        rested (u ∷ us) since next here all (inl h) =
+            let a = here h.now h.since h.before h.rests in let b = h.soon in omega (arith, a, b)
+        rested (u ∷ us) since next here all (inr h) = rested us since u.event.at all.0 all.1 h
+
+        rest_soon : (r : Rests (at + g.sent * way) past)
+            → HasRested (ClientRests config) turn.event.at turn.event.at past
+            → turn.event.at ≤ r.since + max_age
+        rest_soon r h =
+            rested past r.since turn.event.at
+            (λ now behind before_next k. absurd (never_rests config answered (calls past) quiet r.shut x was untold now
+            k.0 k.1 k.2)) r.rests h
+
         ticked : (older : List Turn) (since : ℕ)
             → Always (λ p (u : Turn). u.event.what ≡ TickClient → u.event.at ≤ since) older
             → Ever (λ (u : Turn). (u.event.what ≡ TickClient) × (turn.event.at ≤ u.event.at + max_age)) older
@@ -177,35 +210,43 @@ module _ (config : Config) where
         by (inl o) =
             through_open turn.event.at at (g.sent * way) o.0 (max_open config) max_age (young.0 o.0 o.1)
             (g.opened o.0 o.1)
-        by (inr r) = elim s.goes.0.client_ticks [
-          | inl h ↦ through_tick turn.event.at at (g.sent * way) r.since max_age (ticked past r.since r.ticks h) r.soon
-          | inr all ↦ from_start turn.event.at at (g.sent * way) max_age (all_late past all g.old)
+        by (inr r) = elim s.goes.0.client_keeps_up [
+          | inl h ↦ by_tick r h
+          | inr h ↦ through_tick turn.event.at at (g.sent * way) r.since max_age (rest_soon r h) r.soon
         ]
+          where
+            by_tick : (q : Rests (at + g.sent * way) past) → HasTicked TickClient past turn.event.at
+                → turn.event.at ≤ at + g.sent * way + max_age
+            by_tick q (inl h) =
+                through_tick turn.event.at at (g.sent * way) q.since max_age (ticked past q.since q.ticks h) q.soon
+            by_tick q (inr all) = from_start turn.event.at at (g.sent * way) max_age (all_late past all g.old)
 
     -- .. while it isn't reported
     pub in_bound : (turn : Turn) (past : List Turn) → Stands config (turn ∷ past) → AreYoung config (turn ∷ past)
-        → AreQuiet config (calls past) → (number at most : ℕ) (g : Goes number at most past)
+        → AreQuiet config (calls past) → (x : Taken) → WasTaken x (calls past)
+        → (IsReported config x.number (calls past) → ⊥) → (at most : ℕ) (g : Goes x.number at most past)
         → turn.event.at ≤ at + (1 + most) * way
-    in_bound turn past s young quiet number at most g = by g.rest g.turn
+    in_bound turn past s young quiet x was untold at most g = by g.rest g.turn
       where
         by : IsOpen config.client_sizes (calls past) ⊎ Rests (at + g.sent * way) past
-            → InTurn number (own_of config.client_sizes (calls past)) g.sent most
+            → InTurn x.number (own_of config.client_sizes (calls past)) g.sent most
             → turn.event.at ≤ at + (1 + most) * way
         by (inl o) t =
             longer turn.event.at at (g.sent * way) ((1 + most) * way)
             (till_open turn.event.at at (g.sent * way) o.0 (max_open config) (young.0 o.0 o.1) (g.opened o.0 o.1))
-            (more way g.sent (1 + most) (in_all number (own_of config.client_sizes (calls past)) g.sent most t))
+            (more way g.sent (1 + most) (in_all x.number (own_of config.client_sizes (calls past)) g.sent most t))
         by (inr r) (inr now) =
-            let o = linked_of config (calls past) quiet (Calling number now.request now.transfer) now.running in
+            let o = linked_of config (calls past) quiet (Calling x.number now.request now.transfer) now.running in
             absurd (r.shut o.0 o.1)
         by (inr r) (inl w) =
             let few : g.sent ≤ most = (let k = w.few in omega (arith, k)) in
             waits_soon turn.event.at at (g.sent * way) (most * way) ((1 + most) * way) (max_open config) max_age
-            (next_soon turn past s young number at most g) (more way g.sent most few) (once_more way most)
+            (next_soon turn past s young quiet x was untold at most g) (more way g.sent most few) (once_more way most)
 
     -- one turn more
     module _ (turn : Turn) (past : List Turn) (s : Stands config (turn ∷ past)) (young : AreYoung config (turn ∷ past))
-        (quiet : AreQuiet config (calls (turn ∷ past))) (x : Taken) (was : WasTaken x (calls past)) (at most : ℕ)
+        (quiet : AreQuiet config (calls (turn ∷ past))) (x : Taken) (was : WasTaken x (calls past))
+        (untold_then : IsReported config x.number (calls past) → ⊥) (at most : ℕ)
         (g : Goes x.number at most past) where
       abbrev now : List C.Call
       now = client_of turn.entries
@@ -221,6 +262,9 @@ module _ (config : Config) where
 
       quiet_now : AreQuiet config (now ++ old)
       quiet_now = subst (AreQuiet config) joined quiet
+
+      quiet_then : AreQuiet config old
+      quiet_then = Always_back _ now old quiet_now
 
       clock_now : (own_of config.client_sizes (calls (turn ∷ past))).clock ≤ turn.event.at
       clock_now =
@@ -241,7 +285,8 @@ module _ (config : Config) where
           (g.sent * way)
           (sent * way) ((1 + g.sent) * way) (max_open config) max_age
           (since_by_clock config.client_sizes since (calls (turn ∷ past)) o) clock_now
-          (next_soon turn past s young x.number at most g) (more way (1 + g.sent) sent (omega (arith, new)))
+          (next_soon turn past s young quiet_then x was untold_then at most g)
+          (more way (1 + g.sent) sent (omega (arith, new)))
           (once_more way g.sent))
           (λ k. longer (since + max_open config) at (g.sent * way) (sent * way) (g.opened since k) as_long)
           (began_now config since now old (subst (IsOpenSince config.client_sizes since) joined o))
@@ -255,6 +300,11 @@ module _ (config : Config) where
               → Always (λ p (u : Turn). u.event.what ≡ TickClient → u.event.at ≤ turn.event.at) us
           plain [] h = tt
           plain (u ∷ us) h = (λ is. h.0, plain us h.1)
+
+      until_now : Always (λ p (u : Turn). u.event.at ≤ turn.event.at) (turn ∷ past)
+      until_now =
+          let same : turn.event.at ≤ turn.event.at = omega arith in
+          until config.addresses (turn ∷ past) s.legal turn.event.at same
 
       rest : (IsReported config x.number (calls (turn ∷ past)) → ⊥)
           → IsOpen config.client_sizes (calls (turn ∷ past)) ⊎ Rests (at + sent * way) (turn ∷ past)
@@ -273,6 +323,7 @@ module _ (config : Config) where
                     as_long;
                 shut = shut;
                 ticks = all_by_now;
+                rests = rests_until turn.event.at (turn ∷ past) until_now;
               })
           by (inr shut) (inr r) =
               ⊎_elim
@@ -284,6 +335,11 @@ module _ (config : Config) where
                 soon = longer r.since at (g.sent * way) (sent * way) r.soon as_long;
                 shut = shut;
                 ticks = (λ is. absurd (other is), r.ticks);
+                rests = (
+                  λ at_rest behind before_it k. absurd (never_rests config answered old quiet_then r.shut x was
+                      untold_then at_rest k.0 k.1 k.2),
+                  r.rests,
+                );
               }))
               (tick_or_not turn.event.what)
 
@@ -291,8 +347,7 @@ module _ (config : Config) where
           ⊎ Goes x.number at (further_in config now old + most) (turn ∷ past)
       one_more =
           by (reported_or_not x.number (calls (turn ∷ past)))
-          (go_on config x.number g.sent most now old quiet_now (plain_of config old (Always_back _ now old quiet_now))
-          g.turn).1
+          (go_on config x.number g.sent most now old quiet_now (plain_of config old quiet_then) g.turn).1
         where
           by : IsReported config x.number (calls (turn ∷ past)) ⊎ (IsReported config x.number (calls (turn ∷ past)) → ⊥)
               → InTurn x.number (own_of config.client_sizes (now ++ old)) sent (further_in config now old + most)
@@ -406,6 +461,11 @@ module _ (config : Config) where
               ∙ with_one op (own_of config.client_sizes before_it).queue in
               omega (arith, two, behind)
 
+      until_then : Always (λ p (u : Turn). u.event.at ≤ turn.event.at) (turn ∷ past)
+      until_then =
+          let same : turn.event.at ≤ turn.event.at = omega arith in
+          until config.addresses (turn ∷ past) s.legal turn.event.at same
+
       pub begins : Goes x.number turn.event.at others (turn ∷ past)
       begins = by (open_or_shut config.client_sizes before_it)
         where
@@ -430,6 +490,7 @@ module _ (config : Config) where
               soon = omega arith;
               shut = λ since h. shut since (was since h);
               ticks = all_by_then;
+              rests = rests_until turn.event.at (turn ∷ past) until_then;
             });
             old = inl refl;
           }

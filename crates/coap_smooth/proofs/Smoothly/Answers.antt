@@ -1,9 +1,11 @@
+pub mod AnswerBegins
 pub mod AnswerEnds
 pub mod AnswerMade
 pub mod AnswerTaken
 pub mod OneAnswer
 pub mod OneReply
 pub mod OnlyResponses
+pub mod OpenTo
 pub mod SeparateEnds
 pub mod Confirms
 pub mod ConsAnswer

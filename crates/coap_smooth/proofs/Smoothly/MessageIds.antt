@@ -1,3 +1,4 @@
+pub mod FewBefore
 pub mod IdsFree
 pub mod FewHeard
 pub mod HandedBetween

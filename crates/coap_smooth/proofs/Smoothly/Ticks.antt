@@ -1,4 +1,5 @@
 pub mod TicksAnswer
+pub mod KeepsUp
 pub mod TicksInTime
 pub mod TicksLeave
 pub mod NothingIsLeft

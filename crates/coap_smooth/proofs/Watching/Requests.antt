@@ -1,4 +1,5 @@
 pub mod SentForOne
 pub mod AsksAlone
+pub mod NoticesToClient
 pub mod OfIt
 pub mod TakenIn

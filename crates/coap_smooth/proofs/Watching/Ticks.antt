@@ -1,3 +1,4 @@
+pub mod NobodyThen
 pub mod TickTells
 pub mod TellingHeld
 pub mod ToldHeld

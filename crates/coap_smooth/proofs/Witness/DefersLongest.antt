@@ -25,7 +25,7 @@ use Rattle.coap_smooth.proofs.Witness.DefersLongest.Server as server
 use Rattle.coap_smooth.proofs.Witness.SmoothTests.{all_smooth, no_stranger}
 use Rattle.coap_promise.proofs.Facts.Witness.TurnTests.{a_run}
 
-range : IsConfig slowest
+pub range : IsConfig slowest
 range = configured (record { path = t; ms = 10000 } ∷ [])
     (of_one IsDelay (record { path = t; ms = 10000 }) (record { path = t_is; ms = omega arith })) (omega arith)
 
@@ -84,7 +84,7 @@ made =
 
 smooth : Smooth slowest turns
 smooth = record {
-  goes = all_smooth turns refl;
+  goes = all_smooth slowest refl turns refl;
   few_to_client = few_of 0 client_came (client_of (entries_of turns)) (omega arith);
   few_to_server = few_of 0 server_came (server_of (entries_of turns)) (omega arith);
   delays = of_one (λ (d : Delay). d.ms ≤ max_delay) (record { path = t; ms = 10000 }) (omega arith);

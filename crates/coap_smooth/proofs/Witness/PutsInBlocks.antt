@@ -101,7 +101,7 @@ ranges = (range (codes "abcdefghijklmnopq") (bytes_are (codes "abcdefghijklmnopq
 
 smooth : Smooth by_16 turns
 smooth = record {
-  goes = all_smooth turns refl;
+  goes = all_smooth by_16 refl turns refl;
   few_to_client = few_of 0 client_came (client_of (entries_of turns)) (omega arith);
   few_to_server = few_of 0 server_came (server_of (entries_of turns)) (omega arith);
   delays = All-nil (λ (d : Delay). d.ms ≤ max_delay);

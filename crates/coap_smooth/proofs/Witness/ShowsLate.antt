@@ -89,7 +89,7 @@ in_range = ((t_is, omega arith, bytes_are (codes "c") refl), ((t_is, omega arith
 
 smooth : Smooth config turns
 smooth = record {
-  goes = all_smooth turns refl;
+  goes = all_smooth config refl turns refl;
   few_to_client = few_of 0 client_came (client_of (entries_of turns)) (omega arith);
   few_to_server = few_of 0 server_came (server_of (entries_of turns)) (omega arith);
   delays = All-nil (λ (d : Delay). d.ms ≤ max_delay);
@@ -111,7 +111,7 @@ was_shown =
 pub shows_late : ShowsLate
 shows_late = record {
   run = a_run turns refl refl made client.lawful server.lawful config_range in_range refl refl;
-  smooth = record { smooth = smooth; no_stranger = no_stranger turns refl };
+  smooth = record { smooth = smooth; told = inl (no_stranger turns refl) };
   alone = alone_of (client_of (entries_of turns)) refl;
   old = inr (inr (inr (inr (inr (inl (record { moment = refl; held = refl; shown = refl }))))));
   new = inr (inr (inr (inl (record { moment = refl; held = refl; shown = refl }))));

@@ -89,7 +89,7 @@ by_non_range = record {
 
 smooth : Smooth by_non turns
 smooth = record {
-  goes = all_smooth turns refl;
+  goes = all_smooth by_non refl turns refl;
   few_to_client = few_of 0 client_came (client_of (entries_of turns)) (omega arith);
   few_to_server = few_of 0 server_came (server_of (entries_of turns)) (omega arith);
   delays = All-nil (λ (d : Delay). d.ms ≤ max_delay);
@@ -115,7 +115,7 @@ was_shown = inr (inr (inr (inr (inr (inr (inr (inr (inr (inr (inr (inr (inr (inl
 pub shown_plain : ShowsPlain
 shown_plain = record {
   run = a_run turns refl refl made client.lawful server.lawful by_non_range in_range refl refl;
-  smooth = record { smooth = smooth; no_stranger = no_stranger turns refl };
+  smooth = record { smooth = smooth; told = inl (no_stranger turns refl) };
   alone = alone_of (client_of (entries_of turns)) refl;
   short = short_of by_non t (entries_of turns) refl;
   speaks = inl (record {

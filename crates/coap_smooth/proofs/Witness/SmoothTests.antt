@@ -1,12 +1,13 @@
 -- Tests by computation whether turns are smooth.
 use Rattle.std.proofs.Common.{◌≡◌, ◌⊎◌, ◌≤◌, ◌+◌, inl, inr, ⊎_elim, ℕ, nat_le, eqb, Bool, true, false}
-use Rattle.std.proofs.Common.{◌&&◌, ◌||◌, not, List, [], ◌∷◌, length, ap, refl}
+use Rattle.std.proofs.Common.{◌&&◌, ◌||◌, not, List, [], ◌∷◌, length, ap, refl, sym, subst}
 use Rattle.std.proofs.lemmas.Bool.{and_parts, or_cases, eqb-true, leb-true, not-true}
 use Rattle.coap_types.specs.Past.{Ever, Always, all_of}
-use Rattle.coap_record.specs.Events.{What, TickClient, TickServer, Deliver, StrangerToClient, usual_addresses}
+use Rattle.coap_record.specs.Events.{Config, What, TickClient, TickServer, Deliver, StrangerToClient, usual_addresses}
 use Rattle.coap_record.specs.Events.{StrangerToServer}
 use Rattle.coap_record.specs.Record.{Given, Turn, given_in}
-use Rattle.coap_smooth.specs.Smooth.{max_age, WasDelivered, HasTicked, IsOfAnEnd, NoStranger, GoesSmoothly}
+use Rattle.coap_smooth.specs.Smooth.{max_age, WasDelivered, HasTicked, IsOfAnEnd, NoneIsLate, NoStranger}
+use Rattle.coap_smooth.specs.Smooth.{GoesSmoothly}
 use Rattle.coap_smooth.proofs.Witness.SmoothTurns.{none_late}
 
 abbrev is_delivery : ℕ → What → Bool
@@ -40,6 +41,11 @@ in_time past at (g ∷ gs) e =
           (or_cases _ _ k.0),
       in_time past at gs k.1,
     )
+
+pub comes_in_time : (config : Config) → config.addresses ≡ usual_addresses → (past : List Turn) (at : ℕ)
+    → are_in_time past at (all_of (given_in usual_addresses) past) ≡ true → NoneIsLate config.addresses past at
+comes_in_time config same past at e = subst (λ a. NoneIsLate a past at) (sym same)
+    (none_late past at (in_time past at (all_of (given_in usual_addresses) past) e))
 
 abbrev ticks_client : What → Bool
 ticks_client TickClient = true
@@ -98,15 +104,17 @@ is_smooth past t =
     && ((ticks_by ticks_server t.event.at past || are_recent t.event.at past)
     && not t.refused))
 
-goes : (past : List Turn) (t : Turn) → is_smooth past t ≡ true → GoesSmoothly usual_addresses past t
-goes past t e =
+-- (where both ends tick each 1,000 ms)
+goes : (config : Config) → config.addresses ≡ usual_addresses → (past : List Turn) (t : Turn) → is_smooth past t ≡ true
+    → GoesSmoothly config past t
+goes config same past t e =
     let time = and_parts _ _ e in
     let client = and_parts _ _ time.1 in
     let server = and_parts _ _ client.1 in
     record {
-      in_time = none_late past t.event.at (in_time past t.event.at (all_of (given_in usual_addresses) past) time.0);
-      client_ticks = has_ticked ticks_client TickClient is_client t.event.at past client.0;
-      server_ticks = has_ticked ticks_server TickServer is_server t.event.at past server.0;
+      in_time = comes_in_time config same past t.event.at time.0;
+      client_keeps_up = inl (has_ticked ticks_client TickClient is_client t.event.at past client.0);
+      server_keeps_up = inl (has_ticked ticks_server TickServer is_server t.event.at past server.0);
       all_made = not-true t.refused server.1;
     }
 
@@ -114,9 +122,11 @@ abbrev pub are_smooth : List Turn → Bool
 are_smooth [] = true
 are_smooth (t ∷ past) = is_smooth past t && are_smooth past
 
-pub all_smooth : (turns : List Turn) → are_smooth turns ≡ true → Always (GoesSmoothly usual_addresses) turns
-all_smooth [] e = tt
-all_smooth (t ∷ past) e = let k = and_parts _ _ e in (goes past t k.0, all_smooth past k.1)
+pub all_smooth : (config : Config) → config.addresses ≡ usual_addresses → (turns : List Turn)
+    → are_smooth turns ≡ true → Always (GoesSmoothly config) turns
+all_smooth config same [] e = tt
+all_smooth config same (t ∷ past) e =
+    let k = and_parts _ _ e in (goes config same past t k.0, all_smooth config same past k.1)
 
 -- no stranger sends anything
 

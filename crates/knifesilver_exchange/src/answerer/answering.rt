@@ -26,13 +26,15 @@ fn answer(held: &mut Held, asked: &Asked, response: &Response<'_>) -> i32
     ensures named { IsNamed result
         → IsNamedFor result (λ why s. IsAnswerRefused why s asked.now response.now) (Some held.old) }
     ensures kept { result ≢ pos 0 → held.new ≡ held.old }
-    ensures why { IsRefused result → ⊥ }
+    ensures live { Holds (Some held.old) → result ≢ NOT_LIVE }
+    ensures why { IsRefused result → result ≡ NOT_LIVE }
 {
     match held {
         Held::Answerer(server) => match server.answer(asked, response) {
             Ok(()) => NOTHING,
             Err(why) => answer_number(why),
         },
+        _ => NOT_LIVE,
     }
 }
 
@@ -85,14 +87,16 @@ fn defer(held: &mut Held, now: u64, asked: &Asked, delay_ms: u64) -> i32
     ensures full { result ≡ pos 114
         → Made (λ call. call ≡ Defers now asked.now delay_ms false) (Some held.old) (Some held.new) }
     ensures named { IsNamed result → IsNamedFor result (λ why s. IsDeferRefused why s asked.now) (Some held.old) }
-    ensures kept { IsNamed result → result ≢ pos 114 → held.new ≡ held.old }
-    ensures why { IsRefused result → ⊥ }
+    ensures kept { result ≢ pos 0 → result ≢ pos 114 → held.new ≡ held.old }
+    ensures live { Holds (Some held.old) → result ≢ NOT_LIVE }
+    ensures why { IsRefused result → result ≡ NOT_LIVE }
 {
     match held {
         Held::Answerer(server) => match server.defer(Moment(now), asked, delay_ms) {
             Ok(()) => NOTHING,
             Err(why) => answer_number(why),
         },
+        _ => NOT_LIVE,
     }
 }
 
@@ -138,13 +142,15 @@ fn respond(held: &mut Held, asked: &Asked, response: &Response<'_>, word: u64) -
     ensures named { IsNamed result
         → IsNamedFor result (λ why s. IsRespondRefused why s asked.now response.now) (Some held.old) }
     ensures kept { result ≢ pos 0 → held.new ≡ held.old }
-    ensures why { IsRefused result → ⊥ }
+    ensures live { Holds (Some held.old) → result ≢ NOT_LIVE }
+    ensures why { IsRefused result → result ≡ NOT_LIVE }
 {
     match held {
         Held::Answerer(server) => match server.respond(asked, response, word) {
             Ok(_) => NOTHING,
             Err(why) => answer_number(why),
         },
+        _ => NOT_LIVE,
     }
 }
 

@@ -1,28 +1,16 @@
 //! A server is made and freed.
-ghost use Rattle.std.specs.Prelude.{◌≡◌, ◌<◌, ◌≤◌, ◌⊎◌, pos, None, IfSome, IfNone};
+ghost use Rattle.std.specs.Prelude.{◌≡◌, ◌<◌, ◌⊎◌, pos, None};
 ghost use Rattle.knifesilver_exchange.specs.Answers.{IsAnswered, IsRefused};
-ghost use Rattle.knifesilver_exchange.specs.Fresh.{IsFresh, chosen};
+ghost use Rattle.knifesilver_exchange.specs.Fresh.{IsFresh};
 
 use crate::answers::{BAD_REMEMBERED, NO_MEMORY, NOTHING};
 use crate::handle::KsHandle;
 use crate::held::Held;
-use crate::seed::{KsSeed, hash_of};
+use crate::seed::{KsSeed, hash_of, remembered_of};
 use coap_handlers::Responder;
 use coap_layer::Setup;
-use coap_types::{DEFAULT_REMEMBERED, MAX_REMEMBERED, Remembered};
+use coap_types::MAX_REMEMBERED;
 use std::alloc::Global;
-
-// So many messages that are remembered, or the usual number for 0.
-fn remembered_of(remembered: u32) -> Option<Remembered>
-    ensures some { IfSome result (λ r. (remembered ≤ MAX_REMEMBERED) × (r ≡ chosen DEFAULT_REMEMBERED remembered)) }
-    ensures none { IfNone result (MAX_REMEMBERED < remembered) }
-{
-    if remembered == 0 {
-        Some(Remembered::default())
-    } else {
-        Remembered::new(remembered)
-    }
-}
 
 /// Makes a server whose answers the application computes; what the handle held is freed.
 #[unsafe(no_mangle)]

@@ -18,8 +18,9 @@ use std::alloc::Global;
 
 // Whether a notification could be sent there.
 fn ready(held: &Held, now: u64, to: Endpoint) -> i32
-    ensures told { IsIn (MayBeNotified result now to) held.now }
-    ensures answered { IsAnswered result }
+    ensures told { IsAnswered result → IsIn (MayBeNotified result now to) held.now }
+    ensures live { Holds (Some held.now) → result ≢ NOT_LIVE }
+    ensures why { IsRefused result → result ≡ NOT_LIVE }
 {
     match held {
         Held::Answerer(server) => {
@@ -29,6 +30,7 @@ fn ready(held: &Held, now: u64, to: Endpoint) -> i32
                 NOTHING
             }
         }
+        _ => NOT_LIVE,
     }
 }
 
@@ -70,9 +72,11 @@ fn notify(
 ) -> i32
     ensures led { result ≡ pos 0
         → Goes (IsSent now to token.now response.now word id.new) (Some held.old) (Some held.new) }
-    ensures unsent { result ≢ pos 0 → IsIn (IsUnsent result now to token.now response.now) held.old }
+    ensures unsent { IsAnswered result → result ≢ pos 0
+        → IsIn (IsUnsent result now to token.now response.now) held.old }
     ensures kept { result ≢ pos 0 → held.new ≡ held.old }
-    ensures why { IsRefused result → result ≡ NO_MEMORY }
+    ensures live { Holds (Some held.old) → result ≢ NOT_LIVE }
+    ensures why { IsRefused result → IsUsual result }
 {
     match held {
         Held::Answerer(server) => match server.notify(Moment(now), to, token, response, word) {
@@ -82,6 +86,7 @@ fn notify(
             }
             Err(why) => notify_number(why),
         },
+        _ => NOT_LIVE,
     }
 }
 

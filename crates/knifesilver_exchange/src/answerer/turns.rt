@@ -2,13 +2,12 @@
 ghost use Rattle.std.specs.Prelude.{◌≡◌, ◌≢◌, ◌<◌, ◌⊎◌, length, Some};
 ghost use Rattle.knifesilver_exchange.specs.Answers.{IsAnswered, IsRefused, IsUsual};
 ghost use Rattle.knifesilver_exchange.specs.Calls.{IsDue, IsFeed, IsNextOut, IsTick};
-ghost use Rattle.knifesilver_exchange.specs.declared.held.Held.TheVariants.{Answerer as AnswererHeld};
 ghost use Rattle.knifesilver_exchange.specs.Held.{Holds, HoldsIn, IsIn, Made};
 
 use crate::answers::{DONE, NO_MEMORY, NOT_LIVE, NOTHING, SMALL_ROOM};
 use crate::crossing::{KsAddress, KsAsked, KsRequest, endpoint, told_asked, told_request};
 use crate::handle::KsHandle;
-use crate::held::{Held, OurResponder};
+use crate::held::Held;
 use crate::outgoing::give;
 use coap_exchange::Due;
 use coap_types::limits::MAX_MESSAGE_LEN;
@@ -23,7 +22,8 @@ fn feed(held: &mut Held, now: u64, from: Endpoint, datagram: &[u8], request: &mu
     ensures led { IsAnswered result
         → Made (IsFeed now from datagram.now result request.new) (Some held.old) (Some held.new) }
     ensures kept { IsRefused result → held.new ≡ held.old }
-    ensures why { IsRefused result → result ≡ NO_MEMORY }
+    ensures live { Holds (Some held.old) → result ≢ NOT_LIVE }
+    ensures why { IsRefused result → IsUsual result }
 {
     match held {
         Held::Answerer(server) => match server.feed(Moment(now), from, datagram) {
@@ -34,6 +34,7 @@ fn feed(held: &mut Held, now: u64, from: Endpoint, datagram: &[u8], request: &mu
             Ok(None) => NOTHING,
             Err(_lost) => NO_MEMORY,
         },
+        _ => NOT_LIVE,
     }
 }
 
@@ -71,7 +72,8 @@ fn tick(held: &mut Held, now: u64, asked: &mut KsAsked) -> i32
     ensures led { IsAnswered result
         → Made (IsTick now result asked.new) (Some held.old) (Some held.new) }
     ensures kept { IsRefused result → held.new ≡ held.old }
-    ensures why { IsRefused result → result ≡ NO_MEMORY }
+    ensures live { Holds (Some held.old) → result ≢ NOT_LIVE }
+    ensures why { IsRefused result → IsUsual result }
 {
     match held {
         Held::Answerer(server) => match server.tick(Moment(now)) {
@@ -83,6 +85,7 @@ fn tick(held: &mut Held, now: u64, asked: &mut KsAsked) -> i32
             }
             Err(_) => NO_MEMORY,
         },
+        _ => NOT_LIVE,
     }
 }
 
@@ -112,26 +115,21 @@ pub extern "C" fn ks_answerer_tick(
     answer
 }
 
-// The server that is held.
-fn server_of(held: &Held) -> &OurResponder
-    ensures { AnswererHeld result.now ≡ held.now }
-{
-    match held {
-        Held::Answerer(server) => server,
-    }
-}
-
 // Says when the next tick is due.
 fn due(held: &Held, now: u64, at: &mut u64) -> i32
-    ensures due { IsIn (IsDue now result at.new) held.now }
-    ensures answered { IsAnswered result }
+    ensures due { IsAnswered result → IsIn (IsDue now result at.new) held.now }
+    ensures live { Holds (Some held.now) → result ≢ NOT_LIVE }
+    ensures why { IsRefused result → result ≡ NOT_LIVE }
 {
-    match server_of(held).due(Moment(now)) {
-        Some(moment) => {
-            *at = moment.0;
-            DONE
-        }
-        None => NOTHING,
+    match held {
+        Held::Answerer(server) => match server.due(Moment(now)) {
+            Some(moment) => {
+                *at = moment.0;
+                DONE
+            }
+            None => NOTHING,
+        },
+        _ => NOT_LIVE,
     }
 }
 
@@ -167,7 +165,8 @@ fn next_out(held: &mut Held, to: &mut KsAddress, room: &mut [u8], len: &mut usiz
         → Made (IsNextOut result to.new room.new len.new) (Some held.old) (Some held.new) }
     ensures kept { IsRefused result → held.new ≡ held.old }
     ensures small { result ≡ SMALL_ROOM → length room.old < MAX_MESSAGE_LEN }
-    ensures why { IsRefused result → result ≡ SMALL_ROOM }
+    ensures live { Holds (Some held.old) → result ≢ NOT_LIVE }
+    ensures why { IsRefused result → (result ≡ SMALL_ROOM) ⊎ (result ≡ NOT_LIVE) }
 {
     match held {
         Held::Answerer(server) => {
@@ -177,6 +176,7 @@ fn next_out(held: &mut Held, to: &mut KsAddress, room: &mut [u8], len: &mut usiz
                 give(server.next_out(), to, room, len)
             }
         }
+        _ => NOT_LIVE,
     }
 }
 

@@ -88,7 +88,7 @@ ranges = (range, ((t_is, omega arith, bytes_are (codes "hi") refl), tt))
 
 smooth : Smooth slow turns
 smooth = record {
-  goes = all_smooth turns refl;
+  goes = all_smooth slow refl turns refl;
   few_to_client = few_of 0 client_came (client_of (entries_of turns)) (omega arith);
   few_to_server = few_of 0 server_came (server_of (entries_of turns)) (omega arith);
   delays = of_one (λ (d : Delay). d.ms ≤ max_delay) (record { path = t; ms = 1000 }) (omega arith);

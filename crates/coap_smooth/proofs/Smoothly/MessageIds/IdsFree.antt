@@ -1,4 +1,5 @@
--- In a smooth run in which nothing is observed a Message ID is free at each tick of the server.
+-- In a smooth run in which few notifications are sent a Message ID is free after each event; and where nothing is
+-- observed and there is no stranger, none is sent.
 use Rattle.std.proofs.Common.{◌≡◌, inl, inr, ◌≤◌, ◌<◌, ℕ, zero, suc, ◌+◌, max, Bool, true, false, cond, ◌&&◌, Option}
 use Rattle.std.proofs.Common.{Some, None}
 use Rattle.std.proofs.Common.{List, [], ◌∷◌, ◌++◌, map, refl, ap, subst, ◌∙◌, arith}
@@ -37,13 +38,13 @@ use Rattle.coap_promise.proofs.Facts.Requests.OfACall.{Lawful, lawful_back}
 use Rattle.coap_promise.proofs.Facts.Requests.Promised.{lawful}
 use Rattle.coap_smooth.proofs.Smoothly.Arriving.AllTaken.{Goes, goes_before}
 use Rattle.coap_smooth.proofs.Smoothly.Answers.ConsAnswer.{NotifiesTo}
-use Rattle.coap_smooth.proofs.Smoothly.Answers.ConsOfOpen.{calls_before}
 use Rattle.coap_smooth.proofs.Smoothly.Arriving.FewArrive.{few_arrive}
 use Rattle.coap_smooth.proofs.Smoothly.Arriving.HeardClient.{heard_client}
 use Rattle.coap_smooth.proofs.Smoothly.Requests.NoObservers.{none_made}
+use Rattle.coap_smooth.proofs.Smoothly.MessageIds.FewBefore.{notified_back, notices_before}
 use Rattle.coap_smooth.proofs.Smoothly.Ticks.NothingIsLeft.{record_of}
 use Rattle.coap_smooth.proofs.Smoothly.Arriving.ToClient.{HeardClient, heard_before, of_observer, told_observer}
-use Rattle.coap_smooth.proofs.Smoothly.Answers.Young.{front_of}
+use Rattle.coap_smooth.proofs.Smoothly.Answers.OpenTo.{front_of}
 
 -- no notification was sent
 abbrev NoneNotified : List R.Call → Type 0
@@ -112,17 +113,6 @@ ticked s d passed h word id tick none f =
     quiet (S.Replies r) never = tt
     quiet (S.Serves q reply left) never = tt
     quiet (S.Waits q delay) never = tt
-
--- more notifications were sent by more calls
-notified_more : (since : ℕ) (front t : List R.Call)
-    → count_then moment_of notifies since t ≤ count_then moment_of notifies since (front ++ t)
-notified_more since [] t = omega arith
-notified_more since (c ∷ front) t =
-    by (notifies c && is_then since (moment_of (c ∷ (front ++ t)))) (notified_more since front t)
-  where
-    by : (b : Bool) {n k : ℕ} → n ≤ k → n ≤ cond b (1 + k) k
-    by true h = omega (arith, h)
-    by false h = h
 
 -- more messages came by more entries
 pub came_more : (since : ℕ) (front es : List L.Entry) → came since es ≤ came since (front ++ es)
@@ -199,19 +189,7 @@ module _ (config : Config) (observers : (t : List S.Call) → AreObservers confi
       (lower_of config.limits config.server_szx t) (none_here es older observed none before_it c law)
       (none_notified es older observed none before_it)
 
-  -- few so far
-  notified_back : (later t : List S.Call)
-      → FewNotified most_that_come (lower_of config.limits config.server_szx (later ++ t))
-      → FewNotified most_that_come (lower_of config.limits config.server_szx t)
-  notified_back [] t h = h
-  notified_back (c ∷ later) t h = notified_back later t
-      (λ since. (let a = notified_more since (lower (own_of config.limits config.server_szx (later ++ t)) c)
-      (lower_of config.limits config.server_szx (later ++ t)) in
-      let b = h since in omega (arith, a, b)))
-
   module _ (turn : Turn) (past : List Turn) (g : Goes config (turn ∷ past))
-      (observed : AreOfObservations config.client_sizes (client_of (entries_of (turn ∷ past))))
-      (none : Always (λ p d. TakesNoObservation d) (client_of (entries_of (turn ∷ past))))
       (told : FewNotices config (turn ∷ past)) where
     abbrev es : List Entry
     es = entries_of (turn ∷ past)
@@ -223,13 +201,14 @@ module _ (config : Config) (observers : (t : List S.Call) → AreObservers confi
     less : {a b c : ℕ} → a ≤ b → b < c → a < c
     less h l = omega (arith, h, l)
 
-    at_call : (later t : List S.Call) → server_trace config es ≡ later ++ t
-        → NoId config.limits config.server_szx config.server_setup t turn.event.at → ⊥
-    at_call later t is no_id =
+    at_call : (now : ℕ) (later t : List S.Call) → server_trace config es ≡ later ++ t
+        → NoId config.limits config.server_szx config.server_setup t now → ⊥
+    at_call now later t is no_id =
         let law : ServerLaw config.limits config.server_szx config.server_setup t =
         server_facts.back config.limits config.server_szx config.server_setup later t
         (subst (ServerLaw config.limits config.server_szx config.server_setup) is whole.server) in
-        let told_t : FewNotified most_that_come (lower_of config.limits config.server_szx t) = notified_back later t
+        let told_t : FewNotified most_that_come (lower_of config.limits config.server_szx t) =
+        notified_back config later t
         (subst (λ z. FewNotified most_that_come (lower_of config.limits config.server_szx z)) is told) in
         let few = (few_arrive config (turn ∷ past) g.stands g.few_client g.few_server).with_ids_at_server in
         let k = front_of config later t in
@@ -239,32 +218,15 @@ module _ (config : Config) (observers : (t : List S.Call) → AreObservers confi
         less (came_more since k.0 (server_layer config t))
         (subst (λ l. came since l < most_that_come) (far_is config es ∙ all) (few since)) in
         free (lower_of config.limits config.server_szx t) law.exchanges most_that_come
-        (max (clock (server_layer config t)) (max (own_of config.limits config.server_szx t).clock turn.event.at))
+        (max (clock (server_layer config t)) (max (own_of config.limits config.server_szx t).clock now))
         (omega arith) told_t few_t
-        (own_first (clock (server_layer config t)) (own_of config.limits config.server_szx t).clock turn.event.at) no_id
+        (own_first (clock (server_layer config t)) (own_of config.limits config.server_szx t).clock now) no_id
 
-  -- fewer were sent by then
-  told_before : (turn : Turn) (past : List Turn) → FewNotices config (turn ∷ past) → FewNotices config past
-  told_before turn past told =
-      let k = calls_in turn.entries (entries_of past) in
-      notified_back k.0 (server_trace config (entries_of past))
-      (subst (λ z. FewNotified most_that_come (lower_of config.limits config.server_szx z)) k.1 told)
-    where
-      calls_in : (later older : List Entry)
-          → (front : List S.Call) × (server_trace config (later ++ older) ≡ front ++ server_trace config older)
-      calls_in [] older = ([], refl)
-      calls_in (OfClient c ∷ later) older = calls_in later older
-      calls_in (OfServer c ∷ later) older = let k = calls_in later older in (c ∷ k.0, ap (λ t. c ∷ t) k.1)
-
-  pub has_ids : (turns : List Turn) → Goes config turns
-      → AreOfObservations config.client_sizes (client_of (entries_of turns))
-      → Always (λ p d. TakesNoObservation d) (client_of (entries_of turns)) → FewNotices config turns
-      → HasIds config turns
-  has_ids [] g observed none told = tt
-  has_ids (turn ∷ past) g observed none told = (
-    λ what later t is no_id. at_call turn past g observed none told later t is no_id,
-    has_ids past (goes_before config turn past g) (calls_before _ turn.entries (entries_of past) observed)
-        (calls_before _ turn.entries (entries_of past) none) (told_before turn past told),
+  pub has_ids : (turns : List Turn) → Goes config turns → FewNotices config turns → HasIds config turns
+  has_ids [] g told = tt
+  has_ids (turn ∷ past) g told = (
+    λ now later t is no_id. at_call turn past g told now later t is no_id,
+    has_ids past (goes_before config turn past g) (notices_before config turn past told),
   )
 
   -- where there is no stranger none is sent

@@ -48,7 +48,7 @@ module _ (config : Config) where
     pub legal : AllLegal config.addresses turns
     pub client : ForClient (entries_of turns)
     pub server : ForServer (entries_of turns)
-    pub goes : Always (GoesSmoothly config.addresses) turns
+    pub goes : Always (GoesSmoothly config) turns
 
   pub stands : (events : List Event) (turns : List Turn) → RecordOf config events turns → Legal config turns
       → Smooth config turns → Stands turns

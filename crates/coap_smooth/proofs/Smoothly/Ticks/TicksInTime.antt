@@ -1,11 +1,11 @@
--- In a smooth run the server ticks in each 1,000 ms.
+-- Where each end ticks each 1,000 ms, the server ticks less than 1,000 ms after each moment.
 use Rattle.std.proofs.Common.{◌≡◌, ◌⊎◌, inl, inr, ◌≤◌, ◌<◌, ℕ, ◌+◌, List, [], ◌∷◌, arith}
 use Rattle.std.proofs.Math.Decide.{dec_le}
 use Rattle.coap_types.specs.Past.{Ever, Sometime, Always}
 use Rattle.coap_record.specs.Events.{TickServer}
 use Rattle.coap_record.specs.Legal.{AllLegal, NotBefore}
 use Rattle.coap_record.specs.Record.{Turn}
-use Rattle.coap_smooth.specs.Smooth.{max_age, GoesSmoothly}
+use Rattle.coap_smooth.specs.Smooth.{max_age, TicksOften}
 use Rattle.coap_smooth.specs.TicksLeave.{TicksThen, TicksInTime}
 use Rattle.coap_record.specs.declared.addresses.Addresses.{Addresses}
 
@@ -57,12 +57,12 @@ old_before addresses t past when legal (inl h) s = absurd (not_later past legal.
 
 -- the first tick from that moment on is soon
 soon : (addresses : Addresses) (past : List Turn) (when : ℕ) → AllLegal addresses past
-    → Always (GoesSmoothly addresses) past → OldAt when past
+    → TicksOften past → OldAt when past
     → Sometime (TicksSince when) past → Sometime (λ older t. TicksThen when t) past
 soon addresses [] when legal goes old h = h
 soon addresses (t ∷ past) when legal goes old (inr h) =
     inr (soon addresses past when legal.1 goes.1 (old_before addresses t past when legal old h) h)
-soon addresses (t ∷ past) when legal goes old (inl h) = by goes.0.server_ticks
+soon addresses (t ∷ past) when legal goes old (inl h) = by goes.0.1
     (soon addresses past when legal.1 goes.1 before)
   where
     before : OldAt when past
@@ -87,14 +87,14 @@ since past at when late old (inr all) = let k = young past at when old all in ab
 since past at when late old (inl e) =
     elim (last_tick past at when e) [ inl less ↦ absurd (omega (arith, less, late)) | inr k ↦ k ]
 
-pub ticks_soon : (addresses : Addresses) (turn : Turn) (past : List Turn) → AllLegal addresses (turn ∷ past)
-    → Always (GoesSmoothly addresses) (turn ∷ past)
+ticks_soon : (addresses : Addresses) (turn : Turn) (past : List Turn) → AllLegal addresses (turn ∷ past)
+    → TicksOften (turn ∷ past)
     → (when : ℕ) → OldAt when past → when + max_age ≤ turn.event.at → Sometime (λ older t. TicksThen when t) past
 ticks_soon addresses turn past legal goes when old late =
-    soon addresses past when legal.1 goes.1 old (since past turn.event.at when late old goes.0.server_ticks)
+    soon addresses past when legal.1 goes.1 old (since past turn.event.at when late old goes.0.1)
 
-pub ticks_in_time : (addresses : Addresses) (turns : List Turn) → AllLegal addresses turns
-    → Always (GoesSmoothly addresses) turns → TicksInTime turns
+pub ticks_in_time : (addresses : Addresses) (turns : List Turn) → AllLegal addresses turns → TicksOften turns
+    → TicksInTime turns
 ticks_in_time addresses [] legal goes = tt
 ticks_in_time addresses (turn ∷ past) legal goes = (
   λ when old late. Sometime_ever (λ (t : Turn). TicksThen when t) past

@@ -1,7 +1,8 @@
--- In a smooth run a Message ID was free at each tick of the server more than 1,000 ms before an event, whatever is
--- observed: few messages come to the client (RFC 7252, section 4.4).
+-- In a smooth run a Message ID was free for the server after each event more than 1,000 ms before another, whatever is
+-- observed: few notifications are sent, or few messages come to the client and there is no other (RFC 7252, section
+-- 4.4).
 use Rattle.std.proofs.Common.{◌≡◌, ℕ, ◌+◌, ◌≤◌, ◌<◌, max, List, [], ◌∷◌, ◌++◌, refl, ap, sym, subst, ◌∙◌, arith}
-use Rattle.std.proofs.Common.{append_assoc}
+use Rattle.std.proofs.Common.{append_assoc, inl, inr}
 use Rattle.coap_types.specs.Past.{Ever, Always}
 use Rattle.coap_types.proofs.Facts.Traces.{Always_back}
 use Rattle.coap_layer.specs.Channel.{Hop}
@@ -16,24 +17,29 @@ use Rattle.coap_layer.specs.declared.setup.Setup.{Setup}
 use Rattle.coap_layer.proofs.Facts.IdsApart.{ids_apart}
 use Rattle.coap_types.specs.declared.endpoint.Endpoint.{Endpoint}
 use Rattle.coap_types.specs.declared.transmission.TheConstants.{ID_REUSE_AFTER_MS as id_reuse_after}
+use Rattle.coap_exchange.specs.AnswererIds.{IdIsFree}
+use Rattle.coap_exchange.specs.AnswererLaw.{ResponseLaw}
+use Rattle.coap_exchange.specs.AnswererTrace as R
 use Rattle.coap_server.specs.Follows.Attended.{NoId}
 use Rattle.coap_server.specs.Follows.Observes.{AreObservers}
 use Rattle.coap_server.specs.Law.{own_of}
 use Rattle.coap_server.specs.Trace as S
 use Rattle.coap_server_laws.proofs.Facts.Laws as server_facts
-use Rattle.coap_record.specs.Events.{Config, TickServer}
+use Rattle.coap_record.specs.Events.{Config}
 use Rattle.coap_promise.specs.Hops.{hops_of, across, server_asked}
 use Rattle.coap_record.specs.Record.{Entry, OfClient, OfServer, Turn, entries_of, server_trace}
-use Rattle.coap_smooth.specs.Smooth.{max_age, most_that_come, NoStranger}
+use Rattle.coap_smooth.specs.HasIds.{HasIds}
+use Rattle.coap_smooth.specs.Smooth.{max_age, most_that_come, NoStranger, FewTold}
 use Rattle.coap_promise.proofs.Facts.Paced.ChannelAcross.{once_across as channel_across}
 use Rattle.coap_promise.proofs.Facts.Delivery.EntriesInTime.{Every, every_map}
 use Rattle.coap_promise.proofs.Facts.Delivery.HopsAreAChannel as joined
 use Rattle.coap_promise.proofs.Facts.Delivery.HopsAreEntries.{server_layer}
 use Rattle.coap_smooth.proofs.Smoothly.Arriving.AllTaken.{Beneath, Goes, goes_before, taken_here}
 use Rattle.coap_smooth.proofs.Smoothly.Arriving.FewArrive.{few_arrive}
+use Rattle.coap_smooth.proofs.Smoothly.MessageIds.IdsFree.{has_ids}
 use Rattle.coap_smooth.proofs.Smoothly.Ticks.NothingIsLeft.{ran, legal_of, record_of}
-use Rattle.coap_smooth.proofs.Smoothly.Answers.Young.{front_of}
-use Rattle.coap_smooth.specs.HadIds.{HadIds}
+use Rattle.coap_smooth.proofs.Smoothly.Answers.OpenTo.{front_of}
+use Rattle.coap_smooth.specs.HadIds.{HadId, HadIds}
 use Rattle.coap_smooth.proofs.Watching.MessageIds.CountedById.{HandsUpSoon, few_issued}
 use Rattle.coap_smooth.proofs.Watching.Notifications.NumberedComes.{come, IsUp, all_up}
 use Rattle.coap_smooth.proofs.Watching.Notifications.WhatIsNumbered.{of_numbers, up_to, clock_left}
@@ -88,18 +94,17 @@ module _ (config : Config) (laws : IdLaws) (turn : Turn) (past : List Turn) (g :
       (joined.channel config _ past (record_of config past old.stands) (legal_of config past old.stands))))
       (laws.observers config) none
 
-  -- at one of its ticks, behind these calls
-  module _ (newer older : List Turn) (tick : Turn) (is : past ≡ newer ++ tick ∷ older)
-      (then : Goes config (tick ∷ older))
-      (early : tick.event.at + max_age < turn.event.at) (later t : List S.Call)
-      (so_far : server_trace config (tick.entries ++ entries_of older) ≡ later ++ t) where
+  -- after one of them, after these calls
+  module _ (newer older : List Turn) (last : Turn) (is : past ≡ newer ++ last ∷ older)
+      (then : Goes config (last ∷ older)) (early : last.event.at + max_age < turn.event.at) (later t : List S.Call)
+      (so_far : server_trace config (last.entries ++ entries_of older) ≡ later ++ t) where
     abbrev given : List L.Entry
     given = server_layer config t
 
     behind : (front : List L.Entry)
         × (server_layer config (server_trace config (entries_of past)) ≡ front ++ given)
     behind =
-        let k = turns_later config newer (tick ∷ older) in
+        let k = turns_later config newer (last ∷ older) in
         let all : server_trace config (entries_of past) ≡ (k.0 ++ later) ++ t =
         ap (λ ts. server_trace config (entries_of ts)) is ∙ (k.1 ∙ (ap (λ z. k.0 ++ z) so_far
         ∙ sym (append_assoc k.0 later t))) in
@@ -114,22 +119,22 @@ module _ (config : Config) (laws : IdLaws) (turn : Turn) (past : List Turn) (g :
         (server_facts.layer config.limits config.server_szx config.server_setup
         (server_trace config (entries_of past)) old.stands.server))
 
-    by_then : Every (λ (e : L.Entry). e.at ≤ tick.event.at) given
+    by_then : Every (λ (e : L.Entry). e.at ≤ last.event.at) given
     by_then =
-        let whole : List S.Call = server_trace config (entries_of (tick ∷ older)) in
-        let still = (ran config (tick ∷ older) then.stands).still tick.event.at (omega arith) in
+        let whole : List S.Call = server_trace config (entries_of (last ∷ older)) in
+        let still = (ran config (last ∷ older) then.stands).still last.event.at (omega arith) in
         let k = front_of config later t in
-        every_back (λ (e : L.Entry). e.at ≤ tick.event.at) k.0 given
-        (subst (Every (λ (e : L.Entry). e.at ≤ tick.event.at)) (ap (server_layer config) so_far ∙ k.1)
-        (up_to config.server_setup tick.event.at (server_layer config whole)
+        every_back (λ (e : L.Entry). e.at ≤ last.event.at) k.0 given
+        (subst (Every (λ (e : L.Entry). e.at ≤ last.event.at)) (ap (server_layer config) so_far ∙ k.1)
+        (up_to config.server_setup last.event.at (server_layer config whole)
         (server_facts.layer config.limits config.server_szx config.server_setup whole then.stands.server)
-        (clock_left (start config.server_setup) (server_asked config whole) tick.event.at still.server.layer)))
+        (clock_left (start config.server_setup) (server_asked config whole) last.event.at still.server.layer)))
 
     all_come : Every (λ n. Ever (HandsUpSoon n) (come config past)) (numbers given)
     all_come =
         let k = behind in
         of_numbers (λ n. Ever (HandsUpSoon n) (come config past)) given
-        (every_two (λ (e : L.Entry). e.at ≤ tick.event.at) (IsUp config past turn.event.at)
+        (every_two (λ (e : L.Entry). e.at ≤ last.event.at) (IsUp config past turn.event.at)
         (λ (e : L.Entry). (id : ℕ) → e.answer ≡ L.Sent id
         → Ever (HandsUpSoon (record { at = e.at; id = id })) (come config past))
         (λ e till up id answer. up id answer (omega (arith, till, early))) given by_then
@@ -142,12 +147,12 @@ module _ (config : Config) (laws : IdLaws) (turn : Turn) (past : List Turn) (g :
         (every_map (λ (e : L.Entry). e.at ≤ last) (λ (e : L.Entry). (id : ℕ) → e.answer ≡ L.Sent id → e.at ≤ last)
         (λ e till id answer. till) given (up_to config.server_setup last given law le))
 
-    is_free : NoId config.limits config.server_szx config.server_setup t tick.event.at → ⊥
-    is_free no_id =
+    is_free : (now : ℕ) → NoId config.limits config.server_szx config.server_setup t now → ⊥
+    is_free now no_id =
         let m : ManySince (numbers given)
-        (max (clock given) (max (own_of config.limits config.server_szx t).clock tick.event.at)) =
+        (max (clock given) (max (own_of config.limits config.server_szx t).clock now)) =
         laws.held config.server_setup given law
-        (max (clock given) (max (own_of config.limits config.server_szx t).clock tick.event.at)) no_id in
+        (max (clock given) (max (own_of config.limits config.server_szx t).clock now)) no_id in
         let young = m.young in
         let many = m.many in
         let few = few_issued most_that_come m.since (numbers given) (come config past)
@@ -156,21 +161,36 @@ module _ (config : Config) (laws : IdLaws) (turn : Turn) (past : List Turn) (g :
         (few_arrive config past old.stands old.few_client old.few_server).with_ids_at_client in
         absurd (omega (arith, many, few))
 
-  each_tick : (newer rest : List Turn) → past ≡ newer ++ rest → Goes config rest
-      → Always (λ older (tick : Turn). tick.event.what ≡ TickServer → tick.event.at + max_age < turn.event.at
-      → (later t : List S.Call) → server_trace config (tick.entries ++ entries_of older) ≡ later ++ t
-      → NoId config.limits config.server_szx config.server_setup t tick.event.at → ⊥) rest
-  each_tick newer [] is then = tt
-  each_tick newer (tick ∷ older) is then = (
-    λ what early later t so_far no_id. is_free newer older tick is then early later t so_far no_id,
-    each_tick (newer ++ tick ∷ []) older (is ∙ sym (append_assoc newer (tick ∷ []) older))
-        (goes_before config tick older then),
+  each_turn : (newer rest : List Turn) → past ≡ newer ++ rest → Goes config rest → Always (HadId config turn) rest
+  each_turn newer [] is then = tt
+  each_turn newer (last ∷ older) is then = (
+    λ early now later t so_far no_id. is_free newer older last is then early later t so_far now no_id,
+    each_turn (newer ++ last ∷ []) older (is ∙ sym (append_assoc newer (last ∷ []) older))
+        (goes_before config last older then),
   )
 
-pub had_ids : (config : Config) → IdLaws → (turns : List Turn) → Goes config turns → NoStranger turns
+-- where there is no stranger, few messages come to the client
+had_alone : (config : Config) → IdLaws → (turns : List Turn) → Goes config turns → NoStranger turns
     → HadIds config turns
-had_ids config laws [] g none = tt
-had_ids config laws (turn ∷ past) g none = (
-  each_tick config laws turn past g none.1 [] past refl (goes_before config turn past g),
-  had_ids config laws past (goes_before config turn past g) none.1,
+had_alone config laws [] g none = tt
+had_alone config laws (turn ∷ past) g none = (
+  each_turn config laws turn past g none.1 [] past refl (goes_before config turn past g),
+  had_alone config laws past (goes_before config turn past g) none.1,
 )
+
+-- where one is free after each event, it was
+had_all : (config : Config) (top : Turn) (turns : List Turn) → HasIds config turns → Always (HadId config top) turns
+had_all config top [] ids = tt
+had_all config top (turn ∷ past) ids =
+    (λ early now later t so_far no_id. ids.0 now later t so_far no_id, had_all config top past ids.1)
+
+had_still : (config : Config) (turns : List Turn) → HasIds config turns → HadIds config turns
+had_still config [] ids = tt
+had_still config (turn ∷ past) ids = (had_all config turn past ids.1, had_still config past ids.1)
+
+pub had_ids : (config : Config) → IdLaws
+    → ((t : List R.Call) → ResponseLaw config.server_setup t → IdIsFree config.server_setup t) → (turns : List Turn)
+    → Goes config turns → FewTold config turns → HadIds config turns
+had_ids config laws free turns g (inl none) = had_alone config laws turns g none
+had_ids config laws free turns g (inr told) =
+    had_still config turns (has_ids config (laws.observers config) free turns g told)

@@ -89,10 +89,10 @@ module _ (config : Config) (x : Observed) (es : List Entry) (law : Lawful config
 
       pub con_tells : (con : Open) → con.to ≡ config.addresses.client
           → Ever (λ b. begun b ≡ Some con) (server_adds config (server_trace config older) c)
-          → (n : Notice) × (notice c ≡ Some n)
+          → (n : Notice) × (notice c ≡ Some n) × (n.observer.to ≡ config.addresses.client)
       con_tells con to h =
           elim (con_of config.limits config.server_szx config.server_setup (server_trace config older) c con h) [
             | inl r ↦ absurd (none_answered (subst (RespondsTo (own_of config.limits config.server_szx
                 (server_trace config older)) c) to r))
-            | inr n ↦ (n.notice_of, n.here)
+            | inr n ↦ (n.notice_of, n.here, n.there ∙ to)
           ]

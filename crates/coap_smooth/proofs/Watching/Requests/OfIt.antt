@@ -1,10 +1,9 @@
 -- Where the client takes on one observation alone, the server serves its registration and fetches for it alone, and
--- each notification is of it, under the token of that registration (RFC 7641, sections 3.1 and 4.1).
+-- each notification to the client is of it, under the token of that registration (RFC 7641, sections 3.1 and 4.1).
 use Rattle.std.proofs.Common.{◌≡◌, inl, inr, ℕ, ◌==◌, false, Option, Some, None, List, [], ◌∷◌, ◌++◌, map, refl}
 use Rattle.std.proofs.Common.{ap, sym, subst, ◌∙◌}
 use Rattle.coap_types.specs.CoapOption.{CoapOption, option}
 use Rattle.coap_types.specs.declared.option_number.TheConstants.{OBSERVE as observe, URI_PATH as uri_path}
-use Rattle.coap_types.proofs.Facts.Traces.{Ever_map, Ever_of_Since}
 use Rattle.coap_block.specs.declared.fetch_progress.Asked.{Asked}
 use Rattle.coap_observe.specs.Observers.{Observer}
 use Rattle.coap_client_laws.specs.Follows.Notified.{WasRegistered}
@@ -12,32 +11,26 @@ use Rattle.coap_client_laws.specs.Follows.OfObservations.{Observed, observation_
 use Rattle.coap_client.specs.Observations.{fetch_of, observed_path}
 use Rattle.coap_client.specs.Own.{Operation, Fetching, Observation}
 use Rattle.coap_client.specs.Requests.{path_options, block2_option, message_of}
-use Rattle.coap_server_laws.specs.Follows.Begins.{CanNotify}
 use Rattle.coap_server.specs.Follows.Observes.{AreObservers, Notice, notice, WasMade}
 use Rattle.coap_server.specs.Follows.Serves.{Serving}
-use Rattle.coap_server.specs.Law.{ServerLaw, own_of}
 use Rattle.coap_server.specs.Trace as S
-use Rattle.coap_server_laws.proofs.Facts.Laws as server_facts
 use Rattle.coap_smooth.specs.Current.{Alone}
 use Rattle.coap_record.specs.Events.{Config}
 use Rattle.coap_record.specs.Record.{Entry, OfClient, OfServer, Turn, entries_of, client_of, server_trace}
 use Rattle.coap_promise.specs.Words.{ServesAt}
-use Rattle.coap_smooth.specs.Smooth.{NoStranger}
 use Rattle.coap_promise.proofs.Facts.Delivery.EntriesInTime.{Every, every_join}
 use Rattle.coap_promise.proofs.Facts.Reports.AskedBy.{asked_by, registered_by}
 use Rattle.coap_promise.proofs.Facts.Reports.OfObservations.{of_observation}
 use Rattle.coap_promise.proofs.Facts.Requests.OfACall.{Lawful, lawful_back}
 use Rattle.coap_promise.proofs.Facts.Requests.Promised.{lawful}
-use Rattle.coap_smooth.proofs.Smoothly.Answers.ConsAnswer.{NotifiesTo}
 use Rattle.coap_smooth.proofs.Smoothly.Answers.ConsCarry.{IsMessage, was_message}
-use Rattle.coap_smooth.proofs.Smoothly.Answers.ConsOfOpen.{calls_before, of_each}
-use Rattle.coap_smooth.proofs.Smoothly.Arriving.HeardClient.{heard_client}
+use Rattle.coap_smooth.proofs.Smoothly.Answers.ConsOfOpen.{calls_before}
 use Rattle.coap_smooth.proofs.Smoothly.Requests.NoObservers.{observes_none}
 use Rattle.coap_smooth.proofs.Smoothly.Ticks.NothingIsLeft.{Stands, record_of}
-use Rattle.coap_smooth.proofs.Smoothly.Arriving.ToClient.{HeardClient, heard_before, of_observer}
 use Rattle.coap_smooth.specs.NoticesCome.{IsOfIt, NoticesAreOfIt}
 use Rattle.coap_smooth.specs.NoticesTaken.{IsForIt, IsRequestOfIt, RequestsAreOfIt}
 use Rattle.coap_smooth.proofs.Watching.Values.SmoothBefore.{lawful_before, registered_before}
+use Rattle.coap_smooth.proofs.Watching.Requests.NoticesToClient.{notified_made}
 use Rattle.coap_smooth.proofs.Watching.Requests.SentForOne.{one_observed, sent_for_it}
 use Rattle.coap_promise.proofs.Facts.Requests.AtAnyTime.{at_any_time}
 
@@ -57,18 +50,6 @@ no_block (Some a) = (refl, tt)
 fetch_other : (os : List Observation) (n : ℕ) → AreOther (message_of os (Fetching n)).options
 fetch_other os n = every_join (λ (o : CoapOption). (o.number == observe) ≡ false) (path_options (observed_path n os))
     (block2_option (fetch_of n os)) (no_path (observed_path n os)) (no_block (fetch_of n os))
-
--- the call that notifies is a tick
-notified_to : (c : S.Call) (n : Notice) → notice c ≡ Some n → NotifiesTo c n.observer.to
-notified_to (S.Ticks now word below room d passed h id answer) n is = record {
-  now = now;
-  answer = answer;
-  tick = (word, below, room, d, passed, h, id, refl);
-  notice_of = n;
-  here = is;
-  there = refl;
-}
-notified_to _ n is = absurd (cc is)
 
 module _ (config : Config) (x : Observed) where
   -- requests that are served
@@ -138,40 +119,17 @@ module _ (config : Config) (x : Observed) where
               (subst (λ q. AreOther q.options) (sym r) (fetch_other m.observations x.number)) h.made.observe)
 
   module _ (observers : (t : List S.Call) → AreObservers config.limits config.server_szx t) where
-    heard_behind : (later past : List Entry) → HeardClient config observers (server_trace config (later ++ past))
-        → HeardClient config observers (server_trace config past)
-    heard_behind [] past h = h
-    heard_behind (OfClient c ∷ later) past h = heard_behind later past h
-    heard_behind (OfServer c ∷ later) past h = heard_behind later past
-        (heard_before config observers c (server_trace config (later ++ past)) h)
-
-    -- who is notified was registered
-    notified_made : (t : List S.Call) (c : S.Call) (n : Notice) → notice c ≡ Some n
-        → ServerLaw config.limits config.server_szx config.server_setup (c ∷ t)
-        → WasMade config.limits config.server_szx t n.observer
-    notified_made t c n is law =
-        let k = notified_to c n is in
-        let next = ((server_facts.begins config.limits config.server_szx config.server_setup (c ∷ t) law).0 k.now
-        k.answer
-        k.tick).notifies n is in
-        let able = CanNotify config.limits config.server_szx config.server_setup t in
-        let os = (own_of config.limits config.server_szx t).observers in
-        of_each (WasMade config.limits config.server_szx t) n.observer os (observers t).made
-        (Ever_map _ (λ y. y ≡ n.observer) (λ y z. z.0) os
-        (Ever_of_Since (λ y. (y ≡ n.observer) × able y) (λ y. able y → ⊥) os next.first))
-
     notice_here : (past : List Entry) (c : S.Call) → Lawful config (OfServer c ∷ past) → Alone x (client_of past)
-        → HeardClient config observers (server_trace config past) → (n : Notice) → notice c ≡ Some n
+        → (n : Notice) → notice c ≡ Some n → n.observer.to ≡ config.addresses.client
         → IsOfIt config x past n
-    notice_here past c law alone heard n is =
+    notice_here past c law alone n is to =
         let t : List S.Call = server_trace config past in
         let old = lawful_back config past (OfServer c) law in
-        let made = notified_made t c n is law.server in
-        let to = of_observer config observers t old.server heard n.observer made in
+        let made = notified_made config observers t c n is law.server in
         let k = made_of_it n.observer past old alone to made in
         record { to_is = to; path_is = k.path_is; registered = k.registered }
 
-    module _ (turns : List Turn) (s : Stands config turns) (none : NoStranger turns)
+    module _ (turns : List Turn) (s : Stands config turns)
         (alone : Alone x (client_of (entries_of turns))) where
       law_there : (newer older : List Entry) → entries_of turns ≡ newer ++ older → Lawful config older
       law_there newer older split = lawful_before config newer older (subst (Lawful config) split
@@ -181,12 +139,9 @@ module _ (config : Config) (x : Observed) where
       alone_there newer older split = calls_before _ newer older (subst (λ es. Alone x (client_of es)) split alone)
 
       pub notices_are_of_it : NoticesAreOfIt config x (entries_of turns)
-      notices_are_of_it newer older c n split is =
+      notices_are_of_it newer older c n split is to =
           notice_here older c (law_there newer (OfServer c ∷ older) split)
-          (alone_there newer (OfServer c ∷ older) split)
-          (heard_before config observers c (server_trace config older) (heard_behind newer (OfServer c ∷ older)
-          (subst (λ es. HeardClient config observers (server_trace config es)) split
-          (heard_client config observers turns s none)))) n is
+          (alone_there newer (OfServer c ∷ older) split) n is to
 
       pub requests_are_of_it : RequestsAreOfIt config x (entries_of turns)
       requests_are_of_it newer older c r split here from =

@@ -34,7 +34,6 @@ use Rattle.coap_smooth.specs.Current.{Watches, Alone}
 use Rattle.coap_record.specs.Events.{Config}
 use Rattle.coap_record.specs.Record.{Entry, OfClient, OfServer, Turn, entries_of, client_of, server_trace}
 use Rattle.coap_promise.specs.Words.{ReportsAt}
-use Rattle.coap_smooth.specs.Smooth.{NoStranger}
 use Rattle.coap_smooth.proofs.Smoothly.Answers.ConsCarry.{IsMessage, was_message}
 use Rattle.coap_smooth.proofs.Smoothly.Answers.ConsOfOpen.{calls_before}
 use Rattle.coap_smooth.proofs.Smoothly.Ticks.NothingIsLeft.{Stands, before, client_behind, ForClient, ForServer}
@@ -141,12 +140,12 @@ module _ (config : Config) (x : Observed)
       (none_final config x.number older watches.still) m since fed kind w understood
 
   module _ (observers : (t : List S.Call) → AreObservers config.limits config.server_szx t) where
-    taken_there : (past : List Turn) → Stands config past → NoStranger past → Alone x (client_of (entries_of past))
+    taken_there : (past : List Turn) → Stands config past → Alone x (client_of (entries_of past))
         → Watches config x.number (entries_of past) → (newer older : List Entry) (c : S.Call) (n : Notice)
         → entries_of past ≡ newer ++ OfServer c ∷ older
-        → notice c ≡ Some n → NoticeComes config n newer older c
+        → notice c ≡ Some n → n.observer.to ≡ config.addresses.client → NoticeComes config n newer older c
         → NoticeIsTaken config x n newer older c
-    taken_there past s none alone watches newer older c n split is k =
+    taken_there past s alone watches newer older c n split is to k =
         record {
           comes = k;
           taken = responses_are_taken past s alone k.newest behind k.call (notice_message config k.kind k.id older n)
@@ -166,7 +165,7 @@ module _ (config : Config) (x : Observed)
             ∙ append_assoc k.newest (OfClient k.call ∷ k.between) (OfServer c ∷ older))
 
         there : WasRegistered config.client_sizes x.number n.observer.token (client_of older)
-        there = (notices_are_of_it config x observers past s none alone newer older c n split is).registered
+        there = (notices_are_of_it config x observers past s alone newer older c n split is to).registered
 
         understood : lacks_critical Response (notice_message config k.kind k.id older n).options ≡ false
         understood =
@@ -174,15 +173,13 @@ module _ (config : Config) (x : Observed)
             (server_facts.recognised config.limits config.server_szx config.server_setup (c ∷ server_trace config older)
             law s.range.server_szx s.range.server_limit.1).0.notices n is
 
-    pub notices_are_taken : (turns : List Turn) → Stands config turns → NoStranger turns
+    pub notices_are_taken : (turns : List Turn) → Stands config turns
         → Alone x (client_of (entries_of turns)) → AllNoticesCome config turns → Always (NoticesAreTaken config x) turns
-    notices_are_taken [] s none alone come = tt
-    notices_are_taken (turn ∷ past) s none alone come =
+    notices_are_taken [] s alone come = tt
+    notices_are_taken (turn ∷ past) s alone come =
         let old = before config turn past s in
         let alone_there = calls_before _ turn.entries (entries_of past) alone in (
-          λ watches newer older c n split is late. taken_there past old none.1 alone_there watches newer older c n split
-              is
-              (come.0 newer older c n split is
-              (notices_are_of_it config x observers past old none.1 alone_there newer older c n split is).to_is late),
-          notices_are_taken past old none.1 alone_there come.1,
+          λ watches newer older c n split is to late. taken_there past old alone_there watches newer older c n split
+              is to (come.0 newer older c n split is to late),
+          notices_are_taken past old alone_there come.1,
         )

@@ -94,8 +94,8 @@ module _ (laws : ThereLaws) (config : Config) (range : IsConfig config) (x : Obs
     formats = formats_before turn.entries (entries_of past) o.formats;
     alone = calls_before (λ p c. current.is_taken c ≡ true → (observes c ≡ Some x)
         × Always (λ before b. current.is_taken b ≡ false) p) turn.entries (entries_of past) o.alone;
-    of_it = λ newer older c n split here. o.of_it (turn.entries ++ newer) older c n
-        (ap (λ l. turn.entries ++ l) split ∙ sym (append_assoc turn.entries newer (OfServer c ∷ older))) here;
+    of_it = λ newer older c n split here to. o.of_it (turn.entries ++ newer) older c n
+        (ap (λ l. turn.entries ++ l) split ∙ sym (append_assoc turn.entries newer (OfServer c ∷ older))) here to;
     served = Always_back _ turn.entries (entries_of past) o.served;
   }
 
@@ -194,7 +194,7 @@ module _ (laws : ThereLaws) (config : Config) (range : IsConfig config) (x : Obs
             (client_of (k.between ++ OfServer e.call ∷ e.older)))
             e.token_is
             (registered_before config x.number e.told.observer.token k.between (OfServer e.call ∷ e.older)
-            (o.of_it e.newer e.older e.call e.told e.split e.here).registered)
+            (o.of_it e.newer e.older e.call e.told e.split e.here e.to_is).registered)
 
         understood : lacks_critical Response m.options ≡ false
         understood =
@@ -225,6 +225,7 @@ module _ (laws : ThereLaws) (config : Config) (range : IsConfig config) (x : Obs
                 told = e.told;
                 split = e.split;
                 here = e.here;
+                to = e.to_is;
                 gone = e.gone;
                 soon = soon;
               })

@@ -126,7 +126,8 @@ module _ (config : Config) (x : Observed) (all : List Entry) (law : Lawful confi
           by_came (later ++ OfServer c ∷ []) past is_past (OfServer c) a v (law_here.came.0 a v comes r.to_client)
           (r.token_is ∙ same)
       by (notifies o reply told made shows r) =
-          let n = of_it later past c (record { observer = o; reply = reply }) is (as_notice c o reply told) in
+          let n = of_it later past c (record { observer = o; reply = reply }) is (as_notice c o reply told)
+          r.to_client in
           subst (λ t. WasRegistered sizes x.number t (client_of past)) (r.token_is ∙ same) n.registered
 
   pub answered_registered : (later es : List Entry) → all ≡ later ++ es → (m : Message) → m.token ≡ token

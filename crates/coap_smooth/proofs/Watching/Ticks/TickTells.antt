@@ -1,11 +1,11 @@
--- Where a path is settled, its observer was told what it holds 3,001 ms later at the latest: the tick more than 2,000
--- ms behind finds nobody who can be notified.
+-- Where a path is settled, its observer was told what it holds 3,001 ms later at the latest: more than 2,000 ms after
+-- that there is nobody who can be notified.
 use Rattle.std.proofs.Common.{◌≡◌, inl, inr, ⊎_elim, ◌≤◌, ◌<◌, ℕ, ◌+◌, Bool, true, false, Some, List, []}
 use Rattle.std.proofs.Common.{◌∷◌, ◌++◌, refl, ap, sym, subst, ◌∙◌, arith, append_assoc}
 use Rattle.std.proofs.Math.Decide.{dec_le}
 use Rattle.coap_types.specs.Past.{Ever, Sometime, Always}
 use Rattle.coap_types.specs.SameEndpoint.{same_endpoint}
-use Rattle.coap_types.proofs.Facts.Traces.{Always_back, Ever_back, Sometime_back, all_of_append}
+use Rattle.coap_types.proofs.Facts.Traces.{Ever_back, Sometime_back, all_of_append}
 use Rattle.coap_layer.specs.Sends.{IsOpen}
 use Rattle.coap_layer.specs.Trace as L
 use Rattle.coap_layer.specs.Words.{Open, begun, outstanding}
@@ -15,7 +15,6 @@ use Rattle.coap_client_laws.specs.Follows.Newer.{Newly}
 use Rattle.coap_client_laws.specs.Follows.Notified.{newest, WasRegistered}
 use Rattle.coap_client_laws.specs.Follows.OfObservations.{Observed}
 use Rattle.coap_server_laws.specs.Follows.Adds.{call_adds}
-use Rattle.coap_server_laws.specs.Follows.Begins.{NoneToNotify}
 use Rattle.coap_server.specs.Follows.Observes.{Notice}
 use Rattle.coap_server_laws.specs.Follows.Told.{ServesPair}
 use Rattle.coap_server.specs.Law.{own_of}
@@ -28,39 +27,37 @@ use Rattle.coap_record.specs.Record.{Entry, OfClient, OfServer, Turn, entries_of
 use Rattle.coap_record.specs.Record.{Setting, DelayOf, PlainOf, gives_it}
 use Rattle.coap_smooth.specs.Smooth.{max_age}
 use Rattle.coap_smooth.specs.TakenInTime.{TakenInTime}
-use Rattle.coap_smooth.specs.TicksLeave.{TicksThen}
 use Rattle.coap_promise.specs.Words.{holds_at, last_at}
 use Rattle.coap_promise.proofs.Facts.Delivery.HopsAreEntries.{server_layer, far_is}
 use Rattle.coap_promise.proofs.Facts.Observations.Positions.{AtServer, located, server_entries}
 use Rattle.coap_promise.proofs.Facts.Observations.Following.{split}
 use Rattle.coap_promise.proofs.Facts.Observations.ToldThen.{begun_then}
 use Rattle.coap_promise.proofs.Facts.Requests.HoldsChanges.{last_is}
-use Rattle.coap_smooth.proofs.Smoothly.Answers.ConsOfOpen.{of_each, until}
+use Rattle.coap_smooth.proofs.Smoothly.Answers.ConsOfOpen.{of_each}
 use Rattle.coap_smooth.proofs.Smoothly.Requests.RequestOpen.{open_was_begun}
 use Rattle.coap_smooth.proofs.Smoothly.Ticks.NothingIsLeft.{ForServer, ran, server_behind}
-use Rattle.coap_smooth.proofs.Smoothly.Ticks.TicksInTime.{ticks_soon}
-use Rattle.coap_smooth.proofs.Smoothly.Answers.Young.{busy_or_not, open_to}
+use Rattle.coap_smooth.proofs.Smoothly.Ticks.KeepsUp.{keeps_up_soon}
+use Rattle.coap_smooth.proofs.Smoothly.Answers.OpenTo.{busy_or_not, open_to}
 use Rattle.coap_smooth.specs.NoticesCome.{server_moment}
 use Rattle.coap_smooth.specs.StillThere.{WasGone, StillThere}
 use Rattle.coap_smooth.proofs.Watching.Notifications.ConTells.{con_tells, one_token}
 use Rattle.coap_smooth.proofs.Watching.Values.Known.{Known}
 use Rattle.coap_smooth.proofs.Watching.Notifications.Newest.{more_newest, registered}
-use Rattle.coap_smooth.proofs.Watching.Notifications.NobodyLeft.{nobody_left}
+use Rattle.coap_smooth.proofs.Watching.Ticks.NobodyThen.{NobodyThen, by_tick, by_rest}
 use Rattle.coap_smooth.proofs.Watching.Notifications.NoticesTell.{tells_held}
 use Rattle.coap_smooth.proofs.Watching.Values.SmoothBefore.{InFirst, InSecond, in_either, SmoothRun, stands_of}
 use Rattle.coap_smooth.proofs.Watching.Values.SmoothBefore.{lawful_of, run_before}
 use Rattle.coap_smooth.proofs.Watching.Values.SmoothBefore.{run_back}
 use Rattle.coap_smooth.proofs.Watching.Values.SmoothBefore.{registered_before, trace_more, watched_before}
-use Rattle.coap_smooth.proofs.Watching.Values.Settled.{InFront, in_front, next_of, both, HoldsThrough}
+use Rattle.coap_smooth.proofs.Watching.Values.Settled.{both, HoldsThrough}
 use Rattle.coap_smooth.proofs.Watching.Ticks.ToldHeld.{ToldHeld, IsAmong, among, current_told, clock_rises, told_more}
 use Rattle.coap_smooth.proofs.Watching.Values.Unchanged.{still}
 
--- no tick in turns that are no later than this moment is 2,001 ms behind it
-none_then : (at : ℕ) (us : List Turn) → Always (λ past (u : Turn). u.event.at ≤ at) us
-    → Sometime (λ past u. TicksThen (at + 2001) u) us → ⊥
-none_then at [] low h = h
-none_then at (u ∷ us) low (inl h) = let a = h.from in let b = low.0 in omega (arith, a, b)
-none_then at (u ∷ us) low (inr h) = none_then at us low.1 h
+-- the entry that comes next after a position, and what holds of it and of those after it
+next_with : (P : List Turn → Turn → Type 0) (Q : Turn → Type 0) (last : Turn) (front base : List Turn)
+    → Always P (last ∷ (front ++ base)) → Always (λ p e. Q e) (last ∷ front) → (e : Turn) × P base e × Q e
+next_with P Q last [] base all q = (last, all.0, q.0)
+next_with P Q last (e ∷ front) base all q = next_with P Q e front base all.1 q.1
 
 -- what stands at the position since which the path holds this
 pub record Settles (config : Config) (x : Observed) (held : Held) (token : List ℕ) (base : List Turn) : Type 0 where
@@ -74,11 +71,11 @@ pub record Settles (config : Config) (x : Observed) (held : Held) (token : List 
 
 module _ (config : Config) (x : Observed) (held : Held) where
   -- the path holds this behind each of the turns
-  holds_in : (after : List Turn) (t : Turn) (between base : List Turn)
-      → HoldsThrough config x held (after ++ t ∷ between) base
-      → holds_at config x.path (entries_of (t ∷ (between ++ base))) ≡ Some held
-  holds_in [] t between base h = h.0
-  holds_in (a ∷ after) t between base h = holds_in after t between base h.1
+  holds_in : (after front base : List Turn) → HoldsThrough config x held (after ++ front) base
+      → holds_at config x.path (entries_of (front ++ base)) ≡ Some held
+  holds_in [] [] base h = h
+  holds_in [] (t ∷ front) base h = h.0
+  holds_in (a ∷ after) front base h = holds_in after front base h.1
 
   module _ (turn : Turn) (newer : List Turn) (first : Turn) (older : List Turn)
       (k : Known config x turn (newer ++ first ∷ older)) (early : first.event.at + settles ≤ turn.event.at)
@@ -96,44 +93,44 @@ module _ (config : Config) (x : Observed) (held : Held) where
     base_run : SmoothRun config base
     base_run = run_back config newer base (run_before config turn past k.run)
 
-    low : Always (λ p (u : Turn). u.event.at ≤ first.event.at) base
-    low = until config.addresses base base_run.legal.events first.event.at (omega arith)
-
-    -- the tick
-    tick : InFront (λ p u. TicksThen when u) newer base
-    tick = in_front (λ p u. TicksThen when u) newer base
-        (ticks_soon config.addresses turn past k.run.legal.events k.run.smooth.smooth.goes when
+    -- the position after which nobody can be notified
+    rest : NobodyThen config first older turn early turn newer
+    rest =
+        let legal = k.run.legal.events in
+        let standing = stands_of config past (run_before config turn past k.run) in
+        ⊎_elim (λ t. by_tick config first older turn early turn newer legal standing k.ids.0 t)
+        (λ r. by_rest config first older turn early turn newer legal k.ids.0 r)
+        (keeps_up_soon config turn past legal k.run.smooth.smooth.goes when
         (Ever_back (λ (t : Turn). t.event.at < when) newer base (inl (omega arith))) (omega (arith, early)))
-        (none_then first.event.at base low)
 
     abbrev now : List Turn
-    now = tick.entry ∷ (tick.between ++ base)
+    now = rest.front ++ base
 
-    whole : past ≡ tick.after ++ now
-    whole = ap (λ l. l ++ base) tick.is ∙ append_assoc tick.after (tick.entry ∷ tick.between) base
+    whole : past ≡ rest.after ++ now
+    whole = ap (λ l. l ++ base) rest.is ∙ append_assoc rest.after rest.front base
 
     abbrev front : List Entry
-    front = entries_of (tick.entry ∷ tick.between)
+    front = entries_of rest.front
 
     parts : entries_of now ≡ front ++ entries_of base
-    parts = all_of_append (λ (t : Turn). t.entries) (tick.entry ∷ tick.between) base
+    parts = all_of_append (λ (t : Turn). t.entries) rest.front base
 
-    all_parts : entries_of past ≡ entries_of tick.after ++ entries_of now
-    all_parts = ap entries_of whole ∙ all_of_append (λ (t : Turn). t.entries) tick.after now
+    all_parts : entries_of past ≡ entries_of rest.after ++ entries_of now
+    all_parts = ap entries_of whole ∙ all_of_append (λ (t : Turn). t.entries) rest.after now
 
     run_now : SmoothRun config now
-    run_now = run_back config tick.after now (subst (SmoothRun config) whole (run_before config turn past k.run))
+    run_now = run_back config rest.after now (subst (SmoothRun config) whole (run_before config turn past k.run))
 
     law_now : ForServer config (entries_of now)
     law_now = run_now.run.server
 
     watched : Watches config x.number (entries_of now)
-    watched = watched_before config x.number (entries_of tick.after) (entries_of now)
+    watched = watched_before config x.number (entries_of rest.after) (entries_of now)
         (subst (Watches config x.number) all_parts k.watches)
 
     holds_now : holds_at config x.path (entries_of now) ≡ Some held
-    holds_now = holds_in tick.after tick.entry tick.between base
-        (subst (λ l. HoldsThrough config x held l base) tick.is through)
+    holds_now = holds_in rest.after rest.front base
+        (subst (λ l. HoldsThrough config x held l base) rest.is through)
 
     -- at a call behind the position the path holds this
     holds_then : (a between : List Entry) (e : Entry) → front ≡ a ++ e ∷ between
@@ -163,13 +160,14 @@ module _ (config : Config) (x : Observed) (held : Held) where
         → Watches config x.number (entries_of p) → StillThere config x n.message.token e.event.at (entries_of p))
         × (TakenInTime config p e × IsLegal config.addresses p e)
 
-    next : (e : Turn) × Here now e
-    next = next_of Here turn tick.after now
+    next : (e : Turn) × Here now e × (rest.now ≤ e.event.at)
+    next = next_with Here (λ e. rest.now ≤ e.event.at) turn rest.after now
         (subst (λ l. Always Here (turn ∷ l)) whole
         (both _ _ (turn ∷ past) k.there (both _ _ (turn ∷ past) k.taken k.run.legal.events)))
+        rest.later
 
-    later : tick.entry.event.at ≤ next.0.event.at
-    later = next.1.1.1.later
+    later : rest.now ≤ next.0.event.at
+    later = next.2
 
     -- no 4.04 was sent lately: the path holds something
     not_gone : WasGone config next.0.event.at (entries_of now) → ⊥
@@ -182,17 +180,17 @@ module _ (config : Config) (x : Observed) (held : Held) where
             let a = before_then s.after g.call g.older s.second in
             let b = g.soon in
             let c = later in
-            let d = tick.here.from in
+            let d = rest.from in
             omega (arith, a, b, c, d)
 
         in_front_of : InFirst front (entries_of base) g.newer (OfServer g.call) g.older → ⊥
         in_front_of f =
             let law : ForServer config (OfServer g.call ∷ g.older) =
             server_behind config g.newer (OfServer g.call ∷ g.older) (subst (ForServer config) g.split law_now) in
-            let split_past : entries_of past ≡ (entries_of tick.after ++ g.newer) ++ OfServer g.call ∷ g.older =
-            all_parts ∙ (ap (λ l. entries_of tick.after ++ l) g.split
-            ∙ sym (append_assoc (entries_of tick.after) g.newer (OfServer g.call ∷ g.older))) in
-            let its = k.of_it (entries_of tick.after ++ g.newer) g.older g.call g.told split_past g.here in
+            let split_past : entries_of past ≡ (entries_of rest.after ++ g.newer) ++ OfServer g.call ∷ g.older =
+            all_parts ∙ (ap (λ l. entries_of rest.after ++ l) g.split
+            ∙ sym (append_assoc (entries_of rest.after) g.newer (OfServer g.call ∷ g.older))) in
+            let its = k.of_it (entries_of rest.after ++ g.newer) g.older g.call g.told split_past g.here g.to in
             let holds : holds_at config x.path g.older ≡ Some held =
             subst (λ l. holds_at config x.path l ≡ Some held) (sym f.rest)
             (holds_then g.newer f.between (OfServer g.call) f.first) in
@@ -207,10 +205,7 @@ module _ (config : Config) (x : Observed) (held : Held) where
 
     clock_now : (own_of config.limits config.server_szx (server_trace config (entries_of now))).clock ≤ till
     clock_now =
-        let still_now = (ran config now (stands_of config now run_now)).still tick.entry.event.at (omega arith) in
-        let a = still_now.server.own in
-        let b = tick.here.till in
-        omega (arith, a, b)
+        ((ran config now (stands_of config now run_now)).still till rest.low).server.own
 
     module _ (o : Observer) (there : registration config.addresses.client token
         (own_of config.limits config.server_szx (server_trace config (entries_of now))).observers ≡ Some o)
@@ -243,7 +238,7 @@ module _ (config : Config) (x : Observed) (held : Held) where
                 (subst (Ever (λ b. begun b ≡ Some con)) (sym (far_is config (entries_of now)))
                 (open_was_begun layer con is_open)) to (omega (arith, late))
                 (subst (λ l. IsOpen l con) (sym (far_is config (entries_of now))) is_open))
-            | no early ↦ (let a = tick.here.from in let b = later in omega (arith, a, b, early))
+            | no early ↦ (let a = rest.from in let b = later in omega (arith, a, b, early))
           ]
 
       abbrev Begins : Open → List S.Call → S.Call → Type 0
@@ -286,24 +281,24 @@ module _ (config : Config) (x : Observed) (held : Held) where
               in_front_of f =
                   let law : ForServer config (OfServer c ∷ b) =
                   server_behind config a (OfServer c ∷ b) (subst (ForServer config) is law_now) in
-                  let split_past : entries_of past ≡ (entries_of tick.after ++ a) ++ OfServer c ∷ b =
-                  all_parts ∙ (ap (λ l. entries_of tick.after ++ l) is
-                  ∙ sym (append_assoc (entries_of tick.after) a (OfServer c ∷ b))) in
+                  let split_past : entries_of past ≡ (entries_of rest.after ++ a) ++ OfServer c ∷ b =
+                  all_parts ∙ (ap (λ l. entries_of rest.after ++ l) is
+                  ∙ sym (append_assoc (entries_of rest.after) a (OfServer c ∷ b))) in
                   let lawful_past = lawful_of config past (run_before config turn past k.run) in
                   let registered_past = subst (λ l. WasRegistered config.client_sizes x.number token (client_of l))
-                  (sym (all_parts ∙ ap (λ l. entries_of tick.after ++ l) parts))
-                  (registered_before config x.number token (entries_of tick.after) (front ++ entries_of base)
+                  (sym (all_parts ∙ ap (λ l. entries_of rest.after ++ l) parts))
+                  (registered_before config x.number token (entries_of rest.after) (front ++ entries_of base)
                   (registered_before config x.number token front (entries_of base) settles_here.registered)) in
                   let served = subst (Sometime (ServesPair config.limits config.server_szx
                   (record { to = config.addresses.client; token = token })))
                   (sym (ap (server_trace config) f.rest ∙ trace_more config f.between (entries_of base)))
                   (Sometime_back _ (server_of f.between) (server_trace config (entries_of base)) settles_here.served) in
                   let notice_of = con_tells config x (entries_of past) lawful_past token registered_past
-                  k.none_cancelled_before k.none_fetched k.requests (entries_of tick.after ++ a) b c split_past served
+                  k.none_cancelled_before k.none_fetched k.requests (entries_of rest.after ++ a) b c split_past served
                   con to
                   begins in
                   let n : Notice = notice_of.0 in
-                  let its = k.of_it (entries_of tick.after ++ a) b c n split_past notice_of.1 in
+                  let its = k.of_it (entries_of rest.after ++ a) b c n split_past notice_of.1 notice_of.2 in
                   let holds : holds_at config x.path b ≡ Some held =
                   subst (λ l. holds_at config x.path l ≡ Some held) (sym f.rest)
                   (holds_then a f.between (OfServer c) f.first) in
@@ -313,7 +308,7 @@ module _ (config : Config) (x : Observed) (held : Held) where
                   let registered_it = subst (λ l. WasRegistered config.client_sizes x.number n.observer.token
                   (client_of l))
                   (sym split_past)
-                  (registered_before config x.number n.observer.token (entries_of tick.after ++ a) (OfServer c ∷ b)
+                  (registered_before config x.number n.observer.token (entries_of rest.after ++ a) (OfServer c ∷ b)
                   its.registered) in
                   let same = one_token config x (entries_of past) lawful_past n.observer.token token registered_it
                   registered_past in
@@ -333,17 +328,12 @@ module _ (config : Config) (x : Observed) (held : Held) where
                     soon = omega (arith, rises, at_now, soon);
                   }
 
-      nobody : NoneToNotify config.limits config.server_szx config.server_setup (server_trace config (entries_of now))
-      nobody = nobody_left config tick.entry (tick.between ++ base) (stands_of config now run_now) tick.here.what
-          ((Always_back _ tick.after now (subst (Always _) whole k.ids.0)).0 tick.here.what
-          (let a = tick.here.till in omega (arith, a, early)))
-
       marked : o.marked ≡ true → ToldHeld config held token till (entries_of now)
       marked due =
           elim (busy_or_not config.addresses.client (outstanding layer)) [
             | inl busy ↦ (let c = open_to config.addresses.client layer busy in by_con c.con c.there c.is_open)
             | inr free ↦ absurd (of_each _ o
-                (own_of config.limits config.server_szx (server_trace config (entries_of now))).observers nobody
+                (own_of config.limits config.server_szx (server_trace config (entries_of now))).observers rest.nobody
                 among_them.there (record {
                   due = due;
                   alone = λ busy. free (subst (λ to. Ever (λ (c : Open). same_endpoint c.to to ≡ true)
@@ -383,4 +373,4 @@ module _ (config : Config) (x : Observed) (held : Held) where
           | inr gone ↦ absurd (not_gone gone)
         ] in
         subst (ToldHeld config held token till) (sym all_parts)
-        (told_more config held token till (entries_of tick.after) (entries_of now) told)
+        (told_more config held token till (entries_of rest.after) (entries_of now) told)

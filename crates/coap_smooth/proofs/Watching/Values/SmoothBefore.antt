@@ -16,6 +16,7 @@ use Rattle.coap_promise.proofs.Facts.Requests.Traced.{sent_later}
 use Rattle.coap_smooth.proofs.Smoothly.Arriving.AllTaken.{Goes, goes_before}
 use Rattle.coap_smooth.proofs.Smoothly.Answers.ConsOfOpen.{calls_before}
 use Rattle.coap_smooth.proofs.Watching.Values.HeldVersions.{fewer_before}
+use Rattle.coap_smooth.proofs.Smoothly.MessageIds.FewBefore.{told_before}
 use Rattle.coap_smooth.proofs.Smoothly.Ticks.NothingIsLeft.{Stands, before, record_of, stands}
 
 -- Of two lists one behind the other, an entry is in the one or in the other.
@@ -78,7 +79,7 @@ module _ (config : Config) where
             delays = r.smooth.smooth.delays;
             versions = omega (arith, less, all);
           };
-          no_stranger = r.smooth.no_stranger.1;
+          told = told_before config turn past r.smooth.told;
         };
       }
 

@@ -331,7 +331,7 @@ module _ (config : Config) (x : Observed) (held : Held) (turn : Turn) (past : Li
       -- a notification with it came, and was taken or was not newer
       by_notice : NotifiedBy (own h.older) h.call u → held.version ≤ t_n.shows.version
       by_notice b =
-          let its = k.of_it h.newer h.older h.call b.told h.split b.here in
+          let its = k.of_it h.newer h.older h.call b.told h.split b.here (b.to ∙ h.to_is) in
           let law : ForServer config (OfServer h.call ∷ h.older) = law_there front_h (OfServer h.call ∷ h.older) is_h in
           let front : List Entry = front_h ++ OfServer h.call ∷ [] in
           let is_older : es ≡ front ++ h.older = is_h ∙ sym (append_assoc front_h (OfServer h.call ∷ []) h.older) in
@@ -344,7 +344,7 @@ module _ (config : Config) (x : Observed) (held : Held) (turn : Turn) (past : Li
           let tells = tells_held config.limits config.server_szx config.server_setup (server_trace config h.older) held
           h.call
           law b.told b.here there in
-          let comes = k.notices k.watches h.newer h.older h.call b.told h.split b.here (soon h.soon) in
+          let comes = k.notices k.watches h.newer h.older h.call b.told h.split b.here its.to_is (soon h.soon) in
           let c = comes.comes in
           let m : Message = notice_message config c.kind c.id h.older b.told in
           let behind : List Entry = c.between ++ OfServer h.call ∷ h.older in

@@ -12,6 +12,7 @@ use Rattle.coap_smooth.proofs.Smoothly.Answers.NoTimeout.{no_timeouts}
 use Rattle.coap_smooth.proofs.Smoothly.Answers.SeparateEnds.{separate_ends}
 use Rattle.coap_smooth.proofs.Smoothly.Ticks.NothingIsLeft.{stands, legal_of, record_of}
 use Rattle.coap_smooth.proofs.Smoothly.Ticks.TicksAnswer.{ticks_answer}
+use Rattle.coap_smooth.proofs.Smoothly.Ticks.KeepsUp.{keeps_up_in_time}
 use Rattle.coap_smooth.proofs.Smoothly.Ticks.TicksInTime.{ticks_in_time}
 use Rattle.coap_smooth.proofs.Smoothly.Ticks.TicksLeave.{ticks_leave}
 use Rattle.coap_smooth.proofs.Smoothly.Answers.Young.{are_young}
@@ -87,8 +88,10 @@ pub returns-clause-leaves : goal.returns-clause-leaves
 returns-clause-leaves c config events turns run legal = ticks_leave config turns run.made run.server
 
 pub returns-clause-often : goal.returns-clause-often
-returns-clause-often c config events turns run legal smooth = ticks_in_time config.addresses turns legal.events
-    smooth.goes
+returns-clause-often c config events turns run legal often = ticks_in_time config.addresses turns legal.events often
+
+pub returns-clause-keeps_up : goal.returns-clause-keeps_up
+returns-clause-keeps_up c config events turns run legal smooth = keeps_up_in_time config turns legal.events smooth.goes
 
 pub returns-clause-ids : goal.returns-clause-ids
 returns-clause-ids c config events turns run legal smooth told none =
@@ -97,7 +100,7 @@ returns-clause-ids c config events turns run legal smooth told none =
     config.client_setup
     (client_of (entries_of turns)) run.client in
     has_ids config (λ t. c.server_law.ensures.observers config.limits config.server_szx t)
-    (λ t law. c.answerer_law.ensures.id_free config.server_setup t law) turns goes observed none
+    (λ t law. c.answerer_law.ensures.id_free config.server_setup t law) turns goes
     (few_told config (λ t. c.server_law.ensures.observers config.limits config.server_szx t)
     (λ t law. c.answerer_law.ensures.id_free config.server_setup t law) turns goes observed none told)
 

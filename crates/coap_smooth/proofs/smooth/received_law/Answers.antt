@@ -5,8 +5,8 @@ use Rattle.coap_smooth.proofs.smooth.received_law.Goals as goal
 
 pub returns : goal.returns
 returns c = record {
-  close = λ config events turns made legal smooth. are_close config.addresses turns legal.events smooth.goes;
-  prompt = λ config events turns made legal smooth. all_prompt config.addresses legal.range.addresses.two turns
+  close = λ config events turns made legal often. are_close config.addresses turns legal.events often;
+  prompt = λ config events turns made legal smooth. all_prompt config legal.range.addresses.two turns
       made.made legal.events smooth.goes;
   received = λ config events turns made legal. are_received config events turns made legal;
 }

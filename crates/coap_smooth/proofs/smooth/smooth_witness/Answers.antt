@@ -1,4 +1,5 @@
 use Rattle.coap_smooth.proofs.Delivery.SmoothGaps.{times_out_roughly}
+use Rattle.coap_smooth.proofs.Witness.DefersByDue.{deferred_by_due}
 use Rattle.coap_smooth.proofs.Witness.DefersLate.{deferred_late}
 use Rattle.coap_smooth.proofs.Witness.DefersLongest.{deferred_longest}
 use Rattle.coap_smooth.proofs.Witness.PutsInBlocks.{put_in_blocks}
@@ -13,6 +14,7 @@ pub returns : goal.returns
 returns c = record {
   late = deferred_late;
   longest = deferred_longest;
+  by_due = deferred_by_due;
   put = put_late;
   rough = times_out_roughly;
   unanswered = unanswered;

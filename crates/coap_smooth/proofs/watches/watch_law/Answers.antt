@@ -14,6 +14,7 @@ use Rattle.coap_smooth.proofs.Watching.MessageIds.HadIds.{had_ids}
 use Rattle.coap_smooth.proofs.Watching.Values.HeldVersions.{versions_rise, versions_are_numbers}
 use Rattle.coap_smooth.proofs.Watching.Values.LastIsCurrent.{last_is_current}
 use Rattle.coap_smooth.proofs.Watching.Notifications.NoticesCome.{notices_come}
+use Rattle.coap_smooth.proofs.Watching.Requests.NoticesToClient.{notices_go_to_client}
 use Rattle.coap_smooth.proofs.Watching.Requests.OfIt.{notices_are_of_it, requests_are_of_it}
 use Rattle.coap_smooth.proofs.Watching.Values.SmoothBefore.{goes_of}
 use Rattle.coap_smooth.proofs.Watching.StillThere.AllThere.{all_there}
@@ -46,9 +47,10 @@ returns-clause-ids c config events turns run legal smooth =
       held = c.layer_law.ensures.held;
       observers = λ k t. c.server_law.ensures.observers k.limits k.server_szx t;
     })
+    (λ t law. c.answerer_law.ensures.id_free config.server_setup t law)
     turns
     (goes_in config events turns run legal smooth.smooth)
-    smooth.no_stranger
+    smooth.told
 
 pub returns-clause-comes : goal.returns-clause-comes
 returns-clause-comes c config events turns run legal smooth =
@@ -67,21 +69,26 @@ returns-clause-comes c config events turns run legal smooth =
     turns
     (goes_in config events turns run legal smooth.smooth)
 
+pub returns-clause-alone : goal.returns-clause-alone
+returns-clause-alone c config events turns run legal smooth none =
+    notices_go_to_client config (λ t. c.server_law.ensures.observers config.limits config.server_szx t) turns
+    (stands config events turns run legal smooth) none
+
 pub returns-clause-of_it : goal.returns-clause-of_it
 returns-clause-of_it c config events turns run legal smooth x alone =
     notices_are_of_it config x (λ t. c.server_law.ensures.observers config.limits config.server_szx t)
-    turns (stands config events turns run legal smooth.smooth) smooth.no_stranger alone
+    turns (stands config events turns run legal smooth.smooth) alone
 
 pub returns-clause-requests : goal.returns-clause-requests
 returns-clause-requests c config events turns run legal smooth x alone =
     requests_are_of_it config x (λ t. c.server_law.ensures.observers config.limits config.server_szx t)
-    turns (stands config events turns run legal smooth.smooth) smooth.no_stranger alone
+    turns (stands config events turns run legal smooth.smooth) alone
 
 pub returns-clause-notices : goal.returns-clause-notices
 returns-clause-notices c config events turns run legal smooth x alone =
     notices_are_taken config x c.client_exchanges_law.ensures.answers_heard
     c.client_watches_law.ensures.notices_heard (λ t. c.server_law.ensures.observers config.limits config.server_szx t)
-    turns (stands config events turns run legal smooth.smooth) smooth.no_stranger alone
+    turns (stands config events turns run legal smooth.smooth) alone
     (returns-clause-comes c config events turns run legal smooth)
 
 pub returns-clause-there : goal.returns-clause-there

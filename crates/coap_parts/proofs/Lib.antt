@@ -1,0 +1,2 @@
+pub mod Retagged
+pub mod TagsAreKept
