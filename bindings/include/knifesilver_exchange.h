@@ -111,6 +111,20 @@ int32_t ks_answerer_ready(ks_answerer *handle, uint64_t now, const ks_address *t
 int32_t ks_answerer_notify(ks_answerer *handle, uint64_t now, const ks_address *to, const void *token, size_t token_len,
                            const void *message, size_t message_len, uint64_t word, uint16_t *id);
 
+/* A token of at most 8 bytes. */
+typedef struct { uint8_t len; uint8_t bytes[8]; } ks_token;
+
+/* What the last feed or tick ended of what ks_answerer_notify or ks_answerer_respond sent: its Reset came, or no
+ * acknowledgement did. KS_DONE with where it went, its token and whether it carried Observe: who observes by that token does
+ * so no more (RFC 7641, sections 3.6 and 4.5). KS_OK: nothing; KS_NOT_LIVE. Ask after each feed and each tick: the next one
+ * forgets it. */
+int32_t ks_answerer_ended(ks_answerer *handle, ks_address *to, ks_token *token, bool *observe);
+
+/* The Reset that the last feed took, of no Confirmable message that is outstanding: as of an answer in a Non-confirmable one,
+ * whose Message ID is bytes 2 and 3 of its datagram. KS_DONE with where it came from, and that Message ID; KS_OK: it took
+ * none; KS_NOT_LIVE. A tick leaves it. */
+int32_t ks_answerer_unmatched(ks_answerer *handle, ks_address *from, uint16_t *id);
+
 /* ---- The asking side: a client of one server, for any request of one datagram ------------------------------------- */
 
 /* It runs one exchange at a time (RFC 7252, section 4.7). What it is asked goes out in a Confirmable message with a fresh
@@ -134,9 +148,6 @@ enum ks_ask_refusal {
     KS_ASK_NO_IDS = 122,        /* no Message ID is free */
     KS_ASK_BAD_REQUEST = 123    /* a code that is none of enum ks_method, or a message of over 1,152 bytes with 8 of token */
 };
-
-/* A token of at most 8 bytes. */
-typedef struct { uint8_t len; uint8_t bytes[8]; } ks_token;
 
 /* Makes a client of that server, to which nothing has happened, that remembers so many messages (0: 4,096; at most
  * 1,048,576); what the handle held is freed. KS_OK; KS_BAD_REMEMBERED, KS_NO_MEMORY, after which the handle holds what it

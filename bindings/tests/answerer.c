@@ -79,6 +79,102 @@ static int deferrals(void) {
     return 0;
 }
 
+/* Whether just this ended: what had this token of one byte. */
+static bool ended(ks_answerer *server, uint8_t token, bool observe) {
+    ks_address to = {{0}, 0};
+    ks_token told = {0};
+    bool observed = !observe;
+    return ks_answerer_ended(server, &to, &told, &observed) == KS_DONE && memcmp(to.ip, client.ip, 4) == 0
+        && to.port == client.port && told.len == 1 && told.bytes[0] == token && observed == observe;
+}
+
+static bool nothing_ended(ks_answerer *server) {
+    ks_address to;
+    ks_token told;
+    bool observe = false;
+    return ks_answerer_ended(server, &to, &told, &observe) == KS_OK;
+}
+
+/* The Message ID of the datagram that goes out next, which is of this type (RFC 7252, section 3). */
+static int32_t id_out(ks_answerer *server, uint8_t type) {
+    uint8_t room[KS_DATAGRAM_ROOM];
+    ks_address to;
+    size_t n;
+    if (ks_answerer_next_out(server, &to, room, sizeof room, &n) != KS_DONE || (room[0] >> 4 & 3) != type) return -1;
+    return room[2] << 8 | room[3];
+}
+
+static int32_t reset(ks_answerer *server, uint64_t now, int32_t id) {
+    const uint8_t rst[] = {0x70, 0, (uint8_t)(id >> 8), (uint8_t)id};
+    ks_request_told request;
+    return ks_answerer_feed(server, now, &client, rst, sizeof rst, &request);
+}
+
+/* A notification that is rejected or never acknowledged, and a late answer: what ended is told until the next feed or tick. */
+static int endings(void) {
+    static const uint8_t con[] = {0x41, 1, 0, 7, 9};
+    ks_answerer server = {0};
+    ks_address from;
+    ks_token token;
+    ks_request_told request;
+    ks_asked ready;
+    ks_draft draft;
+    bool observe = false;
+    uint16_t id;
+    int told = 0;
+    WANT(ks_answerer_ended(&server, &from, &token, &observe) == KS_NOT_LIVE);
+    ks_draft_begin(&draft, 0x45);
+    ks_draft_uint(&draft, 6, 1);
+    WANT(ks_answerer_new(&server, 0, &seed) == KS_OK && nothing_ended(&server));
+    WANT(ks_answerer_notify(&server, 0, &client, "\x07", 1, draft.bytes, draft.len, 0, &id) == KS_OK);
+    WANT(id_out(&server, KS_CON) == id && nothing_ended(&server));
+    WANT(reset(&server, 10, id) == KS_OK && ended(&server, 7, true) && ended(&server, 7, true));
+    WANT(ks_answerer_unmatched(&server, &from, &id) == KS_OK);
+    WANT(ks_answerer_tick(&server, 11, &ready) == KS_OK && nothing_ended(&server));
+    WANT(ks_answerer_notify(&server, 20, &client, "\x08", 1, draft.bytes, draft.len, 0, &id) == KS_OK);
+    WANT(id_out(&server, KS_CON) == id);
+    /* (MAX_TRANSMIT_WAIT is 93 s: RFC 7252, section 4.8.2) */
+    for (uint64_t now = 20; now < 100000; now += 100)
+        while (ks_answerer_tick(&server, now, &ready) == KS_DONE) told += ended(&server, 8, true);
+    WANT(told == 1 && nothing_ended(&server));
+    while (id_out(&server, KS_CON) >= 0) {}
+    WANT(ks_answerer_feed(&server, 100000, &client, con, sizeof con, &request) == KS_DONE);
+    WANT(ks_answerer_defer(&server, 100000, &request.asked, 0) == KS_OK && id_out(&server, KS_ACK) == 7);
+    WANT(ks_answerer_tick(&server, 100000, &ready) == KS_READY);
+    ks_draft_begin(&draft, 0x45);
+    WANT(ks_answerer_respond(&server, &ready, draft.bytes, draft.len, 0) == KS_OK);
+    WANT(reset(&server, 100001, id_out(&server, KS_CON)) == KS_OK && ended(&server, 9, false));
+    ks_answerer_free(&server);
+    return 0;
+}
+
+/* An answer in a Non-confirmable message is rejected: the Message ID of the Reset is told until the next feed. */
+static int rejections(void) {
+    static const uint8_t non[] = {0x51, 1, 0, 8, 7, 0x60}, ping[] = {0x40, 0, 0, 9};
+    ks_answerer server = {0};
+    ks_address from = {{0}, 0};
+    ks_request_told request;
+    ks_asked ready;
+    ks_draft draft;
+    uint16_t id = 0;
+    WANT(ks_answerer_unmatched(&server, &from, &id) == KS_NOT_LIVE);
+    ks_draft_begin(&draft, 0x45);
+    ks_draft_uint(&draft, 6, 1);
+    WANT(ks_answerer_new(&server, 0, &seed) == KS_OK);
+    WANT(ks_answerer_feed(&server, 0, &client, non, sizeof non, &request) == KS_DONE);
+    WANT(ks_answerer_answer(&server, &request.asked, draft.bytes, draft.len) == KS_OK);
+    int32_t sent = id_out(&server, KS_NON);
+    WANT(sent >= 0 && ks_answerer_unmatched(&server, &from, &id) == KS_OK);
+    WANT(reset(&server, 10, sent) == KS_OK && nothing_ended(&server));
+    WANT(ks_answerer_tick(&server, 11, &ready) == KS_OK);
+    WANT(ks_answerer_unmatched(&server, &from, &id) == KS_DONE && id == sent);
+    WANT(memcmp(from.ip, client.ip, 4) == 0 && from.port == client.port);
+    WANT(ks_answerer_feed(&server, 12, &client, ping, sizeof ping, &request) == KS_OK);
+    WANT(ks_answerer_unmatched(&server, &from, &id) == KS_OK);
+    ks_answerer_free(&server);
+    return 0;
+}
+
 /* Options, by hand after RFC 7252, section 3.1. */
 static int options(void) {
     static const uint16_t known[] = {11, 15};
@@ -164,7 +260,9 @@ static int any_order(long calls) {
         ks_request_told request = {0};
         ks_asked *one = &asked[draw(8)];
         ks_address to;
+        ks_token token;
         ks_draft draft;
+        bool observe = false;
         uint16_t id;
         size_t len = draw(2) ? 4 : draw(sizeof bytes);
         int32_t answer = KS_OK;
@@ -172,7 +270,7 @@ static int any_order(long calls) {
         if (len == 4) bytes[0] = draw(4) ? 0x40 : 0x50, bytes[1] = (uint8_t)(1 + draw(7)), bytes[2] = 0;
         ks_draft_begin(&draft, draw(16) ? 0x45 : (uint8_t)draw(256));
         now += draw(50);
-        switch (draw(8)) {
+        switch (draw(10)) {
         case 0:
         case 1: answer = ks_answerer_feed(&server, now, &client, bytes, len, &request);
             if (answer == KS_DONE) *one = request.asked;
@@ -182,6 +280,8 @@ static int any_order(long calls) {
         case 4: answer = ks_answerer_tick(&server, now, one); break;
         case 5: answer = ks_answerer_respond(&server, one, draft.bytes, draft.len, draw(1000)); break;
         case 6: answer = ks_answerer_notify(&server, now, &client, bytes, draw(10), draft.bytes, draft.len, 0, &id); break;
+        case 7: answer = ks_answerer_ended(&server, &to, &token, &observe); break;
+        case 8: answer = ks_answerer_unmatched(&server, &to, &id); break;
         default: while (ks_answerer_next_out(&server, &to, room, sizeof room, &len) == KS_DONE) {} break;
         }
         int i = 0;
@@ -197,5 +297,5 @@ static int any_order(long calls) {
 }
 
 int main(void) {
-    return answers() || deferrals() || options() || walks() || longest() || any_order(100000);
+    return answers() || deferrals() || endings() || rejections() || options() || walks() || longest() || any_order(100000);
 }

@@ -113,6 +113,8 @@ extern "C" {
     fn ks_answerer_next_out(handle: *mut ks_answerer, to: *mut ks_address, room: *mut c_void, room_len: usize, len: *mut usize) -> i32;
     fn ks_answerer_ready(handle: *mut ks_answerer, now: u64, to: *const ks_address) -> i32;
     fn ks_answerer_notify(handle: *mut ks_answerer, now: u64, to: *const ks_address, token: *const c_void, token_len: usize, message: *const c_void, message_len: usize, word: u64, id: *mut u16) -> i32;
+    fn ks_answerer_ended(handle: *mut ks_answerer, to: *mut ks_address, token: *mut ks_token, observe: *mut bool) -> i32;
+    fn ks_answerer_unmatched(handle: *mut ks_answerer, from: *mut ks_address, id: *mut u16) -> i32;
     fn ks_asker_new(handle: *mut ks_asker, server: *const ks_address, remembered: u32, seed: *const ks_seed) -> i32;
     fn ks_asker_free(handle: *mut ks_asker);
     fn ks_asker_ask(handle: *mut ks_asker, now: u64, message: *const c_void, message_len: usize, word: u64, token: *mut ks_token) -> i32;
@@ -226,6 +228,14 @@ impl Answerer {
     pub fn notify(&mut self, now: u64, to: &ks_address, token: &[u8], message: &[u8], word: u64, id: &mut u16) -> i32 {
         let (name, text) = (token.as_ptr().cast(), message.as_ptr().cast());
         unsafe { ks_answerer_notify(self.0.get_mut(), now, to, name, token.len(), text, message.len(), word, id) }
+    }
+
+    pub fn ended(&self, to: &mut ks_address, token: &mut ks_token, observe: &mut bool) -> i32 {
+        unsafe { ks_answerer_ended(self.0.get(), to, token, observe) }
+    }
+
+    pub fn unmatched(&self, from: &mut ks_address, id: &mut u16) -> i32 {
+        unsafe { ks_answerer_unmatched(self.0.get(), from, id) }
     }
 }
 

@@ -296,10 +296,99 @@ fn an_observation() {
     }
     assert!(seen.windows(2).all(|pair| pair[0] < pair[1]) && seen.len() > 10, "{seen:?}");
     assert_eq!(seen.last(), Some(&30));
-    // Once its token is not kept, a notification is rejected by a Reset.
+    // Once its token is not kept, a notification is rejected by a Reset, and it observes no more.
+    assert_eq!(run.observers.len(), 1);
     assert!(run.client.release(&token));
     run.value = 31;
     run.observers.changed();
-    run.step_until(run.now + Duration::from_secs(100));
+    let until = run.now + Duration::from_secs(100);
+    while run.now < until {
+        run.step_until(until);
+    }
+    run.turn();
     assert_eq!(run.answers, []);
+    assert!(run.observers.is_empty());
+}
+
+/// A server that shows a number, and the client's datagrams by hand.
+struct Shown {
+    server: Answerer,
+    observers: Observers,
+    buffer: [u8; MAX_DATAGRAM],
+}
+
+impl Shown {
+    /// GET /n with an Observe of 0 and that token: the answer's first bytes.
+    fn observe(&mut self, now: Instant, first: u8, id: u8, token: u8) -> [u8; 4] {
+        let get = [first, 1, 0, id, token, 0x60, 0x51, b'n'];
+        let request = self.server.handle(now, HERE, &get).unwrap().expect("a request");
+        let (asked, message) = (request.asked(), request.message());
+        let answer = self.observers.answer(&asked, &message, Message::new(Code::CONTENT));
+        self.server.answer(&asked, &answer).unwrap();
+        self.sent()
+    }
+
+    /// The first bytes of the next datagram, of which there is one.
+    fn sent(&mut self) -> [u8; 4] {
+        let sent = self.server.poll_transmit(&mut self.buffer).expect("a datagram");
+        assert!(sent.size >= 4 && self.server.poll_transmit(&mut [0; MAX_DATAGRAM]).is_none());
+        self.buffer[..4].try_into().unwrap()
+    }
+
+    /// A change is told: the notification's first bytes.
+    fn notified(&mut self, now: Instant) -> [u8; 4] {
+        self.observers.changed();
+        assert_eq!(self.tell(now), 0);
+        self.sent()
+    }
+
+    fn tell(&mut self, now: Instant) -> usize {
+        self.observers.tell(&mut self.server, now, &Message::new(Code::CONTENT))
+    }
+
+    fn reset(&mut self, now: Instant, of: [u8; 4]) {
+        assert!(self.server.handle(now, HERE, &[0x70, 0, of[2], of[3]]).unwrap().is_none());
+    }
+}
+
+/// Who rejects a notification, or acknowledges none, is told nothing more (RFC 7641, sections 3.6 and 4.5).
+#[test]
+fn an_observer_that_is_gone_is_dropped() {
+    let now = Instant::now();
+    let at = |ms: u64| now + Duration::from_millis(ms);
+    let server = Answerer::new(&config(3), now).unwrap();
+    let mut shown = Shown { server, observers: Observers::default(), buffer: [0; MAX_DATAGRAM] };
+    // A Reset of a Confirmable notification.
+    assert_eq!(shown.observe(now, 0x41, 1, 7), [0x61, 0x45, 0, 1]);
+    let notification = shown.notified(now);
+    assert_eq!(notification[..2], [0x41, 0x45]);
+    shown.reset(at(1), notification);
+    let ended: Vec<_> = shown.server.ended_since(0).map(|it| (it.number(), it.to(), it.observe())).collect();
+    assert_eq!((ended, shown.server.unmatched()), (vec![(1, HERE, true)], None));
+    shown.tell(at(1));
+    assert!(shown.observers.is_empty());
+    // One that registers anew, with the same token, before that was looked at, goes on.
+    shown.observe(at(2), 0x41, 2, 7);
+    let notification = shown.notified(at(2));
+    shown.reset(at(3), notification);
+    shown.observe(at(4), 0x41, 3, 7);
+    shown.tell(at(4));
+    assert_eq!(shown.observers.len(), 1);
+    // No acknowledgement, for 93 s at most (RFC 7252, section 4.8.2).
+    let notification = shown.notified(at(5));
+    for second in 1..=93 {
+        shown.tell(at(5));
+        assert_eq!(shown.observers.is_empty(), shown.server.ended_since(2).next().is_some(), "{second}");
+        assert_eq!(shown.server.handle_timeout(at(5 + second * 1_000)), Ok(None));
+        while let Some(again) = shown.server.poll_transmit(&mut shown.buffer) {
+            assert_eq!(shown.buffer[..4], notification, "{again:?}");
+        }
+    }
+    shown.tell(at(93_005));
+    assert!(shown.observers.is_empty());
+    // A Reset of an answer in a Non-confirmable message.
+    let answer = shown.observe(at(94_000), 0x51, 9, 8);
+    assert_eq!(answer[..2], [0x51, 0x45]);
+    shown.reset(at(94_001), answer);
+    assert_eq!(shown.server.unmatched(), Some((HERE, u16::from_be_bytes([answer[2], answer[3]]))));
 }

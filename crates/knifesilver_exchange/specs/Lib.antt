@@ -6,6 +6,7 @@ pub mod BlocksHeld
 pub mod Calls
 pub mod Chosen
 pub mod Crossing
+pub mod Endings
 pub mod Fresh
 pub mod Held
 pub mod Moves

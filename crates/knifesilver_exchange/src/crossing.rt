@@ -175,6 +175,14 @@ pub struct KsToken {
     pub bytes: [u8; 8],
 }
 
+/// What C is told of a token.
+pub(crate) fn told_token(token: &Token) -> KsToken
+    ensures { AreIn token.now result.bytes result.len }
+{
+    let (bytes, len) = token_of(token);
+    KsToken { len, bytes }
+}
+
 /// C's `ks_answer`: what came of a request.
 #[repr(C)]
 #[derive(Clone, Copy)]

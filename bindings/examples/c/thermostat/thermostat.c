@@ -69,6 +69,17 @@ static bool observe(const ks_asked *asked, bool on) {
     return false;
 }
 
+/* Who rejected a notification, or acknowledged none, observes no more (RFC 7641, sections 3.6 and 4.5). */
+static void drop_ended(void) {
+    ks_asked was = {0};
+    ks_token token;
+    bool notified;
+    if (ks_answerer_ended(&server, &was.from, &token, &notified) != KS_DONE || !notified) return;
+    was.token_len = token.len;
+    memcpy(was.token, token.bytes, token.len);
+    observe(&was, false);
+}
+
 static void changed(void) {
     ks_draft draft;
     uint16_t id;
@@ -191,6 +202,7 @@ static void receive_all(void) {
             fflush(stdout);
             handle(&request, in, (size_t)len);
         }
+        drop_ended();
         send_all();
         a_len = sizeof a;
     }
@@ -213,8 +225,10 @@ int main(int argc, char **argv) {
     for (;;) {
         ks_asked asked;
         int32_t answer;
-        while ((answer = ks_answerer_tick(&server, now_ms(), &asked)) == KS_DONE || answer == KS_READY)
+        while ((answer = ks_answerer_tick(&server, now_ms(), &asked)) == KS_DONE || answer == KS_READY) {
+            drop_ended();
             if (answer == KS_READY) respond(&asked);
+        }
         send_all();
         struct pollfd wait = {.fd = udp, .events = POLLIN};
         if (poll(&wait, 1, wait_ms(now_ms())) > 0) receive_all();

@@ -7,9 +7,13 @@ use crate::errors::{made, NewError, OutOfMemory};
 use crate::message::{Code, Kind};
 use crate::setting::{address, socket_address, Config, Surroundings, Transmit};
 use crate::{raw, raw_exchange, MAX_DATAGRAM};
+use std::collections::VecDeque;
 use std::fmt;
 use std::net::SocketAddrV4;
 use std::time::{Duration, Instant};
+
+/// How many of those that ended an answerer keeps.
+const MOST_ENDED: usize = 256;
 
 /// A server of CoAP whose answers the program computes (RFC 7252, section 5.2).
 ///
@@ -22,6 +26,19 @@ pub struct Answerer {
     raw: raw_exchange::Answerer,
     around: Surroundings,
     room: [u8; MAX_DATAGRAM],
+    ended: VecDeque<Ended>,
+    /// How many ended.
+    ends: u64,
+}
+
+/// What a Reset or a failure ended: a notification, or the answer to a deferred request (RFC 7252, section 5.2.2; RFC
+/// 7641, sections 3.6 and 4.5).
+#[derive(Clone, Copy, Debug, PartialEq, Eq)]
+pub struct Ended {
+    number: u64,
+    to: SocketAddrV4,
+    token: Token,
+    observe: bool,
 }
 
 /// A request that was handed up, as its answer needs it. It may be kept and copied.
@@ -49,7 +66,7 @@ impl Answerer {
         let mut around = Surroundings::new(config, now);
         let mut raw = raw_exchange::Answerer::empty();
         made(raw.make(config.remembered, &around.seed()))?;
-        Ok(Answerer { raw, around, room: [0; MAX_DATAGRAM] })
+        Ok(Answerer { raw, around, room: [0; MAX_DATAGRAM], ended: VecDeque::new(), ends: 0 })
     }
 
     /// Takes a datagram that arrived. The request that it is, where it is one that was not handed up before.
@@ -61,10 +78,16 @@ impl Answerer {
     ) -> Result<Option<Request<'d>>, OutOfMemory> {
         let mut told = raw_exchange::ks_request_told::default();
         match self.raw.feed(self.around.moment(now), &address(from), datagram, &mut told) {
-            raw::KS_OK => Ok(None),
+            raw::KS_OK => {
+                self.take_ended();
+                Ok(None)
+            }
             raw::KS_DONE => {
                 let payload = &datagram[datagram.len().saturating_sub(told.payload_len)..];
-                Ok(Some(Request { asked: Asked::told(&told.asked), code: Code(told.code), datagram, payload }))
+                let asked = Asked::told(&told.asked);
+                // (it may register anew, with the token of an observation that ended)
+                self.ended.retain(|ended| ended.to != asked.from || ended.token != asked.token);
+                Ok(Some(Request { asked, code: Code(told.code), datagram, payload }))
             }
             _ => Err(OutOfMemory),
         }
@@ -97,7 +120,7 @@ impl Answerer {
         loop {
             match self.raw.tick(now, &mut ready) {
                 raw::KS_OK => return Ok(None),
-                raw::KS_DONE => {}
+                raw::KS_DONE => self.take_ended(),
                 raw_exchange::KS_READY => return Ok(Some(Asked::told(&ready))),
                 _ => return Err(OutOfMemory),
             }
@@ -148,6 +171,59 @@ impl Answerer {
         let (now, word, mut id) = (self.around.moment(now), self.around.word(), 0);
         let answer = self.raw.notify(now, &address(to), token.as_slice(), &self.room[..len], word, &mut id);
         notified(answer).map(|()| id)
+    }
+}
+
+impl Answerer {
+    /// What ended since the one of that number (0: since the first), the oldest first: who observes by that token does
+    /// so no more. [`super::Observers::tell`] looks itself. The last 256 are kept, each until a request comes from there
+    /// with that token.
+    pub fn ended_since(&self, number: u64) -> impl Iterator<Item = &Ended> {
+        self.ended.iter().filter(move |ended| ended.number > number)
+    }
+
+    /// The Reset that the last `handle` took of no Confirmable message that is outstanding, as of an answer in a
+    /// Non-confirmable one: where it came from, and its Message ID (RFC 7641, section 3.6).
+    pub fn unmatched(&self) -> Option<(SocketAddrV4, u16)> {
+        let (mut from, mut id) = (raw::ks_address::default(), 0);
+        (self.raw.unmatched(&mut from, &mut id) == raw::KS_DONE).then(|| (socket_address(from), id))
+    }
+
+    /// Keeps what the last feed or tick ended.
+    fn take_ended(&mut self) {
+        let (mut to, mut token) = (raw::ks_address::default(), raw_exchange::ks_token::default());
+        let mut observe = false;
+        if self.raw.ended(&mut to, &mut token, &mut observe) != raw::KS_DONE {
+            return;
+        }
+        if self.ended.len() == MOST_ENDED {
+            self.ended.pop_front();
+        }
+        self.ends += 1;
+        let (to, token) = (socket_address(to), Token::told(&token.bytes, token.len));
+        self.ended.push_back(Ended { number: self.ends, to, token, observe });
+    }
+}
+
+impl Ended {
+    /// Its number: that of the first is 1.
+    pub fn number(&self) -> u64 {
+        self.number
+    }
+
+    /// Where it went.
+    pub fn to(&self) -> SocketAddrV4 {
+        self.to
+    }
+
+    /// Its token.
+    pub fn token(&self) -> &Token {
+        &self.token
+    }
+
+    /// Whether it carried Observe, as a notification does (RFC 7641, section 3.2).
+    pub fn observe(&self) -> bool {
+        self.observe
     }
 }
 

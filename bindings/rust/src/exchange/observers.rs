@@ -1,6 +1,6 @@
 //! Who observes a resource.
 
-use super::{Answerer, Asked, Message, NotifyError, Token};
+use super::{Answerer, Asked, Ended, Message, NotifyError, Token};
 use std::net::SocketAddrV4;
 use std::time::{Duration, Instant};
 
@@ -12,7 +12,8 @@ const DEREGISTER: u32 = 1;
 ///
 /// Each time the resource changes, call [`Observers::changed`], and [`Observers::tell`] then and after each
 /// [`Answerer::handle`]. An observer whose last notification is not acknowledged yet is told later, by the state of
-/// then (section 4.5.2). One that is gone stays until another takes its place: the one that registered first.
+/// then (section 4.5.2). One that answers a notification by a Reset, or acknowledges none, is dropped (sections 3.6 and
+/// 4.5); and where there are too many, the one that registered first.
 ///
 /// ```
 /// use knifesilver::exchange::{Answerer, Message, Observers};
@@ -43,6 +44,8 @@ pub struct Observers {
     /// How often the resource changed: the number of its state.
     state: u32,
     observers: Vec<Observer>,
+    /// The number of the last one that ended.
+    ended: u64,
 }
 
 #[derive(Clone, Debug)]
@@ -57,6 +60,10 @@ impl Observer {
     fn is_of(&self, asked: &Asked) -> bool {
         self.at == asked.from() && self.token == *asked.token()
     }
+
+    fn ends_by(&self, ended: &Ended) -> bool {
+        ended.observe() && self.at == ended.to() && self.token == *ended.token()
+    }
 }
 
 /// No observers, and 64 at most.
@@ -69,7 +76,7 @@ impl Default for Observers {
 impl Observers {
     /// No observers, and so many at most.
     pub fn new(most: usize) -> Observers {
-        Observers { most, state: 0, observers: Vec::new() }
+        Observers { most, state: 0, observers: Vec::new(), ended: 0 }
     }
 
     /// Registers or deregisters the sender of a GET or a FETCH, as its Observe says, where the answer to it is of
@@ -96,9 +103,13 @@ impl Observers {
         self.state = self.state.wrapping_add(1);
     }
 
-    /// Tells the observers that were not told of it yet the state that the resource has, as a GET would be answered.
-    /// How many are still to be told: call it again.
+    /// Drops the observers whose notifications ended, and tells those that were not told of it yet the state that the
+    /// resource has, as a GET would be answered. How many are still to be told: call it again.
     pub fn tell(&mut self, server: &mut Answerer, now: Instant, shown: &Message) -> usize {
+        for ended in server.ended_since(self.ended) {
+            self.ended = ended.number();
+            self.observers.retain(|observer| !observer.ends_by(ended));
+        }
         let (state, shown) = (self.state, shown.clone().with_observe(self.state));
         let mut waiting = 0;
         for observer in self.observers.iter_mut().filter(|observer| observer.told != state) {

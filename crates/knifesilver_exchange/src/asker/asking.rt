@@ -4,10 +4,9 @@ ghost use Rattle.coap_exchange.specs.Machine.AskerShown.{IsAskable};
 ghost use Rattle.knifesilver_exchange.specs.Answers.{IsAnswered, IsRefused, IsUsual};
 ghost use Rattle.knifesilver_exchange.specs.AskerHeld.{AskerMade, HoldsAsker, brought};
 ghost use Rattle.knifesilver_exchange.specs.Asking.{Asks, IsAsk, SaysNoRequest, cancelled};
-ghost use Rattle.knifesilver_exchange.specs.ShortBytes.{AreIn};
 
 use crate::answers::{BAD_ARGUMENT, NO_MEMORY, NOT_LIVE, NOTHING};
-use crate::crossing::{KsToken, token_of};
+use crate::crossing::{KsToken, told_token};
 use crate::handle::KsHandle;
 use crate::held::Held;
 use crate::numbers::{ASK_BAD_REQUEST, ask_number};
@@ -28,14 +27,6 @@ fn cancelled(message: &View<'_>) -> Option<Token>
     } else {
         Token::new(token)
     }
-}
-
-// What C is told of a token.
-fn told_token(token: &Token) -> KsToken
-    ensures { AreIn token.now result.bytes result.len }
-{
-    let (bytes, len) = token_of(token);
-    KsToken { len, bytes }
 }
 
 // Sends a request.
