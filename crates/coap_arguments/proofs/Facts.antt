@@ -1,3 +1,4 @@
 pub mod NamedPaths
+pub mod NotBoth
 pub mod PathTexts
 pub mod SaidTexts
