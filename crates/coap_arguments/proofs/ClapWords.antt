@@ -29,6 +29,7 @@ use Rattle.coap_arguments.specs.declared.refusals.AddressRefusal.TheVariants.{Ho
 use Rattle.coap_arguments.specs.declared.refusals.NumberRefusal.{NumberRefusal}
 use Rattle.coap_arguments.specs.declared.refusals.NumberRefusal.TheVariants.{Port, Count, Limit, Remember, Format}
 use Rattle.coap_arguments.specs.declared.refusals.NumberRefusal.TheVariants.{Accept, Times, Seconds, GiveUp, Every}
+use Rattle.coap_arguments.specs.declared.refusals.NumberRefusal.TheVariants.{ServerPort}
 use Rattle.coap_arguments.specs.declared.orders.Order.{Order}
 use Rattle.coap_arguments.specs.declared.refusals.SettingRefusal.{SettingRefusal}
 use Rattle.coap_arguments.specs.declared.refusals.SettingRefusal.TheVariants as setting
@@ -37,6 +38,7 @@ use Rattle.coap_arguments.specs.declared.refusals.TagsRefusal.TheVariants.{Etag,
 use Rattle.coap_arguments.specs.declared.orders.Wrong.{Wrong}
 use Rattle.coap_arguments.specs.declared.orders.Wrong.TheVariants.{Words, Path, Number, Word, Address, Size, Tags}
 use Rattle.coap_arguments.specs.declared.orders.Wrong.TheVariants.{Setting, Body, Store, Plains, Ends, Together}
+use Rattle.coap_arguments.specs.declared.orders.Wrong.TheVariants.{NoPath, Uri, Beside}
 use Rattle.coap_arguments.specs.declared.orders.Wrong.TheVariants.{Hex, Memory}
 use Rattle.coap_arguments.proofs.Entered.{enters}
 use Rattle.coap_arguments.proofs.GivenWords.{asks, required_word}
@@ -187,31 +189,18 @@ by_name : (id name known : Text) → list_all (asks known id) (built coap_app).s
     → list_all (asks name id) (built coap_app).subs ≡ true
 by_name id name known is same = subst (λ n. list_all (asks n id) (built coap_app).subs ≡ true) (sym same) is
 
-requires_port : AskRequires (codes "PORT")
+requires_port : AskRequires (codes "PORT|URI")
 unfolding clap_on_literals
-requires_port name (inl is) = by_name (codes "PORT") name _ refl is
-requires_port name (inr (inl is)) = by_name (codes "PORT") name _ refl is
-requires_port name (inr (inr (inl is))) = by_name (codes "PORT") name _ refl is
-requires_port name (inr (inr (inr (inl is)))) = by_name (codes "PORT") name _ refl is
-requires_port name (inr (inr (inr (inr is)))) = by_name (codes "PORT") name _ refl is
-
-requires_path : AskRequires (codes "PATH")
-unfolding clap_on_literals
-requires_path name (inl is) = by_name (codes "PATH") name _ refl is
-requires_path name (inr (inl is)) = by_name (codes "PATH") name _ refl is
-requires_path name (inr (inr (inl is))) = by_name (codes "PATH") name _ refl is
-requires_path name (inr (inr (inr (inl is)))) = by_name (codes "PATH") name _ refl is
-requires_path name (inr (inr (inr (inr is)))) = by_name (codes "PATH") name _ refl is
+requires_port name (inl is) = by_name (codes "PORT|URI") name _ refl is
+requires_port name (inr (inl is)) = by_name (codes "PORT|URI") name _ refl is
+requires_port name (inr (inr (inl is))) = by_name (codes "PORT|URI") name _ refl is
+requires_port name (inr (inr (inr (inl is)))) = by_name (codes "PORT|URI") name _ refl is
+requires_port name (inr (inr (inr (inr is)))) = by_name (codes "PORT|URI") name _ refl is
 
 pub ask_port : (words : List Text) (name : Text) (rows : List Row) → IsAsk name → Enters words name rows
-    → IsGiven (codes "PORT") rows
+    → IsGiven (codes "PORT|URI") rows
 ask_port words name rows is e =
-    required_word coap_app words name (codes "PORT") rows (requires_port name is) e.taken e.entered
-
-pub ask_path : (words : List Text) (name : Text) (rows : List Row) → IsAsk name → Enters words name rows
-    → IsGiven (codes "PATH") rows
-ask_path words name rows is e =
-    required_word coap_app words name (codes "PATH") rows (requires_path name is) e.taken e.entered
+    required_word coap_app words name (codes "PORT|URI") rows (requires_port name is) e.taken e.entered
 
 pub sim_file : (words : List Text) (rows : List Row) → Enters words (codes "sim") rows → IsGiven (codes "FILE") rows
 unfolding clap_on_literals
@@ -233,8 +222,9 @@ taken_by p P id words name rows means all e =
 takes_number : (words : List Text) (name : Text) (rows : List Row) → Enters words name rows → (why : NumberRefusal)
     → (all_of (argument_of why) rows ≡ None) ⊎ TakesNumber why name
 unfolding clap_on_literals
-takes_number words name rows e Port =
-    taken_by serves_or_asks (TakesNumber Port) (codes "PORT") words name rows one_serves_or_asks refl e
+takes_number words name rows e Port = taken_by
+    (λ n. bytes_eq n (codes "serve")) (TakesNumber Port) (codes "PORT") words name rows
+    (λ n is. is_name n (codes "serve") is) refl e
 takes_number words name rows e Count = taken_by
     (λ n. bytes_eq n (codes "serve")) (TakesNumber Count) (codes "COUNT") words name rows
     (λ n is. is_name n (codes "serve") is) refl e
@@ -257,6 +247,8 @@ takes_number words name rows e GiveUp =
 takes_number words name rows e Every = taken_by
     (λ n. bytes_eq n (codes "get")) (TakesNumber Every) (codes "every") words name rows
     (λ n is. is_name n (codes "get") is) refl e
+takes_number words name rows e ServerPort =
+    taken_by is_ask (TakesNumber ServerPort) (codes "PORT|URI") words name rows one_asks refl e
 
 takes_word : (words : List Text) (name : Text) (rows : List Row) → Enters words name rows
     → (all_of (codes "word") rows ≡ None) ⊎ MakesEnd name
@@ -371,6 +363,9 @@ value_wrong name rows Store own h = absurd h
 value_wrong name rows Plains own h = absurd h
 value_wrong name rows (Ends refusal) own h = absurd h
 value_wrong name rows (Together refusal) own h = absurd h
+value_wrong name rows NoPath own h = absurd h
+value_wrong name rows (Uri refusal) own h = absurd h
+value_wrong name rows (Beside refusal) own h = absurd h
 value_wrong name rows Hex own h = absurd h
 value_wrong name rows Memory own h = tt
 
@@ -389,6 +384,9 @@ plain_wrong name rows Store takes h = absurd h
 plain_wrong name rows Plains takes h = (takes, h)
 plain_wrong name rows (Ends refusal) takes h = absurd h
 plain_wrong name rows (Together refusal) takes h = absurd h
+plain_wrong name rows NoPath takes h = absurd h
+plain_wrong name rows (Uri refusal) takes h = absurd h
+plain_wrong name rows (Beside refusal) takes h = absurd h
 plain_wrong name rows Hex takes h = absurd h
 plain_wrong name rows Memory takes h = tt
 
@@ -446,6 +444,9 @@ wrong_in words name rows Store e h = (name, rows, e, h)
 wrong_in words name rows Plains e h = (name, rows, e, h)
 wrong_in words name rows (Ends refusal) e h = (name, rows, e, h)
 wrong_in words name rows (Together refusal) e h = (name, rows, e, h)
+wrong_in words name rows NoPath e h = (name, rows, e, h)
+wrong_in words name rows (Uri refusal) e h = (name, rows, e, h)
+wrong_in words name rows (Beside refusal) e h = (name, rows, e, h)
 wrong_in words name rows Hex e h = (name, rows, e, h)
 wrong_in words name rows Memory e h = tt
 
@@ -473,6 +474,9 @@ wrong_of_clap words faults e Store same h kind = absurd h
 wrong_of_clap words faults e Plains same h kind = absurd h
 wrong_of_clap words faults e (Ends refusal) same h kind = absurd h
 wrong_of_clap words faults e (Together refusal) same h kind = absurd h
+wrong_of_clap words faults e NoPath same h kind = absurd h
+wrong_of_clap words faults e (Uri refusal) same h kind = absurd h
+wrong_of_clap words faults e (Beside refusal) same h kind = absurd h
 wrong_of_clap words faults e Hex same h kind = absurd h
 wrong_of_clap words faults e Memory same h kind = tt
 

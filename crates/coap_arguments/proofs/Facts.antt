@@ -2,3 +2,4 @@ pub mod NamedPaths
 pub mod NotBoth
 pub mod PathTexts
 pub mod SaidTexts
+pub mod UriOrNot

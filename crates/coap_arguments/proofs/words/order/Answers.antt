@@ -1,6 +1,6 @@
 use Rattle.std.proofs.Common.{refl, inl, inr, ◌≡◌, ℕ, List, codes}
 use Rattle.coap_arguments.proofs.ClapWords.{enters_met, ours, said_by, wrong_by, show_hex, answer_hex, answer_path}
-use Rattle.coap_arguments.proofs.ClapWords.{answer_body, ask_path, ask_port, pair_body, pair_path, serve_port}
+use Rattle.coap_arguments.proofs.ClapWords.{answer_body, ask_port, pair_body, pair_path, serve_port}
 use Rattle.coap_arguments.proofs.ClapWords.{IsOurs, refused_by_clap, sim_file, takes_its_own}
 use Rattle.coap_arguments.specs.Asking.{IsAsk}
 use Rattle.coap_arguments.proofs.words.order.Goals as goal
@@ -112,7 +112,6 @@ ask_order-requires c =
     record {
       name = ask;
       port = ask_port _ _ _ ask enters;
-      path = ask_path _ _ _ ask enters;
       own = takes_its_own _ _ _ enters;
     }
 
