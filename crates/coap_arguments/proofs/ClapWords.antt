@@ -22,7 +22,7 @@ use Rattle.coap_arguments.specs.Taking.{IsWrongOption, IsWrongServing, MakesEnd,
 use Rattle.coap_arguments.specs.Taking.{TakesPlains, TakesTags}
 use Rattle.coap_arguments.specs.Texts.{texts_of}
 use Rattle.coap_arguments.specs.Values.{Enters, IsGiven, IsValue}
-use Rattle.coap_arguments.specs.Words.{AsksFor, AsksForIn, IsWrong, IsWrongIn}
+use Rattle.coap_arguments.specs.Words.{AsksFor, AsksForIn, IsVersion, IsWrong, IsWrongIn}
 use Rattle.coap_arguments.specs.Wrongs.{IsWrongOfClap}
 use Rattle.coap_arguments.specs.declared.refusals.AddressRefusal.{AddressRefusal}
 use Rattle.coap_arguments.specs.declared.refusals.AddressRefusal.TheVariants.{Host, Address as Own}
@@ -426,7 +426,7 @@ ours words name rows e =
 
 pub said_by : (words : List Text) (name : Text) (rows : List Row) (r : Result Order Wrong) → Enters words name rows
     → MatchResult r (AsksForIn name rows) (IsWrongIn name rows) → IfOk r (AsksFor words)
-said_by words name rows (Ok o) e h = (name, rows, e, h)
+said_by words name rows (Ok o) e h = inr (name, rows, e, h)
 said_by words name rows (Err w) e h = tt
 
 wrong_in : (words : List Text) (name : Text) (rows : List Row) (w : Wrong) → Enters words name rows
@@ -457,33 +457,36 @@ wrong_by words name rows (Err w) e h = wrong_in words name rows w e h
 
 -- ---- a parse that fails
 
-wrong_of_clap : (words : List Text) (faults : Kinds) (e : Error) (w : Wrong) → fault_of coap_app words ≡ faults
-    → IsWrongOfClap e w → HasKind faults e → IsWrong words w
-wrong_of_clap words faults e (Words own) same h kind =
-    subst (λ ks. IsAmong (kind_of own) ks) (sym same)
-    (subst (λ x. IsAmong (kind_of x) faults) (sym h.0) (elim kind [ inl none ↦ absurd (h.1 none) | inr among ↦ among ]))
-wrong_of_clap words faults e (Path refusal) same h kind = absurd h
-wrong_of_clap words faults e (Number refusal) same h kind = absurd h
-wrong_of_clap words faults e Word same h kind = absurd h
-wrong_of_clap words faults e (Address refusal) same h kind = absurd h
-wrong_of_clap words faults e Size same h kind = absurd h
-wrong_of_clap words faults e (Tags refusal) same h kind = absurd h
-wrong_of_clap words faults e (Setting refusal) same h kind = absurd h
-wrong_of_clap words faults e Body same h kind = absurd h
-wrong_of_clap words faults e Store same h kind = absurd h
-wrong_of_clap words faults e Plains same h kind = absurd h
-wrong_of_clap words faults e (Ends refusal) same h kind = absurd h
-wrong_of_clap words faults e (Together refusal) same h kind = absurd h
-wrong_of_clap words faults e NoPath same h kind = absurd h
-wrong_of_clap words faults e (Uri refusal) same h kind = absurd h
-wrong_of_clap words faults e (Beside refusal) same h kind = absurd h
-wrong_of_clap words faults e Hex same h kind = absurd h
-wrong_of_clap words faults e Memory same h kind = tt
+wrong_of_clap : (words : List Text) (faults : Kinds) (e : Error) (w : Wrong) → (IsVersion words → ⊥)
+    → fault_of coap_app words ≡ faults → IsWrongOfClap e w → HasKind faults e → IsWrong words w
+wrong_of_clap words faults e (Words own) other same h kind = (
+  other,
+  subst (λ ks. IsAmong (kind_of own) ks) (sym same)
+      (subst (λ x. IsAmong (kind_of x) faults) (sym h.0)
+      (elim kind [ inl none ↦ absurd (h.1 none) | inr among ↦ among ])),
+)
+wrong_of_clap words faults e (Path refusal) other same h kind = absurd h
+wrong_of_clap words faults e (Number refusal) other same h kind = absurd h
+wrong_of_clap words faults e Word other same h kind = absurd h
+wrong_of_clap words faults e (Address refusal) other same h kind = absurd h
+wrong_of_clap words faults e Size other same h kind = absurd h
+wrong_of_clap words faults e (Tags refusal) other same h kind = absurd h
+wrong_of_clap words faults e (Setting refusal) other same h kind = absurd h
+wrong_of_clap words faults e Body other same h kind = absurd h
+wrong_of_clap words faults e Store other same h kind = absurd h
+wrong_of_clap words faults e Plains other same h kind = absurd h
+wrong_of_clap words faults e (Ends refusal) other same h kind = absurd h
+wrong_of_clap words faults e (Together refusal) other same h kind = absurd h
+wrong_of_clap words faults e NoPath other same h kind = absurd h
+wrong_of_clap words faults e (Uri refusal) other same h kind = absurd h
+wrong_of_clap words faults e (Beside refusal) other same h kind = absurd h
+wrong_of_clap words faults e Hex other same h kind = absurd h
+wrong_of_clap words faults e Memory other same h kind = tt
 
 pub refused_by_clap : (app : App) → app ≡ coap_app → (words : List Text) (e : Error) (r : Result Order Wrong)
-    → IsErrAnd r (λ w. IsWrongOfClap e w) → (is_simple_and_free app ≡ true → HasKind (fault_of app words) e)
-    → IfErr r (IsWrong words)
-refused_by_clap app is words e (Ok o) h kinds = tt
-refused_by_clap app is words e (Err w) h kinds =
-    wrong_of_clap words (fault_of app words) e w (ap (λ (a : App). fault_of a words) (sym is)) h
+    → (IsVersion words → ⊥) → IsErrAnd r (λ w. IsWrongOfClap e w)
+    → (is_simple_and_free app ≡ true → HasKind (fault_of app words) e) → IfErr r (IsWrong words)
+refused_by_clap app is words e (Ok o) other h kinds = tt
+refused_by_clap app is words e (Err w) other h kinds =
+    wrong_of_clap words (fault_of app words) e w other (ap (λ (a : App). fault_of a words) (sym is)) h
     (kinds (ap is_simple_and_free is ∙ is_free_coap))

@@ -3,3 +3,4 @@ pub mod NotBoth
 pub mod PathTexts
 pub mod SaidTexts
 pub mod UriOrNot
+pub mod VersionOrNot

@@ -1,5 +1,5 @@
 -- What the words of the program say, as clap reads them.
-use Rattle.std.specs.Prelude.{ℕ, List, ◌≡◌, ◌⊎◌, ⊤, None, codes}
+use Rattle.std.specs.Prelude.{ℕ, List, [], ◌∷◌, ◌≡◌, ◌⊎◌, ⊤, None, codes}
 use Rattle.std.specs.declared.net.ipv4_addr.Ipv4Addr.{Ipv4Addr}
 use Rattle.clap.specs.Words.{IsAmong, Row, Text, fault_of, first_of, kind_of}
 use Rattle.clap.specs.declared.error.Error.{Error}
@@ -20,7 +20,7 @@ use Rattle.coap_arguments.specs.Values.{Enters, HasBytes, HasCount, HasLimit, Ha
 use Rattle.coap_arguments.specs.Values.{HasNoStore}
 use Rattle.coap_arguments.specs.Values.{HasNoWord, HasNumber, HasPath, HasRemembered, HasStore, HasWord, IsValue}
 use Rattle.coap_arguments.specs.declared.orders.Order.{Order}
-use Rattle.coap_arguments.specs.declared.orders.Order.TheVariants.{Show, Dump, Answer, Pair, Serve, Ask, Sim}
+use Rattle.coap_arguments.specs.declared.orders.Order.TheVariants.{Version, Show, Dump, Answer, Pair, Serve, Ask, Sim}
 use Rattle.coap_arguments.specs.declared.orders.What.{What}
 use Rattle.coap_arguments.specs.declared.refusals.AddressRefusal.TheVariants.{Host}
 use Rattle.coap_arguments.specs.declared.refusals.NumberRefusal.TheVariants.{Port, ServerPort}
@@ -46,6 +46,7 @@ AsksByUri subcommand values host port path what = (text rest : Text) × HasUri v
 
 -- the subcommand with these values says this order
 abbrev pub AsksForIn : Text → List Row → Order → Type 0
+AsksForIn subcommand values Version = ⊥
 AsksForIn subcommand values (Show datagram) = (subcommand ≡ codes "show") × HasBytes values datagram.items
 AsksForIn subcommand values Dump = subcommand ≡ codes "dump"
 AsksForIn subcommand values (Answer path body datagram) =
@@ -66,10 +67,15 @@ AsksForIn subcommand values (Sim file store plains remembered chart client serve
     × HasPlains values plains.items × HasRemembered values remembered × HasFlag (codes "chart") values chart
     × HasEnds values client server
 
+-- the words are the program's name and `--version`
+abbrev pub IsVersion : List Text → Type 0
+IsVersion words = (name : Text) × (words ≡ name ∷ codes "--version" ∷ [])
+
 -- the words say this order
 abbrev pub AsksFor : List Text → Order → Type 0
-AsksFor words order = (subcommand : Text) × (values : List Row) × Enters words subcommand values
-    × AsksForIn subcommand values order
+AsksFor words order = (IsVersion words × (order ≡ Version))
+    ⊎ ((subcommand : Text) × (values : List Row) × Enters words subcommand values
+    × AsksForIn subcommand values order)
 
 -- the subcommand takes no PATH, or its PATH is a text of a path
 abbrev pub IsPathFine : Text → List Row → Type 0
@@ -77,9 +83,9 @@ IsPathFine subcommand values = (subcommand ≡ codes "show")
     ⊎ ((subcommand ≡ codes "answer") × (segments : List (List ℕ)) × HasPath values segments
     × HoldsAtMost max_segments max_segment_len segments)
 
--- clap refuses the words, and the error is of a kind that they call for
+-- the words ask for no version, clap refuses them, and the error is of a kind that they call for
 abbrev pub IsRefusedBy : Error → List Text → Type 0
-IsRefusedBy error words = IsAmong (kind_of error) (fault_of coap_app words)
+IsRefusedBy error words = (IsVersion words → ⊥) × IsAmong (kind_of error) (fault_of coap_app words)
 
 -- this is wrong in the values of the subcommand; of memory that is refused they say nothing
 abbrev pub IsWrongIn : Text → List Row → Wrong → Type 0

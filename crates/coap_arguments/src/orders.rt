@@ -16,6 +16,8 @@ use thiserror::Error;
 /// What the program is asked to do.
 #[derive(Drop)]
 pub enum Order<'a> {
+    /// Say which version of the program it is.
+    Version,
     /// Show what a datagram says.
     Show {
         /// The datagram.

@@ -307,7 +307,7 @@ const PLAIN: Argument = Argument {
 pub(crate) const GROUPS: &str = "Ask a server: get, put, post, delete, observe\n\
     Serve: serve, answer\n\
     Look: show, dump, pair, sim\n\n\
-    coap COMMAND --help has an example of each.";
+    coap COMMAND --help has an example of each, and coap --version says which version it is.";
 
 /// The subcommands that ask nothing of a server elsewhere, in the order in which help lists them.
 pub(crate) static OTHERS: [Subcommand; 6] = [
