@@ -44,9 +44,9 @@ conditions rest = repeated_of (codes "if-match") ∷ flag_of (codes "if-none-mat
 abbrev pub with_body : List Rule → List Rule
 with_body rest = optional_word (codes "BODY") ∷ option_of (codes "file") ∷ option_of (codes "format") ∷ rest
 
--- what each subcommand takes first that asks something of a server
+-- what each subcommand takes first that asks something of a server: PORT and PATH, or a URI in the place of both
 abbrev pub asking : List Rule → List Rule
-asking rest = required_word (codes "PORT") ∷ required_word (codes "PATH") ∷ rest
+asking rest = required_word (codes "PORT|URI") ∷ optional_word (codes "PATH") ∷ rest
 
 -- how a server is set up: `--address A.B.C.D`, and `--hold PATH=BODY`, `--delay PATH=MS` and `--plain PATH`, each again
 -- and again, `--trace` and `--changes`
@@ -75,9 +75,12 @@ pair_app = leaf (codes "pair") (required_word (codes "PATH") ∷ required_word (
 abbrev pub serve_app : App
 serve_app = leaf (codes "serve") (required_word (codes "PORT") ∷ optional_word (codes "COUNT") ∷ setting_up of_an_end)
 
--- `coap get PORT PATH --accept N --etag HEX`, the latter again and again, and the options of a client
+-- `coap get PORT PATH --accept N --etag HEX`, the latter again and again, `--every SECONDS`, `--count N`, and the
+-- options of a client
 abbrev pub get_app : App
-get_app = leaf (codes "get") (asking (option_of (codes "accept") ∷ repeated_of (codes "etag") ∷ of_a_client))
+get_app = leaf (codes "get")
+    (asking (option_of (codes "accept") ∷ repeated_of (codes "etag") ∷ option_of (codes "every")
+    ∷ option_of (codes "count") ∷ of_a_client))
 
 abbrev pub put_app : App
 put_app = leaf (codes "put") (asking (with_body (conditions of_a_client)))
@@ -93,11 +96,13 @@ abbrev pub observe_app : App
 observe_app = leaf (codes "observe")
     (asking (option_of (codes "count") ∷ option_of (codes "seconds") ∷ flag_of (codes "hex") ∷ of_a_client))
 
--- `coap sim FILE --store list|map`, `--plain PATH`, again and again, `--remember N` and `--chart`
+-- `coap sim FILE --store list|map`, `--plain PATH`, again and again, `--remember N` and `--chart`; and where the ends
+-- stand, `--client A.B.C.D:PORT` and `--server A.B.C.D:PORT`
 abbrev pub sim_app : App
 sim_app = leaf (codes "sim")
     (required_word (codes "FILE") ∷ option_of (codes "store") ∷ repeated_of (codes "plain")
-    ∷ option_of (codes "remember") ∷ flag_of (codes "chart") ∷ [])
+    ∷ option_of (codes "remember") ∷ flag_of (codes "chart") ∷ option_of (codes "client")
+    ∷ option_of (codes "server") ∷ [])
 
 -- the program, without its subcommands: one has to be there, and where nothing is, help is the answer
 abbrev pub base_app : App

@@ -11,7 +11,8 @@ use Rattle.coap_arguments.specs.Texts.{texts_of}
 use Rattle.coap_arguments.specs.declared.orders.TheConstants.{MAX_PLAINS as max_plains}
 use Rattle.coap_arguments.specs.declared.orders.Wrong.{Wrong}
 use Rattle.coap_arguments.specs.declared.orders.Wrong.TheVariants.{Words, Path, Number, Word, Address, Size, Tags}
-use Rattle.coap_arguments.specs.declared.orders.Wrong.TheVariants.{Setting, Body, Store, Plains}
+use Rattle.coap_arguments.specs.declared.orders.Wrong.TheVariants.{Setting, Body, Store, Plains, Ends, Together}
+use Rattle.coap_arguments.specs.declared.orders.Wrong.TheVariants.{NoPath, Uri, Beside}
 use Rattle.coap_arguments.specs.declared.orders.Wrong.TheVariants.{Hex, Memory}
 
 -- the path is one of these
@@ -58,5 +59,10 @@ IsWrongPlain values (Setting refusal) = ⊥
 IsWrongPlain values Body = ⊥
 IsWrongPlain values Store = ⊥
 IsWrongPlain values Plains = HasTooManyPlains values
+IsWrongPlain values (Ends refusal) = ⊥
+IsWrongPlain values (Together refusal) = ⊥
+IsWrongPlain values NoPath = ⊥
+IsWrongPlain values (Uri refusal) = ⊥
+IsWrongPlain values (Beside refusal) = ⊥
 IsWrongPlain values Hex = ⊥
 IsWrongPlain values Memory = ⊤

@@ -3,24 +3,31 @@
 #![tactic(auto)]
 
 mod arguments;
+mod ask_orders;
 mod asking;
 mod command_line;
+mod ends;
 mod formats;
 mod orders;
 mod path_text;
 mod plains;
 mod put_away;
 mod refusals;
+mod repeating;
 mod serving;
 mod sizes;
 mod tables;
+mod uris;
 mod words;
 
 pub use command_line::coap_command;
 pub use orders::{
-    AskOptions, Content, DEFAULT_WORD, Delay, FOREVER, Hold, MAX_DELAYS, MAX_PLAINS, Order,
-    ServeOptions, StoreKind, What, WordChoice, Wrong,
+    AskOptions, Content, DEFAULT_PORT, DEFAULT_WORD, Delay, FOREVER, Hold, MAX_DELAYS, MAX_PLAINS,
+    Order, ServeOptions, StoreKind, What, WordChoice, Wrong,
 };
 pub use path_text::path_of_text;
-pub use refusals::{AddressRefusal, NumberRefusal, SettingRefusal, TagsRefusal};
+pub use refusals::{
+    AddressRefusal, BesideRefusal, EndsRefusal, NumberRefusal, SettingRefusal, TagsRefusal,
+    TogetherRefusal, UriRefusal,
+};
 pub use words::order;

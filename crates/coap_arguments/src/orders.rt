@@ -2,9 +2,12 @@
 ghost use Rattle.std.specs.Prelude.{◌≡◌};
 ghost use Rattle.coap_arguments.specs.Wrongs.{wrong_number};
 
-use crate::refusals::{AddressRefusal, NumberRefusal, SettingRefusal, TagsRefusal};
+use crate::refusals::{
+    AddressRefusal, BesideRefusal, EndsRefusal, NumberRefusal, SettingRefusal, TagsRefusal,
+    TogetherRefusal, UriRefusal,
+};
 use clap::error::ErrorKind;
-use coap_types::{BodyLimit, Path, PathRefusal, Remembered, Szx, Tags};
+use coap_types::{BodyLimit, Endpoint, Path, PathRefusal, Remembered, Szx, Tags};
 use hex::FromHexError;
 use std::alloc::AllocError;
 use std::net::Ipv4Addr;
@@ -13,6 +16,8 @@ use thiserror::Error;
 /// What the program is asked to do.
 #[derive(Drop)]
 pub enum Order<'a> {
+    /// Say which version of the program it is.
+    Version,
     /// Show what a datagram says.
     Show {
         /// The datagram.
@@ -75,6 +80,10 @@ pub enum Order<'a> {
         remembered: Remembered,
         /// Whether the run is drawn as a chart, in place of its lines.
         chart: bool,
+        /// Where its client stands.
+        client: Endpoint,
+        /// Where its server stands, which is another address or another port.
+        server: Endpoint,
     },
 }
 
@@ -121,7 +130,9 @@ pub struct AskOptions {
     pub if_match: Tags,
     /// Whether nothing may be there yet.
     pub if_none_match: bool,
-    /// After how many values an observation is cancelled.
+    /// After how many seconds, at least 1, a body is asked for again; None: it is asked for once.
+    pub every: Option<u64>,
+    /// After how many values an observation is cancelled, or after how many readings a body is asked for no more.
     pub times: Option<u64>,
     /// After how many seconds an observation is cancelled.
     pub seconds: Option<u64>,
@@ -208,6 +219,11 @@ pub const FOREVER: u64 = u64::MAX;
 
 const _: () = prove!(FOREVER == 18_446_744_073_709_551_615);
 
+/// The port of a server where its URI says none (RFC 7252, section 6.1).
+pub const DEFAULT_PORT: u16 = 5_683;
+
+const _: () = prove!(DEFAULT_PORT == 5_683);
+
 /// How many paths a server has at most whose observers are told in Non-confirmable messages.
 pub const MAX_PLAINS: usize = 16;
 
@@ -219,7 +235,8 @@ pub const MAX_DELAYS: usize = 16;
 const _: () = prove!(MAX_DELAYS == 16);
 
 /// Why the words give no order. `Words`, `Path`, `Number`, `Word`, `Address`, `Size`, `Tags`, `Setting`,
-/// `Body`, `Store` and `Plains` are one refusal, that of wrong words, with a text of its own for each.
+/// `Body`, `Store`, `Plains`, `Ends`, `Together`, `NoPath`, `Uri` and `Beside` are one refusal, that of wrong words,
+/// with a text of its own for each.
 /// The refusals are tested in the order of their numbers.
 #[derive(Debug, Drop, Error)]
 pub enum Wrong {
@@ -256,6 +273,21 @@ pub enum Wrong {
     /// `--plain` names over `MAX_PLAINS` paths.
     #[error("--plain names more than 16 paths")]
     Plains,
+    /// The ends of a run have no place to stand at, or one for both.
+    #[error("{0}")]
+    Ends(EndsRefusal),
+    /// Options of `get` don't go together.
+    #[error("{0}")]
+    Together(TogetherRefusal),
+    /// PATH is left out behind a PORT.
+    #[error("give PATH behind PORT, or a URI in the place of both, as coap://127.0.0.1/temperature")]
+    NoPath,
+    /// A URI says no resource that the program asks for.
+    #[error("{0}")]
+    Uri(UriRefusal),
+    /// Beside a URI stands what it says itself.
+    #[error("{0}")]
+    Beside(BesideRefusal),
     /// HEX is not the hex of any list of bytes.
     #[error("bad hex")]
     Hex,
@@ -281,7 +313,12 @@ impl Wrong {
             | Wrong::Setting(_)
             | Wrong::Body
             | Wrong::Store
-            | Wrong::Plains => 1,
+            | Wrong::Plains
+            | Wrong::Ends(_)
+            | Wrong::Together(_)
+            | Wrong::NoPath
+            | Wrong::Uri(_)
+            | Wrong::Beside(_) => 1,
             Wrong::Hex => 2,
             Wrong::Memory => 3,
         }

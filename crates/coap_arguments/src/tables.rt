@@ -44,8 +44,16 @@ const OWN_PORT: Argument = Argument {
 // PORT of a server that is asked.
 const SERVER_PORT: Argument = Argument {
     form: Form::Required,
-    name: "PORT",
-    help: "the server's UDP port, as 5683",
+    name: "PORT|URI",
+    help: "the server's UDP port, as 5683; or a URI in the place of PORT and PATH, as coap://192.0.2.1/sensors/t, with \
+        :PORT behind the address where it is another than 5683",
+};
+
+// PATH at a server that is asked.
+const SERVER_PATH: Argument = Argument {
+    form: Form::Optional,
+    name: "PATH",
+    help: "segments joined by /, as sensors/temperature; behind a URI there is none",
 };
 
 const COUNT: Argument = Argument {
@@ -107,6 +115,22 @@ const TIMES: Argument = Argument {
     name: "count",
     help: "ends after this many values; with neither this nor --seconds it goes on until the server ends it. \
            A signal that ends it sends no cancel: the server goes on until a notification is not acknowledged",
+};
+
+// --count of readings.
+const READINGS: Argument = Argument {
+    form: Form::Single { value_name: "N" },
+    name: "count",
+    help: "with --every, ends after this many readings",
+};
+
+const EVERY: Argument = Argument {
+    form: Form::Single {
+        value_name: "SECONDS",
+    },
+    name: "every",
+    help: "reads again after so many seconds, at least 1, and so on and on, a line each; one that fails is told on \
+        standard error. Not with --etag",
 };
 
 const SECONDS: Argument = Argument {
@@ -254,6 +278,24 @@ const CHART: Argument = Argument {
            thing that happens, as in: coap sim examples/get.sim --chart",
 };
 
+// --client of a run.
+const CLIENT_END: Argument = Argument {
+    form: Form::Single {
+        value_name: "A.B.C.D:PORT",
+    },
+    name: "client",
+    help: "where the client of the script stands, 127.0.0.1:40001 where it is left out",
+};
+
+// --server of a run.
+const SERVER_END: Argument = Argument {
+    form: Form::Single {
+        value_name: "A.B.C.D:PORT",
+    },
+    name: "server",
+    help: "where the server of the script stands, 127.0.0.1:5683 where it is left out; not where the client does",
+};
+
 const PLAIN: Argument = Argument {
     form: Form::Repeated { value_name: "PATH" },
     name: "plain",
@@ -265,7 +307,7 @@ const PLAIN: Argument = Argument {
 pub(crate) const GROUPS: &str = "Ask a server: get, put, post, delete, observe\n\
     Serve: serve, answer\n\
     Look: show, dump, pair, sim\n\n\
-    coap COMMAND --help has an example of each.";
+    coap COMMAND --help has an example of each, and coap --version says which version it is.";
 
 /// The subcommands that ask nothing of a server elsewhere, in the order in which help lists them.
 pub(crate) static OTHERS: [Subcommand; 6] = [
@@ -306,7 +348,7 @@ pub(crate) static OTHERS: [Subcommand; 6] = [
         name: "sim",
         about: "Runs a script over a client and a server, and prints what comes of it",
         example: "Example: coap sim examples/get.sim --chart",
-        arguments: &[FILE, STORE, PLAIN, REMEMBER, CHART],
+        arguments: &[FILE, STORE, PLAIN, REMEMBER, CHART, CLIENT_END, SERVER_END],
     },
 ];
 
@@ -318,9 +360,11 @@ pub(crate) static ASKING: [Subcommand; 5] = [
         example: "Example: coap get 5683 temperature",
         arguments: &[
             SERVER_PORT,
-            PATH,
+            SERVER_PATH,
             ACCEPT,
             ETAG,
+            EVERY,
+            READINGS,
             HOST,
             SIZE,
             TRACE,
@@ -336,7 +380,7 @@ pub(crate) static ASKING: [Subcommand; 5] = [
         example: "Example: coap put 5683 lamp on",
         arguments: &[
             SERVER_PORT,
-            PATH,
+            SERVER_PATH,
             SENT_BODY,
             BODY_FILE,
             FORMAT,
@@ -357,7 +401,7 @@ pub(crate) static ASKING: [Subcommand; 5] = [
         example: "Example: coap post 5683 temperature !",
         arguments: &[
             SERVER_PORT,
-            PATH,
+            SERVER_PATH,
             SENT_BODY,
             BODY_FILE,
             FORMAT,
@@ -378,7 +422,7 @@ pub(crate) static ASKING: [Subcommand; 5] = [
         example: "Example: coap delete 5683 lamp",
         arguments: &[
             SERVER_PORT,
-            PATH,
+            SERVER_PATH,
             IF_MATCH,
             IF_NONE_MATCH,
             HOST,
@@ -396,7 +440,7 @@ pub(crate) static ASKING: [Subcommand; 5] = [
         example: "Example: coap observe 5683 temperature --count 2",
         arguments: &[
             SERVER_PORT,
-            PATH,
+            SERVER_PATH,
             TIMES,
             SECONDS,
             IN_HEX,
