@@ -1,6 +1,8 @@
 pub mod AskedTasks
 pub mod ObservedCalls
 pub mod PairCalls
+pub mod PolledCalls
+pub mod RightEnds
 pub mod RightWords
 pub mod ServedCalls
 pub mod SettingUpCalls

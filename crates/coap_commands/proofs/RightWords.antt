@@ -32,7 +32,7 @@ use Rattle.coap_arguments.specs.declared.orders.Content.{Content}
 use Rattle.coap_arguments.specs.declared.orders.Content.TheVariants as contents
 use Rattle.coap_arguments.specs.declared.refusals.NumberRefusal.{NumberRefusal}
 use Rattle.coap_arguments.specs.declared.refusals.NumberRefusal.TheVariants.{Port, Count, Limit, Remember, Format}
-use Rattle.coap_arguments.specs.declared.refusals.NumberRefusal.TheVariants.{Accept, Times, Seconds, GiveUp}
+use Rattle.coap_arguments.specs.declared.refusals.NumberRefusal.TheVariants.{Accept, Times, Seconds, GiveUp, Every}
 use Rattle.coap_arguments.specs.declared.refusals.TagsRefusal.{TagsRefusal}
 use Rattle.coap_arguments.specs.declared.refusals.TagsRefusal.TheVariants.{Etag, IfMatch}
 use Rattle.coap_arguments.specs.declared.orders.What.{What}
@@ -49,7 +49,7 @@ use Rattle.coap_commands.proofs.WhoTakes.{enters_one, value_one, differ, bytes_o
 use Rattle.coap_commands.proofs.WhoTakes.{asks_none, show_asks_none, dump_asks_none}
 use Rattle.coap_commands.proofs.WhoTakes.{answer_asks_none, pair_asks_none, serve_asks_none, sim_asks_none, what_asks}
 use Rattle.coap_commands.proofs.WhoTakes.{takes_none, makes_none, counts_none, addresses_none, tags_none, hexless}
-use Rattle.coap_commands.proofs.WhoTakes.{asks_hexless}
+use Rattle.coap_commands.proofs.WhoTakes.{asks_hexless, reads_none}
 
 -- ---- words that ask for an order: what is called wrong in them is none
 
@@ -73,7 +73,7 @@ has_path name v (Pair path body word limit remembered) takes h = (path, h.1, h.2
 has_path name v (Serve port count options) takes h =
     absurd (takes_none (codes "serve") name serve_asks_none refl refl h.0 takes)
 has_path name v (Ask port path what options) takes h = (path, h.2, h.3)
-has_path name v (Sim file store plains remembered chart) takes h = absurd
+has_path name v (Sim file store plains remembered chart client server) takes h = absurd
     (takes_none (codes "sim") name sim_asks_none refl refl h.0 takes)
 
 -- who takes no plain paths
@@ -96,7 +96,7 @@ has_plains name v (Pair path body word limit remembered) takes h = absurd
     (plain_none (codes "pair") name refl refl h.0 takes)
 has_plains name v (Serve port count options) takes h = (options.plains.items, h.3.plains)
 has_plains name v (Ask port path what options) takes h = absurd (asks_no_plain name (what_asks name v what h.0) takes)
-has_plains name v (Sim file store plains remembered chart) takes h = (plains.items, h.3)
+has_plains name v (Sim file store plains remembered chart client server) takes h = (plains.items, h.3)
 
 pub not_plains : (order : Order) (name : Text) (v : List Row) → AsksForIn name v order → IsWrongIn name v Plains → ⊥
 not_plains order name v asks (takes, many) =
@@ -152,12 +152,14 @@ has_number name v (Pair path body word limit remembered) Format takes h =
     absurd (sends_none (codes "pair") name refl refl h.0 takes)
 has_number name v (Pair path body word limit remembered) Accept e h = absurd
     (differ (codes "pair") (codes "get") name refl h.0 e)
-has_number name v (Pair path body word limit remembered) Times e h =
-    absurd (differ (codes "pair") (codes "observe") name refl h.0 e)
+has_number name v (Pair path body word limit remembered) Times takes h =
+    absurd (reads_none (codes "pair") name pair_asks_none h.0 takes)
 has_number name v (Pair path body word limit remembered) Seconds e h =
     absurd (differ (codes "pair") (codes "observe") name refl h.0 e)
 has_number name v (Pair path body word limit remembered) GiveUp e h = absurd
     (asks_none (codes "pair") name pair_asks_none h.0 e)
+has_number name v (Pair path body word limit remembered) Every e h = absurd
+    (differ (codes "pair") (codes "get") name refl h.0 e)
 has_number name v (Serve port count options) Port takes h = inr (port, h.1)
 has_number name v (Serve port count options) Count takes h = of_count v count h.2
 has_number name v (Serve port count options) Limit takes h = of_limit v options.limit h.3.limit
@@ -166,11 +168,13 @@ has_number name v (Serve port count options) Format takes h =
     absurd (sends_none (codes "serve") name refl refl h.0 takes)
 has_number name v (Serve port count options) Accept e h =
     absurd (differ (codes "serve") (codes "get") name refl h.0 e)
-has_number name v (Serve port count options) Times e h =
-    absurd (differ (codes "serve") (codes "observe") name refl h.0 e)
+has_number name v (Serve port count options) Times takes h =
+    absurd (reads_none (codes "serve") name serve_asks_none h.0 takes)
 has_number name v (Serve port count options) Seconds e h =
     absurd (differ (codes "serve") (codes "observe") name refl h.0 e)
 has_number name v (Serve port count options) GiveUp e h = absurd (asks_none (codes "serve") name serve_asks_none h.0 e)
+has_number name v (Serve port count options) Every e h =
+    absurd (differ (codes "serve") (codes "get") name refl h.0 e)
 has_number name v (Ask port path what options) Port takes h = inr (port, h.1)
 has_number name v (Ask port path what options) Count e h =
     absurd (asks_none (codes "serve") name serve_asks_none e (what_asks name v what h.0))
@@ -181,23 +185,27 @@ has_number name v (Ask port path what options) Accept takes h = of_optional v Ac
 has_number name v (Ask port path what options) Times takes h = of_optional v Times options.times h.4.times
 has_number name v (Ask port path what options) Seconds takes h = of_optional v Seconds options.seconds h.4.seconds
 has_number name v (Ask port path what options) GiveUp takes h = of_optional v GiveUp options.give_up h.4.give_up
-has_number name v (Sim file store plains remembered chart) Remember takes h = of_remembered v remembered h.4
-has_number name v (Sim file store plains remembered chart) Port takes h =
+has_number name v (Ask port path what options) Every takes h = of_optional v Every options.every h.4.every
+has_number name v (Sim file store plains remembered chart client server) Remember takes h =
+    of_remembered v remembered h.4
+has_number name v (Sim file store plains remembered chart client server) Port takes h =
     absurd (counts_none (codes "sim") name Port sim_asks_none refl refl (λ e. cc e) h.0 takes)
-has_number name v (Sim file store plains remembered chart) Count takes h =
+has_number name v (Sim file store plains remembered chart client server) Count takes h =
     absurd (counts_none (codes "sim") name Count sim_asks_none refl refl (λ e. cc e) h.0 takes)
-has_number name v (Sim file store plains remembered chart) Limit takes h =
+has_number name v (Sim file store plains remembered chart client server) Limit takes h =
     absurd (counts_none (codes "sim") name Limit sim_asks_none refl refl (λ e. cc e) h.0 takes)
-has_number name v (Sim file store plains remembered chart) Format takes h =
+has_number name v (Sim file store plains remembered chart client server) Format takes h =
     absurd (counts_none (codes "sim") name Format sim_asks_none refl refl (λ e. cc e) h.0 takes)
-has_number name v (Sim file store plains remembered chart) Accept takes h =
+has_number name v (Sim file store plains remembered chart client server) Accept takes h =
     absurd (counts_none (codes "sim") name Accept sim_asks_none refl refl (λ e. cc e) h.0 takes)
-has_number name v (Sim file store plains remembered chart) Times takes h =
+has_number name v (Sim file store plains remembered chart client server) Times takes h =
     absurd (counts_none (codes "sim") name Times sim_asks_none refl refl (λ e. cc e) h.0 takes)
-has_number name v (Sim file store plains remembered chart) Seconds takes h =
+has_number name v (Sim file store plains remembered chart client server) Seconds takes h =
     absurd (counts_none (codes "sim") name Seconds sim_asks_none refl refl (λ e. cc e) h.0 takes)
-has_number name v (Sim file store plains remembered chart) GiveUp takes h =
+has_number name v (Sim file store plains remembered chart client server) GiveUp takes h =
     absurd (counts_none (codes "sim") name GiveUp sim_asks_none refl refl (λ e. cc e) h.0 takes)
+has_number name v (Sim file store plains remembered chart client server) Every takes h =
+    absurd (counts_none (codes "sim") name Every sim_asks_none refl refl (λ e. cc e) h.0 takes)
 
 pub number_or_not : (v : List Row) (why : NumberRefusal) → MayHave why v → HasNoNumber why v → ⊥
 number_or_not v why (inl none) q =
@@ -229,7 +237,7 @@ not_word (Answer path body datagram) name v h (takes, none) =
 not_word (Pair path body word limit remembered) name v h (takes, none) = word_or_not v _ word h.4 none
 not_word (Serve port count options) name v h (takes, none) = word_or_not v _ options.word h.3.word none
 not_word (Ask port path what options) name v h (takes, none) = word_or_not v _ options.word h.4.word none
-not_word (Sim file store plains remembered chart) name v h (takes, none) =
+not_word (Sim file store plains remembered chart client server) name v h (takes, none) =
     absurd (makes_none (codes "sim") name sim_asks_none refl refl h.0 takes)
 
 pub address_or_not : (v : List Row) (why : AddressRefusal) (address : Ipv4Addr) → HasAddress why v address
@@ -257,7 +265,7 @@ not_address (Ask port path what options) Host name v h (takes, none) =
     address_or_not v Host options.host h.4.host none
 not_address (Ask port path what options) Own name v h (takes, none) =
     absurd (asks_none (codes "serve") name serve_asks_none takes (what_asks name v what h.0))
-not_address (Sim file store plains remembered chart) why name v h (takes, none) =
+not_address (Sim file store plains remembered chart client server) why name v h (takes, none) =
     absurd (addresses_none (codes "sim") name why sim_asks_none refl h.0 takes)
 
 pub size_or_not : (v : List Row) (szx : ℕ) → HasSize v szx → HasNoSize v → ⊥
@@ -275,7 +283,7 @@ not_size (Pair path body word limit remembered) name v h (asks, none) = absurd
 not_size (Serve port count options) name v h (asks, none) =
     absurd (asks_none (codes "serve") name serve_asks_none h.0 asks)
 not_size (Ask port path what options) name v h (asks, none) = size_or_not v options.size h.4.size none
-not_size (Sim file store plains remembered chart) name v h (asks, none) = absurd
+not_size (Sim file store plains remembered chart client server) name v h (asks, none) = absurd
     (asks_none (codes "sim") name sim_asks_none h.0 asks)
 
 -- each text says something
@@ -312,7 +320,7 @@ not_tags (Serve port count options) why name v h (takes, none) =
 not_tags (Ask port path what options) Etag name v h (takes, none) = tags_or_not v Etag options.etags h.4.etags none
 not_tags (Ask port path what options) IfMatch name v h (takes, none) =
     tags_or_not v IfMatch options.if_match h.4.if_match none
-not_tags (Sim file store plains remembered chart) why name v h (takes, none) =
+not_tags (Sim file store plains remembered chart client server) why name v h (takes, none) =
     absurd (tags_none (codes "sim") name why sim_asks_none h.0 takes)
 
 pub setting_or_not : (usual : WordChoice) (v : List Row) (why : SettingRefusal) (options : ServeOptions)
@@ -336,7 +344,7 @@ has_settings name v (Pair path body word limit remembered) serves h =
 has_settings name v (Serve port count options) serves h = (serving_word count, options, h.3)
 has_settings name v (Ask port path what options) serves h =
     absurd (asks_none (codes "serve") name serve_asks_none serves (what_asks name v what h.0))
-has_settings name v (Sim file store plains remembered chart) serves h = absurd
+has_settings name v (Sim file store plains remembered chart client server) serves h = absurd
     (differ (codes "sim") (codes "serve") name refl h.0 serves)
 
 pub not_setting : (order : Order) (why : SettingRefusal) (name : Text) (v : List Row) → AsksForIn name v order
@@ -352,7 +360,7 @@ content_or_not v (contents.File file) has (inl none) = absurd (cc (sym none.1 �
 content_or_not v (contents.File file) has (inr both) = absurd (cc (sym has.0 ∙ both.2))
 
 pub body_of_what : (v : List Row) (what : What) (name : Text) → IsWhat name v what → SendsBody name → HasNoContent v → ⊥
-body_of_what v Get name h sends none = sends_none (codes "get") name refl refl h sends
+body_of_what v Get name h sends none = sends_none (codes "get") name refl refl h.0 sends
 body_of_what v (Put content) name h sends none = content_or_not v content h.1 none
 body_of_what v (Post content) name h sends none = content_or_not v content h.1 none
 body_of_what v Delete name h sends none = sends_none (codes "delete") name refl refl h sends
@@ -366,8 +374,8 @@ not_body (Pair path body word limit remembered) name v h (sends, none) = sends_n
     sends
 not_body (Serve port count options) name v h (sends, none) = sends_none (codes "serve") name refl refl h.0 sends
 not_body (Ask port path what options) name v h (sends, none) = body_of_what v what name h.0 sends none
-not_body (Sim file store plains remembered chart) name v h (sends, none) = sends_none (codes "sim") name refl refl h.0
-    sends
+not_body (Sim file store plains remembered chart client server) name v h (sends, none) =
+    sends_none (codes "sim") name refl refl h.0 sends
 
 pub store_or_not : (v : List Row) (store : StoreKind) → HasStore v store → HasNoStore v → ⊥
 store_or_not v store (inl none) q = absurd (cc (sym none.0 ∙ q.1))
@@ -383,7 +391,7 @@ has_store name v (Pair path body word limit remembered) sim h = absurd
 has_store name v (Serve port count options) sim h = absurd (differ (codes "serve") (codes "sim") name refl h.0 sim)
 has_store name v (Ask port path what options) sim h =
     absurd (asks_none (codes "sim") name sim_asks_none sim (what_asks name v what h.0))
-has_store name v (Sim file store plains remembered chart) sim h = (store, h.2)
+has_store name v (Sim file store plains remembered chart client server) sim h = (store, h.2)
 
 pub not_store : (order : Order) (name : Text) (v : List Row) → AsksForIn name v order → IsWrongIn name v Store → ⊥
 not_store order name v asks (sim, none) =
@@ -399,7 +407,7 @@ has_bytes name v (Pair path body word limit remembered) h fine = absurd
     (hexless (codes "pair") name v refl refl h.0 fine)
 has_bytes name v (Serve port count options) h fine = absurd (hexless (codes "serve") name v refl refl h.0 fine)
 has_bytes name v (Ask port path what options) h fine = absurd (asks_hexless name v (what_asks name v what h.0) fine)
-has_bytes name v (Sim file store plains remembered chart) h fine = absurd
+has_bytes name v (Sim file store plains remembered chart client server) h fine = absurd
     (hexless (codes "sim") name v refl refl h.0 fine)
 
 pub not_hex : (order : Order) (name : Text) (v : List Row) → AsksForIn name v order → IsWrongIn name v Hex → ⊥

@@ -1,5 +1,5 @@
 -- What is wrong in words is one thing, and with which status it is answered.
-use Rattle.std.proofs.Common.{◌≡◌, ◌≢◌, ◌∙◌, inl, inr, ap, sym, subst, ℕ, ◌≤◌, List}
+use Rattle.std.proofs.Common.{◌≡◌, ◌≢◌, ◌∙◌, inl, inr, ap, sym, subst, ℕ, ◌≤◌, List, [], ◌∷◌, Option, None, Some}
 use Rattle.std.proofs.Common.{codes, refl, ◌⊎◌, arith, Result, Ok, Err, IfOk}
 use Rattle.clap.specs.Words.{Row, Text}
 use Rattle.std.specs.declared.alloc.Global.{Global}
@@ -7,10 +7,11 @@ use Rattle.coap_types.specs.declared.request.Method.{Method}
 use Rattle.coap_types.specs.declared.request.Method.TheVariants as method
 use Rattle.coap_client.specs.declared.client.report.Report as R
 use Rattle.coap_client.specs.declared.client.report.Report.TheVariants as report
-use Rattle.coap_commands.specs.Asked.{IsAsked, IsRequested, asked_method}
+use Rattle.coap_commands.specs.Asked.{IsAsked, IsPolled, IsRequested, asked_method}
 use Rattle.coap_commands.specs.Asks.{changed_report, changed_status, got_report, got_status, status_after}
 use Rattle.coap_commands.specs.Observes.{observed_report, observed_status}
 use Rattle.coap_commands.specs.Pairs.{IsPaired}
+use Rattle.coap_commands.specs.Polls.{Reading, read_status}
 use Rattle.coap_commands.specs.Served.{IsServed}
 use Rattle.coap_commands.specs.declared.calling.Outcome.{Outcome}
 use Rattle.coap_commands.specs.declared.calling.Outcome.TheVariants as outcome
@@ -31,9 +32,10 @@ use Rattle.coap_arguments.specs.declared.orders.What.{What}
 use Rattle.coap_arguments.specs.declared.orders.What.TheVariants.{Get, Put, Post, Delete, Observe}
 use Rattle.coap_arguments.specs.declared.orders.Wrong.{Wrong}
 use Rattle.coap_arguments.specs.declared.orders.Wrong.TheVariants.{Words, Path, Number, Word, Address, Size, Tags}
-use Rattle.coap_arguments.specs.declared.orders.Wrong.TheVariants.{Setting, Body, Store, Plains}
-use Rattle.coap_arguments.specs.declared.orders.Wrong.TheVariants.{Hex, Memory}
+use Rattle.coap_arguments.specs.declared.orders.Wrong.TheVariants.{Setting, Body, Store, Plains, Ends as NoEnds}
+use Rattle.coap_arguments.specs.declared.orders.Wrong.TheVariants.{Together, Hex, Memory}
 use Rattle.coap_commands.proofs.PairCalls.{paired_carried}
+use Rattle.coap_commands.proofs.RightEnds.{not_ends, not_together}
 use Rattle.coap_commands.proofs.RightWords.{none_wrong, not_plains, not_path, not_number, not_word, not_address}
 use Rattle.coap_commands.proofs.RightWords.{not_size, not_tags, not_setting, not_body, not_store, not_hex}
 use Rattle.coap_commands.proofs.WhoTakes.{enters_one, differ, path_or_not, not_refused, sends_none, show_asks_none}
@@ -79,6 +81,8 @@ not_both Store name v (fine, none) (sim, other) = elim fine [
   | inr h ↦ absurd (differ (codes "sim") (codes "answer") name refl sim h.0)
 ]
 not_both Plains name v (fine, none) (takes, other) = absurd (plain_hexless name v takes fine)
+not_both (NoEnds why) name v (fine, none) (sim, other) = absurd (hexless (codes "sim") name v refl refl sim fine)
+not_both (Together why) name v (fine, none) (get, other) = absurd (hexless (codes "get") name v refl refl get fine)
 not_both Hex name v bad is = inl refl
 not_both Memory name v bad is = inr refl
 
@@ -114,6 +118,8 @@ with_2 (Setting why) n is = inl is
 with_2 Body n is = inl is
 with_2 Store n is = inl is
 with_2 Plains n is = inl is
+with_2 (NoEnds why) n is = inl is
+with_2 (Together why) n is = inl is
 with_2 Hex n is = inl is
 with_2 Memory n is = tt
 
@@ -129,6 +135,8 @@ with_4 (Setting why) n is = inr is
 with_4 Body n is = inr is
 with_4 Store n is = inr is
 with_4 Plains n is = inr is
+with_4 (NoEnds why) n is = inr is
+with_4 (Together why) n is = inr is
 with_4 Hex n is = inr (inr is)
 with_4 Memory n is = tt
 
@@ -153,6 +161,8 @@ with_3 words (Setting why) n bad is three = hex_alone words (Setting why) n bad 
 with_3 words Body n bad is three = hex_alone words Body n bad is three
 with_3 words Store n bad is three = hex_alone words Store n bad is three
 with_3 words Plains n bad is three = hex_alone words Plains n bad is three
+with_3 words (NoEnds why) n bad is three = hex_alone words (NoEnds why) n bad is three
+with_3 words (Together why) n bad is three = hex_alone words (Together why) n bad is three
 with_3 words Hex n bad is three = inr (inl three)
 with_3 words Memory n bad is three = tt
 
@@ -174,6 +184,10 @@ order_answered words order (Setting why) n asks is =
 order_answered words order Body n asks is = absurd (none_wrong words order Body (not_body order) asks is)
 order_answered words order Store n asks is = absurd (none_wrong words order Store (not_store order) asks is)
 order_answered words order Plains n asks is = absurd (none_wrong words order Plains (not_plains order) asks is)
+order_answered words order (NoEnds why) n asks is =
+    absurd (none_wrong words order (NoEnds why) (not_ends order why) asks is)
+order_answered words order (Together why) n asks is =
+    absurd (none_wrong words order (Together why) (not_together order why) asks is)
 order_answered words order Hex n asks is = absurd (none_wrong words order Hex (not_hex order) asks is)
 order_answered words order Memory n asks is = tt
 
@@ -190,6 +204,8 @@ wrong_answered words ended (Setting why) wrong own told is = with_2 wrong _ (ap 
 wrong_answered words ended Body wrong own told is = with_2 wrong _ (ap number told)
 wrong_answered words ended Store wrong own told is = with_2 wrong _ (ap number told)
 wrong_answered words ended Plains wrong own told is = with_2 wrong _ (ap number told)
+wrong_answered words ended (NoEnds why) wrong own told is = with_2 wrong _ (ap number told)
+wrong_answered words ended (Together why) wrong own told is = with_2 wrong _ (ap number told)
 wrong_answered words ended Hex wrong own (inl told) is = with_2 wrong _ (ap number told)
 wrong_answered words ended Hex wrong own (inr told) is = with_3 words wrong _ own is (ap number told)
 wrong_answered words ended Memory wrong own told is = with_4 wrong _ (ap number told)
@@ -219,6 +235,8 @@ of_words words ended (Setting why) is told h = (Setting why, is, λ e. cc e)
 of_words words ended Body is told h = (Body, is, λ e. cc e)
 of_words words ended Store is told h = (Store, is, λ e. cc e)
 of_words words ended Plains is told h = (Plains, is, λ e. cc e)
+of_words words ended (NoEnds why) is told h = (NoEnds why, is, λ e. cc e)
+of_words words ended (Together why) is told h = (Together why, is, λ e. cc e)
 of_words words ended Hex is told h = (Hex, is, λ e. cc e)
 of_words words ended Memory is told h = absurd (let n : 4 ≡ 2 = sym (ap number told) ∙ h in omega (arith, n))
 
@@ -261,12 +279,28 @@ requested_carried s port path what options h =
     let asks = h.4 in
     subst IsCarriedOut (sym asks.2) (after_carried (asked_method what) asks.0)
 
+read_ends : (readings : List Reading) → IsCarriedOut (read_status readings)
+read_ends [] = inl refl
+read_ends (r ∷ earlier) = got_ends r.outcome
+
+polled_carried : (s : Status) (port : ℕ) (path : List (List ℕ)) (every : ℕ) (options : AskOptions)
+    → IsPolled port path every options s → IsCarriedOut s
+polled_carried s port path every options h =
+    let polls = h.2 in
+    subst IsCarriedOut (sym polls.3) (read_ends polls.0)
+
+-- a GET, which may be made again and again
+got_done : (s : Status) (port : ℕ) (path : List (List ℕ)) (options : AskOptions) (period : Option ℕ)
+    → options.every ≡ period → IsAsked port path Get options s → IsCarriedOut s
+got_done s port path options None is h = requested_carried s port path Get options (h.2 refl is)
+got_done s port path options (Some every) is h = polled_carried s port path every options (h.1 every is)
+
 asked_done : (s : Status) (port : ℕ) (path : List (List ℕ)) (what : What) (options : AskOptions)
     → IsAsked port path what options s → IsCarriedOut s
-asked_done s port path Get options h = requested_carried s port path Get options (h.1 refl)
-asked_done s port path (Put content) options h = requested_carried s port path (Put content) options (h.1 refl)
-asked_done s port path (Post content) options h = requested_carried s port path (Post content) options (h.1 refl)
-asked_done s port path Delete options h = requested_carried s port path Delete options (h.1 refl)
+asked_done s port path Get options h = got_done s port path options options.every refl h
+asked_done s port path (Put content) options h = requested_carried s port path (Put content) options (h.2 refl refl)
+asked_done s port path (Post content) options h = requested_carried s port path (Post content) options (h.2 refl refl)
+asked_done s port path Delete options h = requested_carried s port path Delete options (h.2 refl refl)
 asked_done s port path Observe options h =
     let observes = (h.0 refl).2 in
     subst IsCarriedOut (sym observes.2) (observed_ends observes.0)
@@ -302,7 +336,7 @@ text_only (Pair path body word limit remembered) ended c h =
 text_only (Serve port count options) ended c h = absurd (carried_out ended (served_done ended count options c) h)
 text_only (Ask port path what options) ended c h = absurd (carried_out ended
     (asked_carried ended port path what options c) h)
-text_only (Sim file store plains remembered chart) ended c h = tt
+text_only (Sim file store plains remembered chart client server) ended c h = tt
 
 -- 2 says that something is wrong in the words, or that they have a text read
 pub wrong_words : (words : List Text) (ended : Result Status Stop) → Ends words ended → number ended ≡ 2
@@ -323,6 +357,8 @@ told_more ended (Setting why) told h = absurd (let n : number ended ≡ 2 = ap n
 told_more ended Body told h = absurd (let n : number ended ≡ 2 = ap number told in omega (arith, n, h))
 told_more ended Store told h = absurd (let n : number ended ≡ 2 = ap number told in omega (arith, n, h))
 told_more ended Plains told h = absurd (let n : number ended ≡ 2 = ap number told in omega (arith, n, h))
+told_more ended (NoEnds why) told h = absurd (let n : number ended ≡ 2 = ap number told in omega (arith, n, h))
+told_more ended (Together why) told h = absurd (let n : number ended ≡ 2 = ap number told in omega (arith, n, h))
 told_more ended Hex (inl told) h = absurd (let n : number ended ≡ 2 = ap number told in omega (arith, n, h))
 told_more ended Hex (inr told) h = absurd (let n : number ended ≡ 3 = ap number told in omega (arith, n, h))
 told_more ended Memory told h = absurd (let n : number ended ≡ 4 = ap number told in omega (arith, n, h))

@@ -23,7 +23,7 @@ pub chain_join : (old mid new : State) (later earlier : List Call) → Chain old
 chain_join old mid new [] earlier h k = subst (Chain old earlier) (sym k) h
 chain_join old mid new (c ∷ later) earlier h k = (k.0, chain_join old mid k.0 later earlier h k.1, k.2)
 
-each_join : (like : Call → Type 0) (later earlier : List Call) → Each like later → Each like earlier
+pub each_join : (like : Call → Type 0) (later earlier : List Call) → Each like later → Each like earlier
     → Each like (later ++ earlier)
 each_join like [] earlier a b = b
 each_join like (c ∷ later) earlier a b = (a.0, each_join like later earlier a.1 b)

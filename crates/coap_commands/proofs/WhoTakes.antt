@@ -17,7 +17,7 @@ use Rattle.coap_arguments.specs.declared.refusals.AddressRefusal.{AddressRefusal
 use Rattle.coap_arguments.specs.declared.refusals.AddressRefusal.TheVariants.{Host, Address as Own}
 use Rattle.coap_arguments.specs.declared.refusals.NumberRefusal.{NumberRefusal}
 use Rattle.coap_arguments.specs.declared.refusals.NumberRefusal.TheVariants.{Port, Count, Limit, Remember, Format}
-use Rattle.coap_arguments.specs.declared.refusals.NumberRefusal.TheVariants.{Accept, Times, Seconds, GiveUp}
+use Rattle.coap_arguments.specs.declared.refusals.NumberRefusal.TheVariants.{Accept, Times, Seconds, GiveUp, Every}
 use Rattle.coap_arguments.specs.declared.refusals.TagsRefusal.{TagsRefusal}
 use Rattle.coap_arguments.specs.declared.refusals.TagsRefusal.TheVariants.{Etag, IfMatch}
 use Rattle.coap_arguments.specs.declared.orders.What.{What}
@@ -116,7 +116,7 @@ sim_asks_none = record { get = refl; put = refl; post = refl; delete = refl; obs
 
 -- what asks of a server is none of the other subcommands
 pub what_asks : (name : Text) (v : List Row) (what : What) → IsWhat name v what → IsAsk name
-what_asks name v Get h = inl h
+what_asks name v Get h = inl h.0
 what_asks name v (Put content) h = inr (inr (inr (inl h.0)))
 what_asks name v (Post content) h = inr (inr (inr (inr h.0)))
 what_asks name v Delete h = inr (inr (inl h))
@@ -136,6 +136,11 @@ makes_none known name n p s is (inl e) = differ known (codes "pair") name p is e
 makes_none known name n p s is (inr (inl e)) = differ known (codes "serve") name s is e
 makes_none known name n p s is (inr (inr e)) = asks_none known name n is e
 
+-- who reads no value again and again
+pub reads_none : (known name : Text) → AsksNone known → name ≡ known → TakesNumber Times name → ⊥
+reads_none known name n is (inl e) = differ known (codes "get") name n.get is e
+reads_none known name n is (inr e) = differ known (codes "observe") name n.observe is e
+
 pub counts_none : (known name : Text) (why : NumberRefusal) → AsksNone known → bytes_eq known (codes "pair") ≡ false
     → bytes_eq known (codes "serve") ≡ false → (why ≡ Remember → bytes_eq known (codes "sim") ≡ false) → name ≡ known
     → TakesNumber why name → ⊥
@@ -147,9 +152,10 @@ counts_none known name Remember n p s m is (inl e) = differ known (codes "sim") 
 counts_none known name Remember n p s m is (inr e) = makes_none known name n p s is e
 counts_none known name Format n p s m is e = sends_none known name n.put n.post is e
 counts_none known name Accept n p s m is e = differ known (codes "get") name n.get is e
-counts_none known name Times n p s m is e = differ known (codes "observe") name n.observe is e
+counts_none known name Times n p s m is e = reads_none known name n is e
 counts_none known name Seconds n p s m is e = differ known (codes "observe") name n.observe is e
 counts_none known name GiveUp n p s m is e = asks_none known name n is e
+counts_none known name Every n p s m is e = differ known (codes "get") name n.get is e
 
 pub addresses_none : (known name : Text) (why : AddressRefusal) → AsksNone known → bytes_eq known (codes "serve")
     ≡ false

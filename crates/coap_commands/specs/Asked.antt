@@ -1,5 +1,5 @@
 -- What the words of a subcommand have a client ask.
-use Rattle.std.specs.Prelude.{◌≡◌, ⊤, ℕ, Bool, true, false, List, []}
+use Rattle.std.specs.Prelude.{◌≡◌, ⊤, ℕ, Bool, true, false, List, [], Option, Some, None}
 use Rattle.std.specs.Net.Addr.{ipv4_octets}
 use Rattle.coap_types.specs.declared.endpoint.Endpoint.{Endpoint}
 use Rattle.coap_types.specs.declared.request.Method.{Method}
@@ -16,6 +16,7 @@ use Rattle.coap_arguments.specs.declared.orders.WordChoice.TheVariants.{Given, R
 use Rattle.coap_commands.specs.Asks.{Asks}
 use Rattle.coap_commands.specs.Ends.{client_sizes}
 use Rattle.coap_commands.specs.Observes.{Observes}
+use Rattle.coap_commands.specs.Polls.{Polls}
 use Rattle.coap_scripts.specs.declared.status.Status.{Status}
 
 -- the word that is chosen; a random one may be any
@@ -80,6 +81,13 @@ IsObserved port path options status =
     × Observes (asked_server port options) (client_sizes options.size options.limit)
     (asked_setup word options) path options status
 
+-- a client GETs the path from that server again and again, so many seconds after the last time
+abbrev pub IsPolled : ℕ → List (List ℕ) → ℕ → AskOptions → Status → Type 0
+IsPolled port path every options status =
+    (word : ℕ) × IsWord options.word word
+    × Polls (asked_server port options) (client_sizes options.size options.limit)
+    (asked_setup word options) (asked_request Get path options []) every options status
+
 -- an observation is asked for (RFC 7641)
 abbrev pub is_observe : What → Bool
 is_observe Get = false
@@ -88,8 +96,17 @@ is_observe (Post content) = false
 is_observe Delete = false
 is_observe Observe = true
 
--- a client asks the server for it: it observes, or hands it a request
+-- after how many seconds it is asked for again: a GET alone may be
+abbrev pub period_of : What → AskOptions → Option ℕ
+period_of Get options = options.every
+period_of (Put content) options = None
+period_of (Post content) options = None
+period_of Delete options = None
+period_of Observe options = None
+
+-- a client asks the server for it: it observes, GETs it again and again, or hands it one request
 abbrev pub IsAsked : ℕ → List (List ℕ) → What → AskOptions → Status → Type 0
 IsAsked port path what options status =
     (is_observe what ≡ true → IsObserved port path options status)
-    × (is_observe what ≡ false → IsRequested port path what options status)
+    × ((every : ℕ) → period_of what options ≡ Some every → IsPolled port path every options status)
+    × (is_observe what ≡ false → period_of what options ≡ None → IsRequested port path what options status)

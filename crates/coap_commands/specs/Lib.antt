@@ -5,6 +5,7 @@ pub mod Dumps
 pub mod Ends
 pub mod Observes
 pub mod Pairs
+pub mod Polls
 pub mod Progress
 pub mod Served
 pub mod Serves

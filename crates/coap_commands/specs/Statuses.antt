@@ -16,8 +16,8 @@ use Rattle.coap_arguments.specs.declared.orders.Order.{Order}
 use Rattle.coap_arguments.specs.declared.orders.Order.TheVariants.{Ask, Dump, Pair, Serve, Sim}
 use Rattle.coap_arguments.specs.declared.orders.Wrong.{Wrong}
 use Rattle.coap_arguments.specs.declared.orders.Wrong.TheVariants.{Words, Path, Number, Word, Address, Size, Tags}
-use Rattle.coap_arguments.specs.declared.orders.Wrong.TheVariants.{Setting, Body, Store, Plains}
-use Rattle.coap_arguments.specs.declared.orders.Wrong.TheVariants.{Hex, Memory}
+use Rattle.coap_arguments.specs.declared.orders.Wrong.TheVariants.{Setting, Body, Store, Plains, Ends as NoEnds}
+use Rattle.coap_arguments.specs.declared.orders.Wrong.TheVariants.{Together, Hex, Memory}
 
 -- the status of a run that came to its end, or stopped
 abbrev pub status_of : Result Status Stop → Status
@@ -35,14 +35,14 @@ IsOfScript s = (s ≡ status.Done) ⊎ ((s ≡ status.Refused) ⊎ (s ≡ status
 
 -- the order reads a text: a script, or lines of hex
 abbrev pub ReadsText : Order → Type 0
-ReadsText (Sim file store plains remembered chart) = ⊤
+ReadsText (Sim file store plains remembered chart client server) = ⊤
 ReadsText Dump = ⊤
 ReadsText _ = ⊥
 
 -- what this order comes to, carried out to its end
 abbrev pub CarriesOut : Order → Status → Type 0
-CarriesOut (Sim file store plains remembered chart) s =
-    (events : List Event) × IsSim (sim_config remembered plains.items) events s
+CarriesOut (Sim file store plains remembered chart client server) s = (events : List Event)
+    × IsSim (sim_config (record { client = client; server = server }) remembered plains.items) events s
 CarriesOut Dump s = IsOfScript s
 CarriesOut (Pair path body word limit remembered) s = IsPaired path body.now word limit remembered s
 CarriesOut (Serve port count options) s = IsServed count options s
@@ -62,6 +62,8 @@ IsTold (Setting refusal) ended = ended ≡ Ok status.Words
 IsTold Body ended = ended ≡ Ok status.Words
 IsTold Store ended = ended ≡ Ok status.Words
 IsTold Plains ended = ended ≡ Ok status.Words
+IsTold (NoEnds refusal) ended = ended ≡ Ok status.Words
+IsTold (Together refusal) ended = ended ≡ Ok status.Words
 IsTold Hex ended = (ended ≡ Ok status.Words) ⊎ (ended ≡ Err stop.Failed)
 IsTold Memory ended = ended ≡ Err stop.Memory
 
@@ -79,6 +81,8 @@ IsAnswered (Setting refusal) n = (n ≡ 2) ⊎ (n ≡ 4)
 IsAnswered Body n = (n ≡ 2) ⊎ (n ≡ 4)
 IsAnswered Store n = (n ≡ 2) ⊎ (n ≡ 4)
 IsAnswered Plains n = (n ≡ 2) ⊎ (n ≡ 4)
+IsAnswered (NoEnds refusal) n = (n ≡ 2) ⊎ (n ≡ 4)
+IsAnswered (Together refusal) n = (n ≡ 2) ⊎ (n ≡ 4)
 IsAnswered Hex n = (n ≡ 2) ⊎ ((n ≡ 3) ⊎ (n ≡ 4))
 IsAnswered Memory n = ⊤
 

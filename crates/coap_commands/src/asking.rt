@@ -1,6 +1,6 @@
 //! A client over a socket, which asks what the words say.
-ghost use Rattle.std.specs.Prelude.{◌≡◌, IfOk, false};
-ghost use Rattle.coap_commands.specs.Asked.{IsAsked, is_observe};
+ghost use Rattle.std.specs.Prelude.{◌≡◌, IfOk};
+ghost use Rattle.coap_commands.specs.Asked.{IsAsked, is_observe, period_of};
 ghost use Rattle.coap_commands.specs.Tasks.{IsDone, IsTask};
 
 use crate::ask::ask_over;
@@ -8,6 +8,7 @@ use crate::closed_port::{ClosedPort, ClosedPortLink};
 use crate::connection::{Connection, Terms};
 use crate::observe::observe_over;
 use crate::patience::{Patience, PatientLink, patience_on};
+use crate::polling::{Polling, poll_over};
 use crate::progress::progress_on;
 use crate::request::{body_of, request_of, server_of};
 use crate::screen::{BesideScreen, Screen, erase};
@@ -33,6 +34,8 @@ pub(crate) enum Task<'a> {
     Request(Request),
     /// The observation of a path.
     Observation(&'a Path),
+    /// A GET of a path again and again, so many seconds after the last time.
+    Polling(&'a Path, u64),
 }
 
 impl<'a> Task<'a> {
@@ -40,7 +43,7 @@ impl<'a> Task<'a> {
     fn body_len(&self) -> usize {
         match self {
             Task::Request(request) => request.body.len(),
-            Task::Observation(_) => 0,
+            Task::Observation(_) | Task::Polling(_, _) => 0,
         }
     }
 }
@@ -68,6 +71,16 @@ fn is_observe(what: What<'_>) -> bool
     }
 }
 
+// After how many seconds the words ask for it again.
+fn period_of(what: What<'_>, options: &AskOptions) -> Option<u64>
+    ensures { result ≡ period_of what.entry options.now }
+{
+    match what {
+        What::Get => options.every,
+        What::Put(_) | What::Post(_) | What::Delete | What::Observe => None,
+    }
+}
+
 // What a client is handed for what the words ask for: the body of a request is read.
 fn task_of<'a, R: AllocGlobal + Files>(
     rt: &R,
@@ -79,6 +92,9 @@ fn task_of<'a, R: AllocGlobal + Files>(
 {
     if is_observe(what) {
         return Ok(Task::Observation(path));
+    }
+    if let Some(every) = period_of(what, options) {
+        return Ok(Task::Polling(path, every));
     }
     let body = body_of(rt, what, options.limit)?;
     let request = request_of(path, what, options, body)?;
@@ -109,6 +125,14 @@ fn ask_task<L: Link, T: Timekeeper, H: BuildHasher + Drop, O: Write, E: Write>(
         Task::Observation(path) => observe_over(
             alloc, connection, server, hasher, path, options, word, out,
         ),
+        Task::Polling(path, every) => {
+            let polling = Polling {
+                path,
+                every,
+                options,
+            };
+            poll_over(alloc, connection, server, hasher, &polling, word, out)
+        }
     }
 }
 

@@ -4,7 +4,7 @@ ghost use Rattle.coap_types.specs.declared.endpoint.Endpoint.{Endpoint};
 ghost use Rattle.coap_types.specs.declared.request.Method.TheVariants.{Get, Put};
 ghost use Rattle.coap_block.specs.Sizes.{Sizes};
 ghost use Rattle.coap_layer.specs.declared.setup.Setup.{Setup as SetupSpec};
-ghost use Rattle.coap_client.specs.Led.{Led};
+ghost use Rattle.coap_client.specs.Led.{Led, Step};
 ghost use Rattle.coap_client.specs.Object.CallShown.{shown_request};
 ghost use Rattle.coap_client.specs.Object.Shown.{number_of};
 ghost use Rattle.coap_client.specs.Trace.{Call, Calls};
@@ -52,6 +52,9 @@ pub fn call<H: BuildHasher>(
     now: Moment,
     request: Request,
 ) -> Result<Result<CallId, CallRefusal>, Stop>
+    // A request that is handed over is one call of the client, with this answer.
+    ensures step { IfOk result (λ answer. Step client.old (Calls now.0 (shown_request request) (number_of answer))
+        client.new) }
     // What leads to the client before the call leads, with the call and its answer, to the client after it.
     ensures led { IfOk result (λ answer. (server : Endpoint) (sizes : Sizes) (w : SetupSpec) (t : List Call)
         → Led server sizes w t client.old

@@ -16,6 +16,7 @@ use crate::put_away::put_away;
 use crate::serve::serve;
 use crate::show::show;
 use coap_arguments::{Order, Wrong, order};
+use coap_run::Addresses;
 use coap_scripts::{Status, Stop, sim_file};
 use std::io;
 use std::io::{ErrorKind, Write};
@@ -66,9 +67,15 @@ fn perform<R: AllocGlobal + Files + Net + Clock + RandomSource, O: Write, E: Wri
             plains,
             remembered,
             chart,
+            client,
+            server,
         } => {
+            let ends = Addresses {
+                client: *client,
+                server: *server,
+            };
             let plains = plains.as_slice();
-            sim_file(rt, file, *store, plains, *remembered, *chart, out)
+            sim_file(rt, file, *store, plains, *remembered, ends, *chart, out)
         }
     }
 }
@@ -94,7 +101,9 @@ pub fn refuse<O: Write, E: Write>(wrong: Wrong, out: &mut O, err: &mut E) -> Res
         | Wrong::Setting(_)
         | Wrong::Body
         | Wrong::Store
-        | Wrong::Plains => {
+        | Wrong::Plains
+        | Wrong::Ends(_)
+        | Wrong::Together(_) => {
             let _ = writeln!(err, "{wrong}");
             Ok(Status::Words)
         }

@@ -2,7 +2,7 @@
 //! writer that it is handed.
 //!
 //! [`command`] runs the words of one run and answers the exit status. [`pair_over`], [`serve_over`],
-//! [`ask_over`] and [`sim_to`] are the subcommands without their sockets and files.
+//! [`ask_over`], [`poll_over`] and [`sim_to`] are the subcommands without their sockets and files.
 #![tactic(auto)]
 
 mod answer;
@@ -19,6 +19,7 @@ mod ends;
 mod observe;
 mod pair;
 mod patience;
+mod polling;
 mod progress;
 mod put_away;
 mod request;
@@ -38,7 +39,10 @@ pub use changes::{
     Applies, ChangeLines, ChangeTeller, ChangeWords, MAX_TOLD_LEN, TellingEnd, changes_on,
 };
 pub use closed_port::{ClosedPort, ClosedPortLink, closed_port_link_law};
-pub use coap_scripts::{ScriptRefusal, Status, Stop, events_of, largest_szx, sim_to, sim_with};
+pub use coap_run::Addresses;
+pub use coap_scripts::{
+    ScriptRefusal, Status, Stop, USUAL_ENDS, events_of, largest_szx, sim_to, sim_with,
+};
 pub use connection::{Connection, Terms};
 pub use driver::{close, command, command_on, refuse, without_words};
 pub use dump::{dump_line, dump_to};
@@ -48,6 +52,7 @@ pub use pair::pair_over;
 pub use patience::{
     LONG_WAIT, MAX_TRANSMIT_WAIT, Patience, PatientLink, latest_end, patience_on, patient_link_law,
 };
+pub use polling::{Polling, poll_over};
 pub use progress::{Progress, ProgressTeller, SHOWN_MS, progress_of, progress_on};
 pub use request::{body_of, request_of};
 pub use screen::{BesideScreen, Screen, erase};

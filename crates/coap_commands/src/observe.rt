@@ -42,8 +42,8 @@ fn has_all(times: Option<u64>, values: u64) -> bool
     }
 }
 
-// Whether so many seconds have passed.
-fn is_late(seconds: Option<u64>, begin: Moment, now: Moment) -> bool
+/// Whether so many seconds have passed.
+pub(crate) fn is_late(seconds: Option<u64>, begin: Moment, now: Moment) -> bool
     ensures { result ≡ true → IsLate seconds begin.0 now.0 }
 {
     match seconds {
@@ -80,8 +80,8 @@ fn print_value<W: Write>(
     Ok(true)
 }
 
-// Prints bytes on a line, at once.
-fn print_line<W: Write>(
+/// Prints bytes on a line, at once.
+pub(crate) fn print_line<W: Write>(
     alloc: Global,
     bytes: &[u8],
     is_hex: bool,

@@ -35,6 +35,8 @@ mod hosts;
 #[cfg(test)]
 mod observing;
 #[cfg(test)]
+mod polling;
+#[cfg(test)]
 mod programs;
 #[cfg(test)]
 mod refusing_end;

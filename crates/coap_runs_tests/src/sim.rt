@@ -5,6 +5,7 @@
 //! for nothing, and a `_` in what is printed parts bytes that belong together.
 mod calls;
 mod charts;
+mod ends;
 mod examples;
 mod legality;
 mod observations;
@@ -16,7 +17,7 @@ mod uploads;
 
 use crate::rows::words_of;
 use coap_arguments::{StoreKind, path_of_text};
-use coap_commands::{close, command, sim_to, sim_with};
+use coap_commands::{USUAL_ENDS, close, command, sim_to, sim_with};
 use coap_types::{Path, Remembered};
 use std::alloc::{AllocError, Global};
 use std::io::{ErrorKind, Read};
@@ -58,6 +59,7 @@ fn check_script_with(
             store,
             plains,
             Remembered::default(),
+            USUAL_ENDS,
             false,
             &mut out,
         );

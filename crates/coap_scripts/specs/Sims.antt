@@ -6,7 +6,8 @@ use Rattle.coap_block.specs.Sizes.{usual_sizes}
 use Rattle.coap_resource.specs.Limits.{usual_limits}
 use Rattle.coap_resource.specs.declared.tally.TheConstants.{MAX_CHANGES_PER_WINDOW as max_changes}
 use Rattle.coap_server.specs.Plain.{plains_with}
-use Rattle.coap_record.specs.Events.{usual_addresses, Config, Event}
+use Rattle.coap_record.specs.Events.{Config, Event}
+use Rattle.coap_record.specs.declared.addresses.Addresses.{Addresses}
 use Rattle.coap_run.specs.Run.Log.{Log}
 use Rattle.coap_run.specs.Run.Runs.{IsFirstWrong, IsRunOf}
 use Rattle.coap_scripts.specs.declared.status.Status.{Status}
@@ -20,10 +21,11 @@ sim_setup remembered = record { word = 0; remembered = remembered }
 abbrev pub each_once : List (List (List ℕ)) → List (List (List ℕ))
 each_once paths = fold (λ ps path. plains_with path true ps) [] paths
 
--- both ends have the largest blocks and the usual limits, no path has a delay, and these are plain
-abbrev pub sim_config : ℕ → List (List (List ℕ)) → Config
-sim_config remembered paths = record {
-  addresses = usual_addresses;
+-- the ends stand at these addresses, both have the largest blocks and the usual limits, no path has a delay, and these
+-- are plain
+abbrev pub sim_config : Addresses → ℕ → List (List (List ℕ)) → Config
+sim_config ends remembered paths = record {
+  addresses = ends;
   client_setup = sim_setup remembered;
   client_sizes = usual_sizes max_szx;
   server_setup = sim_setup remembered;
@@ -34,7 +36,7 @@ sim_config remembered paths = record {
 }
 
 -- What the run of these events comes to: it came to its end, or one of them is not legal. Nothing is run where a line
--- is none, or where there are too many plain paths.
+-- is none, where both ends have one address, or where there are too many plain paths.
 abbrev pub IsSim : Config → List Event → Status → Type 0
 IsSim config events status.Done = (log : Log) × IsRunOf config events log
 IsSim config events status.Refused = (number : ℕ) × IsFirstWrong config events number

@@ -1,7 +1,7 @@
 //! `sim`: a script is run, and what comes of it is printed.
-ghost use Rattle.std.specs.Prelude.{◌≡◌, [], ℕ, List, IfOk, map};
+ghost use Rattle.std.specs.Prelude.{◌≡◌, ◌≢◌, [], ℕ, List, IfOk, OnOk, map};
 ghost use Rattle.coap_types.specs.declared.remembered.TheConstants.{DEFAULT_REMEMBERED as default_remembered};
-ghost use Rattle.coap_record.specs.Events.{Event as EventSpec};
+ghost use Rattle.coap_record.specs.Events.{Event as EventSpec, usual_addresses};
 ghost use Rattle.coap_run.specs.Run.Happening.{event_of};
 ghost use Rattle.coap_run.specs.declared.running.RunRefusal.TheVariants.{NotLegal};
 ghost use Rattle.coap_scripts.specs.Sims.{IsSim, sim_config};
@@ -28,8 +28,8 @@ const WORD: u64 = 0;
 
 const _: () = prove!(WORD == 0);
 
-// Where the two ends stand.
-const ENDS: Addresses = Addresses {
+/// Where the two ends stand if nothing else is said.
+pub const USUAL_ENDS: Addresses = Addresses {
     client: CLIENT_END,
     server: SERVER_END,
 };
@@ -44,9 +44,11 @@ pub fn sim_to<A: Allocator + Copy, R: Read, W: Write>(
     script: &mut R,
     out: &mut W,
 ) -> Result<Status, Stop>
-    // Some list of events, which nothing here ties to the text, runs to its end with status 0, between ends that
-    // remember the usual number of messages and without a plain path; one of them is not legal with status 1.
-    ensures { IfOk result (λ status. (events : List EventSpec) × IsSim (sim_config default_remembered []) events status) }
+    // Some list of events, which nothing here ties to the text, runs to its end with status 0, between ends at the
+    // usual addresses, which remember the usual number of messages, and without a plain path; one of them is not legal
+    // with status 1.
+    ensures { IfOk result (λ status. (events : List EventSpec)
+        × IsSim (sim_config usual_addresses default_remembered []) events status) }
 {
     let no_path: [Path<A>; 0] = [];
     sim_with(
@@ -55,26 +57,31 @@ pub fn sim_to<A: Allocator + Copy, R: Read, W: Write>(
         StoreKind::Map,
         &no_path,
         Remembered::default(),
+        USUAL_ENDS,
         false,
         out,
     )
 }
 
-/// Runs a script as [`sim_to`] does, over ends that remember so many messages, and a server with such a store, which
-/// tells the observers of these paths in Non-confirmable messages where it may. With more than `MAX_PLAINS` different
-/// ones nothing is run: these are wrong words. What comes of it is printed a line each, or drawn as a chart.
+/// Runs a script as [`sim_to`] does, over ends at these addresses that remember so many messages, and a server with
+/// such a store, which tells the observers of these paths in Non-confirmable messages where it may. With more than
+/// `MAX_PLAINS` different ones, or one address for both ends, nothing is run: these are wrong words. What comes of it
+/// is printed a line each, or drawn as a chart.
 pub fn sim_with<A: Allocator + Copy, R: Read, W: Write>(
     alloc: A,
     script: &mut R,
     store: StoreKind,
     plains: &[Path<A>],
     remembered: Remembered,
+    ends: Addresses,
     chart: bool,
     out: &mut W,
 ) -> Result<Status, Stop>
-    // Some list of events, which nothing here ties to the text, runs to its end with status 0, between ends that
-    // remember so many messages and with these plain paths, over either store; one of them is not legal with status 1.
-    ensures { IfOk result (λ status. (events : List EventSpec) × IsSim (sim_config remembered plains.now) events status) }
+    // Some list of events, which nothing here ties to the text, runs to its end with status 0, between ends at these
+    // addresses that remember so many messages, and with these plain paths, over either store; one of them is not legal
+    // with status 1.
+    ensures { IfOk result (λ status. (events : List EventSpec)
+        × IsSim (sim_config ends remembered plains.now) events status) }
 {
     let mut text = Vec::new(alloc);
     if let Err(error) = script.read_to_end(&mut text) {
@@ -87,6 +94,7 @@ pub fn sim_with<A: Allocator + Copy, R: Read, W: Write>(
             store,
             plains,
             remembered,
+            ends,
             chart,
             out,
         ),
@@ -101,7 +109,7 @@ pub fn sim_with<A: Allocator + Copy, R: Read, W: Write>(
 // With what a run begins: both ends have the largest blocks, no path is answered later, and observers
 // are told in Confirmable messages.
 fn usual_config<A: Allocator + Copy>(alloc: A) -> WorldConfig<A>
-    ensures { result ≡ sim_config default_remembered [] }
+    ensures { result ≡ sim_config usual_addresses default_remembered [] }
 {
     let szx = largest_szx();
     match WorldConfig::new(alloc, WORD, WORD, szx, szx, MAX_CHANGES_PER_WINDOW) {
@@ -116,7 +124,7 @@ fn config_with<A: Allocator + Copy>(
     plains: &[Path<A>],
     remembered: Remembered,
 ) -> Result<WorldConfig<A>, PlainRefusal>
-    ensures { IfOk result (λ config. config ≡ sim_config remembered plains.now) }
+    ensures { IfOk result (λ config. config ≡ sim_config usual_addresses remembered plains.now) }
 {
     let mut config = usual_config(alloc);
     config.remembered(remembered, remembered);
@@ -124,6 +132,36 @@ fn config_with<A: Allocator + Copy>(
         config.plain(path)?;
     }
     Ok(config)
+}
+
+// Why nothing is run.
+enum NoConfig {
+    // The words name one address for both ends, or too many plain paths.
+    Words,
+    // An allocation was refused.
+    Memory,
+}
+
+// The same, where the ends stand at these addresses, which are two.
+fn config_at<A: Allocator + Copy>(
+    alloc: A,
+    plains: &[Path<A>],
+    remembered: Remembered,
+    ends: Addresses,
+) -> Result<WorldConfig<A>, NoConfig>
+    ensures at { IfOk result (λ config. config ≡ sim_config ends remembered plains.now) }
+    ensures two { OnOk result (ends.client ≢ ends.server) }
+{
+    let mut config = match config_with(alloc, plains, remembered) {
+        Ok(config) => config,
+        Err(PlainRefusal::Full) => return Err(NoConfig::Words),
+        Err(PlainRefusal::Memory) => return Err(NoConfig::Memory),
+    };
+    if config.at(ends.client, ends.server) {
+        Ok(config)
+    } else {
+        Err(NoConfig::Words)
+    }
 }
 
 // Prints which event is not legal.
@@ -142,15 +180,16 @@ fn tell_refusal<W: Write>(refusal: RunRefusal, out: &mut W) -> Result<Status, St
 // Prints what came of a run: as a chart, or a line each.
 fn print_run<A: Allocator + Copy, W: Write>(
     alloc: A,
+    ends: Addresses,
     events: &[Event<A>],
     record: &Record<A>,
     chart: bool,
     out: &mut W,
 ) -> Result<(), Stop> {
     let printed = if chart {
-        draw_run(alloc, ENDS, events, record, out)
+        draw_run(alloc, ends, events, record, out)
     } else {
-        tell_run(alloc, ENDS, events, record, out)
+        tell_run(alloc, ends, events, record, out)
     };
     printed.map_err(|error| stop_of(&error))
 }
@@ -162,15 +201,16 @@ fn run_events<A: Allocator + Copy, W: Write>(
     store: StoreKind,
     plains: &[Path<A>],
     remembered: Remembered,
+    ends: Addresses,
     chart: bool,
     out: &mut W,
 ) -> Result<Status, Stop>
-    ensures { IfOk result (IsSim (sim_config remembered plains.now) (map event_of events.now)) }
+    ensures { IfOk result (IsSim (sim_config ends remembered plains.now) (map event_of events.now)) }
 {
-    let config = match config_with(alloc, plains, remembered) {
+    let config = match config_at(alloc, plains, remembered, ends) {
         Ok(config) => config,
-        Err(PlainRefusal::Full) => return Ok(Status::Words),
-        Err(PlainRefusal::Memory) => return Err(Stop::Memory),
+        Err(NoConfig::Words) => return Ok(Status::Words),
+        Err(NoConfig::Memory) => return Err(Stop::Memory),
     };
     let ran = match store {
         StoreKind::List => run_with::<ListStore<A>, A>(events, &config),
@@ -178,31 +218,42 @@ fn run_events<A: Allocator + Copy, W: Write>(
     };
     match ran {
         Ok(record) => {
-            print_run(alloc, events, &record, chart, out)?;
+            print_run(alloc, ends, events, &record, chart, out)?;
             Ok(Status::Done)
         }
         Err(refusal) => tell_refusal(refusal, out),
     }
 }
 
-/// Runs the script in a file, over a server with such a store and such plain paths, and ends that remember so
-/// many messages, and prints what comes of it a line each, or as a chart.
+/// Runs the script in a file, over a server with such a store and such plain paths, and ends at these addresses that
+/// remember so many messages, and prints what comes of it a line each, or as a chart.
 pub fn sim_file<R: AllocGlobal + Files, W: Write>(
     rt: &R,
     file: &str,
     store: StoreKind,
     plains: &[Path],
     remembered: Remembered,
+    ends: Addresses,
     chart: bool,
     out: &mut W,
 ) -> Result<Status, Stop>
     // The run of a file's script is some list of events, as that of a script from elsewhere.
-    ensures { IfOk result (λ status. (events : List EventSpec) × IsSim (sim_config remembered plains.now) events status) }
+    ensures { IfOk result (λ status. (events : List EventSpec)
+        × IsSim (sim_config ends remembered plains.now) events status) }
 {
     match fs::open(rt, file) {
         Ok(mut script) => {
             let alloc = rt.alloc();
-            sim_with(alloc, &mut script, store, plains, remembered, chart, out)
+            sim_with(
+                alloc,
+                &mut script,
+                store,
+                plains,
+                remembered,
+                ends,
+                chart,
+                out,
+            )
         }
         Err(error) => Err(stop_of(&error)),
     }

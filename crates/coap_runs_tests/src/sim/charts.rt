@@ -3,7 +3,7 @@
 use super::{name_of, parts_of};
 use crate::rows::check_row;
 use coap_arguments::StoreKind;
-use coap_commands::{Status, Stop, sim_with};
+use coap_commands::{Status, Stop, USUAL_ENDS, sim_with};
 use coap_types::{Path, Remembered};
 use failing_allocator::Failing;
 use std::alloc::{Allocator, Global};
@@ -161,7 +161,16 @@ fn drawn<A: Allocator + Copy, W: Write>(
     let no_path: [Path<A>; 0] = [];
     let mut reader = script.as_bytes();
     let remembered = Remembered::default();
-    sim_with(memory, &mut reader, store, &no_path, remembered, true, out)
+    sim_with(
+        memory,
+        &mut reader,
+        store,
+        &no_path,
+        remembered,
+        USUAL_ENDS,
+        true,
+        out,
+    )
 }
 
 // A script is drawn so, over each store.

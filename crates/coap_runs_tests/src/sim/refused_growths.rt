@@ -2,7 +2,7 @@
 //! elsewhere the script ends for want of memory.
 use super::{calls, name_of, observations, parts_of, plain_paths, strangers};
 use coap_arguments::StoreKind;
-use coap_commands::{Stop, close, sim_with};
+use coap_commands::{Stop, USUAL_ENDS, close, sim_with};
 use coap_types::{Path, Remembered};
 use failing_allocator::Failing;
 use std::alloc::{Allocator, Global};
@@ -126,6 +126,7 @@ fn ended_over<A: Allocator + Copy>(
             StoreKind::Map,
             paths.as_slice(),
             Remembered::default(),
+            USUAL_ENDS,
             false,
             &mut printed,
         ),

@@ -1,7 +1,7 @@
 use Rattle.std.proofs.Common.{◌∙◌, ap, arith, true, []}
 use Rattle.std.proofs.lemmas.List.{take_all}
 use Rattle.coap_server.specs.Plain.{plains_with}
-use Rattle.coap_record.specs.Events.{Config}
+use Rattle.coap_record.specs.Events.{Config, usual_addresses}
 use Rattle.coap_run.specs.Run.Configs.{with_plains, with_remembered}
 use Rattle.coap_scripts.specs.Sims.{sim_config}
 use Rattle.coap_scripts.proofs.Facts.FoldedItems.{fold_item}
@@ -18,10 +18,11 @@ loop-path-preserved g c =
     let path = c.path-item.result in
     c.in_ok-plain.ensures.ok
     ∙ ap (λ (config : Config). with_plains config (plains_with path true config.plains)) c.loop-path.invariant
-    ∙ ap (with_plains (sim_config c.args.remembered []))
+    ∙ ap (with_plains (sim_config usual_addresses c.args.remembered []))
     (fold_item (λ ps path. plains_with path true ps) [] c.args.plains.now i path c.path-item.is c.loop-path-test.true)
 
 pub returns : goal.returns
 returns g c =
     c.loop-path.invariant
-    ∙ ap (sim_config c.args.remembered) (take_all c.loop-path.path-index c.args.plains.now (omega arith))
+    ∙ ap (sim_config usual_addresses c.args.remembered)
+    (take_all c.loop-path.path-index c.args.plains.now (omega arith))

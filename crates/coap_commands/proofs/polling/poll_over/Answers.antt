@@ -1,0 +1,21 @@
+use Rattle.std.proofs.Common.{[], subst}
+use Rattle.coap_layer.specs.declared.setup.Setup.{Setup}
+use Rattle.coap_client.specs.Led.{Led}
+use Rattle.coap_arguments.specs.declared.orders.What.TheVariants.{Get}
+use Rattle.coap_commands.specs.Asked.{asked_request}
+use Rattle.coap_commands.specs.Terms.{asked_terms, setup_of, sizes_of}
+use Rattle.coap_commands.specs.declared.connection.Terms.{Terms}
+use Rattle.coap_commands.proofs.PolledCalls.{polled_by}
+use Rattle.coap_commands.proofs.polling.poll_over.Goals as goal
+
+pub returns : goal.returns
+returns g c =
+    let options = c.args.polling.now.options.now in
+    let terms = asked_terms c.args.word options in
+    let client = c.fresh_client-client.result in
+    polled_by c.args.server (sizes_of terms) (setup_of terms)
+    (asked_request Get c.args.polling.now.path.now options []) c.args.polling.now.every options client
+    c.polled-ended.result
+    (subst (λ (t : Terms). Led c.args.server (sizes_of t) (setup_of t) [] client) c.of-terms.ensures
+    (subst (λ (w : Setup). Led c.args.server (sizes_of c.of-terms.result) w [] client) c.setup.ensures
+    c.fresh_client-client.ensures)) c.polled-ended.ensures

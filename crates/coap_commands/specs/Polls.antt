@@ -1,0 +1,120 @@
+-- What becomes of a path that a client is called to GET again and again, one call after the other, and with which
+-- status a program ends that does so (RFC 7252, sections 5.2 and 5.8.1).
+use Rattle.std.specs.Prelude.{◌≡◌, ⊤, ℕ, Option, None, Some, List, [], ◌∷◌, ◌++◌, Ok, Err, Result, length}
+use Rattle.std.specs.List.{Contains}
+use Rattle.coap_types.specs.declared.endpoint.Endpoint.{Endpoint}
+use Rattle.coap_layer.specs.declared.setup.Setup.{Setup}
+use Rattle.coap_block.specs.Sizes.{Sizes}
+use Rattle.coap_client.specs.Led.{Led, State}
+use Rattle.coap_client.specs.Object.Shown.{shown_report}
+use Rattle.coap_client.specs.Trace.{Call, Calls, Report, Request}
+use Rattle.coap_client.specs.declared.client.report.CallId.{CallId}
+use Rattle.coap_client.specs.declared.refusals.CallRefusal.{CallRefusal}
+use Rattle.coap_arguments.specs.declared.orders.AskOptions.{AskOptions}
+use Rattle.coap_commands.specs.Asks.{AsksNothing, Chain, Each, got_status, takes_report}
+use Rattle.coap_commands.specs.Waiting.{HasPassed}
+use Rattle.coap_commands.specs.declared.calling.Outcome.{Outcome}
+use Rattle.coap_commands.specs.declared.calling.Outcome.TheVariants as outcome
+use Rattle.coap_scripts.specs.declared.status.Status.{Status}
+use Rattle.coap_scripts.specs.declared.status.Status.TheVariants as status
+
+-- A reading: when the client is called for it, and what it answers; its calls from then on until the next reading, the
+-- newest first; and what becomes of it.
+pub record Reading : Type 0 where
+  pub now : ℕ
+  pub answer : Result ℕ CallRefusal
+  pub later : List Call
+  pub outcome : Outcome
+
+-- the client refused the call; or took it under a number, and this was reported of that; or it was given up, where so
+-- many seconds may pass
+abbrev pub HasCome : Option ℕ → Result ℕ CallRefusal → List Call → Outcome → Type 0
+HasCome give_up answer later (outcome.Refused why) = answer ≡ Err why
+HasCome give_up answer later (outcome.Reported report) =
+    (number : ℕ) × (answer ≡ Ok number) × Contains later (takes_report number (shown_report report))
+HasCome give_up answer later (outcome.GaveUp seconds) =
+    (number : ℕ) × (answer ≡ Ok number) × (give_up ≡ Some seconds)
+
+-- between its call and the next one the client is asked for nothing
+abbrev pub IsReading : Option ℕ → Reading → Type 0
+IsReading give_up r = Each AsksNothing r.later × HasCome give_up r.answer r.later r.outcome
+
+-- the client is through with the call: it refused it, or a report of its number was taken
+abbrev pub IsThrough : Result ℕ CallRefusal → List Call → Type 0
+IsThrough (Err why) later = ⊤
+IsThrough (Ok number) later = (report : Report) × Contains later (takes_report number report)
+
+-- a reading that begins at this moment, the last argument, comes once the client is through with the one before, and so
+-- many seconds after that began
+abbrev pub Follows : ℕ → List Reading → ℕ → Type 0
+Follows every [] now = ⊤
+Follows every (before ∷ earlier) now =
+    IsThrough before.answer before.later × HasPassed every before.now now
+
+-- readings, the newest first, each of which follows the one before
+abbrev pub AreReadings : Option ℕ → ℕ → List Reading → Type 0
+AreReadings give_up every [] = ⊤
+AreReadings give_up every (r ∷ earlier) =
+    IsReading give_up r × Follows every earlier r.now × AreReadings give_up every earlier
+
+-- all calls of the client, the newest first: each reading is a call for the request
+abbrev pub calls_of : Request → List Reading → List Call
+calls_of request [] = []
+calls_of request (r ∷ earlier) = r.later ++ Calls r.now request r.answer ∷ calls_of request earlier
+
+-- the status of the last reading; with none there is nothing that failed
+abbrev pub read_status : List Reading → Status
+read_status [] = status.Done
+read_status (r ∷ earlier) = got_status r.outcome
+
+-- A client of this server began with this setup and these sizes. All that it was called for is this request, as many
+-- times as the options say, each so many seconds after the one before or later; the status is that of the last.
+abbrev pub Polls : Endpoint → (sizes : Sizes) → Setup → Request → ℕ → AskOptions → Status → Type 0
+Polls server sizes setup request every options status =
+    (readings : List Reading) × AreReadings options.give_up every readings × (options.times ≡ Some (length readings))
+    × (status ≡ read_status readings)
+    × (s : State) × Led server sizes setup (calls_of request readings) s
+
+-- ---- a step of it
+
+-- calls that ask a client for nothing, and of which this holds, lead from one state to the other
+abbrev pub Goes : (List Call → Type 0) → State → State → Type 0
+Goes like old new = (calls : List Call) × Each AsksNothing calls × like calls × Chain old calls new
+
+-- the call that the client is not through with: that of a reading that is given up
+abbrev pub pending_after : Outcome → CallId → Option CallId
+pending_after (outcome.Refused why) id = None
+pending_after (outcome.Reported report) id = None
+pending_after (outcome.GaveUp seconds) id = Some id
+
+-- where one is, a report of it is taken among these calls
+abbrev pub Closes : Option CallId → List Call → Type 0
+Closes None calls = ⊤
+Closes (Some id) calls = (report : Report) × Contains calls (takes_report id.0 report)
+
+-- after these calls it is the one that it was, or none is
+abbrev pub IsLeft : Option CallId → Option CallId → List Call → Type 0
+IsLeft pending None calls = Closes pending calls
+IsLeft pending (Some id) calls = pending ≡ Some id
+
+-- once such calls have closed this one, the client is through with the reading
+abbrev pub IsPending : Option CallId → Result ℕ CallRefusal → List Call → Type 0
+IsPending None answer later = IsThrough answer later
+IsPending (Some id) answer later = answer ≡ Ok id.0
+
+-- a reading that began at this moment, and became this, leads from one state to the other, and leaves this call pending
+abbrev pub Reads : Option ℕ → Request → ℕ → Outcome → Option CallId → State → State → Type 0
+Reads give_up request now came pending old new =
+    (r : Reading) × (r.now ≡ now) × (r.outcome ≡ came) × IsReading give_up r × IsPending pending r.answer r.later
+    × Chain old (calls_of request (r ∷ [])) new
+
+-- readings, of which each follows the one before, lead from one state to the other
+abbrev pub HasRead : Option ℕ → ℕ → Request → List Reading → State → State → Type 0
+HasRead give_up every request readings old new =
+    AreReadings give_up every readings × Chain old (calls_of request readings) new
+
+-- so many did, and the next may begin at this moment
+abbrev pub IsNext : Option ℕ → ℕ → Request → ℕ → ℕ → State → State → Type 0
+IsNext give_up every request count now old new =
+    (readings : List Reading) × (length readings ≡ count) × Follows every readings now
+    × HasRead give_up every request readings old new
