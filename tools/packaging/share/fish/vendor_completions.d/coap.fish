@@ -53,6 +53,8 @@ complete -c coap -n '__coap_is sim' -l store -x -a 'list map' -d 'what the serve
 complete -c coap -n '__coap_is sim' -l plain -x -d 'tells observers of PATH in Non-confirmable messages where it may, and so of each other path that is given'
 complete -c coap -n '__coap_is sim' -l remember -x -d 'how many messages an end remembers to tell duplicates, from 1 to 1048576, 4096 where it is left out'
 complete -c coap -n '__coap_is sim' -l chart -d 'draws the run for reading, in place of its lines'
+complete -c coap -n '__coap_is sim' -l client -x -d 'where the client of the script stands, 127.0.0.1:40001 where it is left out'
+complete -c coap -n '__coap_is sim' -l server -x -d 'where the server of the script stands, 127.0.0.1:5683 where it is left out'
 complete -c coap -n '__coap_is sim' -F
 
 # get
@@ -60,6 +62,8 @@ complete -c coap -n __coap_begins -a get -d 'Prints what a server holds at PATH'
 complete -c coap -n '__coap_is get' -s h -l help -d 'print help'
 complete -c coap -n '__coap_is get' -l accept -x -a 'text/plain application/link-format application/xml application/octet-stream application/json application/cbor' -d 'the format that is wanted'
 complete -c coap -n '__coap_is get' -l etag -x -d 'the entity-tag of a body that is there already, which is not sent again'
+complete -c coap -n '__coap_is get' -l every -x -d 'reads again after so many seconds, at least 1, and so on and on, a line each'
+complete -c coap -n '__coap_is get' -l count -x -d 'with --every, ends after this many readings'
 complete -c coap -n '__coap_is get' -l host -x -d 'the server\'s IPv4 address'
 complete -c coap -n '__coap_is get' -l size -x -a '16 32 64 128 256 512 1024' -d 'how many bytes a block has at most that the client sends, or asks for behind the first'
 complete -c coap -n '__coap_is get' -l trace -d 'tells on standard error of each datagram as it goes and comes'
