@@ -1,0 +1,7 @@
+use Rattle.std.proofs.Common.{IfOk, subst, sym}
+use Rattle.coap_arguments.specs.declared.orders.Order.{Order}
+use Rattle.coap_commands.specs.Statuses.{CarriesOut}
+use Rattle.coap_commands.proofs.driver.perform.Goals as goal
+
+pub returns-in-Ask : goal.returns-in-Ask
+returns-in-Ask g c = subst (λ (o : Order). IfOk c.ask.result (CarriesOut o)) (sym c.in-Ask.is) c.ask.ensures
