@@ -85,9 +85,11 @@ not_both Store name v (fine, none) (sim, other) = elim fine [
 not_both Plains name v (fine, none) (takes, other) = absurd (plain_hexless name v takes fine)
 not_both (NoEnds why) name v (fine, none) (sim, other) = absurd (hexless (codes "sim") name v refl refl sim fine)
 not_both (Together why) name v (fine, none) (get, other) = absurd (hexless (codes "get") name v refl refl get fine)
-not_both NoPath name v (fine, none) (is, other) = absurd (asks_hexless name v is fine)
-not_both (Uri why) name v (fine, none) (is, other) = absurd (asks_hexless name v is fine)
-not_both (Beside why) name v (fine, none) (is, other) = absurd (asks_hexless name v is fine)
+not_both NoPath name v (fine, none) (asks, uriless, other) = absurd (asks_hexless name v asks fine)
+not_both (Uri why) name v (fine, none) (asks, text, rest, uri, other) =
+    absurd (asks_hexless name v asks fine)
+not_both (Beside why) name v (fine, none) (asks, text, rest, uri, other) =
+    absurd (asks_hexless name v asks fine)
 not_both Hex name v bad is = inl refl
 not_both Memory name v bad is = inr refl
 
