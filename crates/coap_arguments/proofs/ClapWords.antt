@@ -22,13 +22,14 @@ use Rattle.coap_arguments.specs.Taking.{IsWrongOption, IsWrongServing, MakesEnd,
 use Rattle.coap_arguments.specs.Taking.{TakesPlains, TakesTags}
 use Rattle.coap_arguments.specs.Texts.{texts_of}
 use Rattle.coap_arguments.specs.Values.{Enters, IsGiven, IsValue}
-use Rattle.coap_arguments.specs.Words.{AsksFor, AsksForIn, IsWrong, IsWrongIn}
+use Rattle.coap_arguments.specs.Words.{AsksFor, AsksForIn, IsVersion, IsWrong, IsWrongIn}
 use Rattle.coap_arguments.specs.Wrongs.{IsWrongOfClap}
 use Rattle.coap_arguments.specs.declared.refusals.AddressRefusal.{AddressRefusal}
 use Rattle.coap_arguments.specs.declared.refusals.AddressRefusal.TheVariants.{Host, Address as Own}
 use Rattle.coap_arguments.specs.declared.refusals.NumberRefusal.{NumberRefusal}
 use Rattle.coap_arguments.specs.declared.refusals.NumberRefusal.TheVariants.{Port, Count, Limit, Remember, Format}
 use Rattle.coap_arguments.specs.declared.refusals.NumberRefusal.TheVariants.{Accept, Times, Seconds, GiveUp, Every}
+use Rattle.coap_arguments.specs.declared.refusals.NumberRefusal.TheVariants.{ServerPort}
 use Rattle.coap_arguments.specs.declared.orders.Order.{Order}
 use Rattle.coap_arguments.specs.declared.refusals.SettingRefusal.{SettingRefusal}
 use Rattle.coap_arguments.specs.declared.refusals.SettingRefusal.TheVariants as setting
@@ -37,6 +38,7 @@ use Rattle.coap_arguments.specs.declared.refusals.TagsRefusal.TheVariants.{Etag,
 use Rattle.coap_arguments.specs.declared.orders.Wrong.{Wrong}
 use Rattle.coap_arguments.specs.declared.orders.Wrong.TheVariants.{Words, Path, Number, Word, Address, Size, Tags}
 use Rattle.coap_arguments.specs.declared.orders.Wrong.TheVariants.{Setting, Body, Store, Plains, Ends, Together}
+use Rattle.coap_arguments.specs.declared.orders.Wrong.TheVariants.{NoPath, Uri, Beside}
 use Rattle.coap_arguments.specs.declared.orders.Wrong.TheVariants.{Hex, Memory}
 use Rattle.coap_arguments.proofs.Entered.{enters}
 use Rattle.coap_arguments.proofs.GivenWords.{asks, required_word}
@@ -187,31 +189,18 @@ by_name : (id name known : Text) → list_all (asks known id) (built coap_app).s
     → list_all (asks name id) (built coap_app).subs ≡ true
 by_name id name known is same = subst (λ n. list_all (asks n id) (built coap_app).subs ≡ true) (sym same) is
 
-requires_port : AskRequires (codes "PORT")
+requires_port : AskRequires (codes "PORT|URI")
 unfolding clap_on_literals
-requires_port name (inl is) = by_name (codes "PORT") name _ refl is
-requires_port name (inr (inl is)) = by_name (codes "PORT") name _ refl is
-requires_port name (inr (inr (inl is))) = by_name (codes "PORT") name _ refl is
-requires_port name (inr (inr (inr (inl is)))) = by_name (codes "PORT") name _ refl is
-requires_port name (inr (inr (inr (inr is)))) = by_name (codes "PORT") name _ refl is
-
-requires_path : AskRequires (codes "PATH")
-unfolding clap_on_literals
-requires_path name (inl is) = by_name (codes "PATH") name _ refl is
-requires_path name (inr (inl is)) = by_name (codes "PATH") name _ refl is
-requires_path name (inr (inr (inl is))) = by_name (codes "PATH") name _ refl is
-requires_path name (inr (inr (inr (inl is)))) = by_name (codes "PATH") name _ refl is
-requires_path name (inr (inr (inr (inr is)))) = by_name (codes "PATH") name _ refl is
+requires_port name (inl is) = by_name (codes "PORT|URI") name _ refl is
+requires_port name (inr (inl is)) = by_name (codes "PORT|URI") name _ refl is
+requires_port name (inr (inr (inl is))) = by_name (codes "PORT|URI") name _ refl is
+requires_port name (inr (inr (inr (inl is)))) = by_name (codes "PORT|URI") name _ refl is
+requires_port name (inr (inr (inr (inr is)))) = by_name (codes "PORT|URI") name _ refl is
 
 pub ask_port : (words : List Text) (name : Text) (rows : List Row) → IsAsk name → Enters words name rows
-    → IsGiven (codes "PORT") rows
+    → IsGiven (codes "PORT|URI") rows
 ask_port words name rows is e =
-    required_word coap_app words name (codes "PORT") rows (requires_port name is) e.taken e.entered
-
-pub ask_path : (words : List Text) (name : Text) (rows : List Row) → IsAsk name → Enters words name rows
-    → IsGiven (codes "PATH") rows
-ask_path words name rows is e =
-    required_word coap_app words name (codes "PATH") rows (requires_path name is) e.taken e.entered
+    required_word coap_app words name (codes "PORT|URI") rows (requires_port name is) e.taken e.entered
 
 pub sim_file : (words : List Text) (rows : List Row) → Enters words (codes "sim") rows → IsGiven (codes "FILE") rows
 unfolding clap_on_literals
@@ -233,8 +222,9 @@ taken_by p P id words name rows means all e =
 takes_number : (words : List Text) (name : Text) (rows : List Row) → Enters words name rows → (why : NumberRefusal)
     → (all_of (argument_of why) rows ≡ None) ⊎ TakesNumber why name
 unfolding clap_on_literals
-takes_number words name rows e Port =
-    taken_by serves_or_asks (TakesNumber Port) (codes "PORT") words name rows one_serves_or_asks refl e
+takes_number words name rows e Port = taken_by
+    (λ n. bytes_eq n (codes "serve")) (TakesNumber Port) (codes "PORT") words name rows
+    (λ n is. is_name n (codes "serve") is) refl e
 takes_number words name rows e Count = taken_by
     (λ n. bytes_eq n (codes "serve")) (TakesNumber Count) (codes "COUNT") words name rows
     (λ n is. is_name n (codes "serve") is) refl e
@@ -257,6 +247,8 @@ takes_number words name rows e GiveUp =
 takes_number words name rows e Every = taken_by
     (λ n. bytes_eq n (codes "get")) (TakesNumber Every) (codes "every") words name rows
     (λ n is. is_name n (codes "get") is) refl e
+takes_number words name rows e ServerPort =
+    taken_by is_ask (TakesNumber ServerPort) (codes "PORT|URI") words name rows one_asks refl e
 
 takes_word : (words : List Text) (name : Text) (rows : List Row) → Enters words name rows
     → (all_of (codes "word") rows ≡ None) ⊎ MakesEnd name
@@ -371,6 +363,9 @@ value_wrong name rows Store own h = absurd h
 value_wrong name rows Plains own h = absurd h
 value_wrong name rows (Ends refusal) own h = absurd h
 value_wrong name rows (Together refusal) own h = absurd h
+value_wrong name rows NoPath own h = absurd h
+value_wrong name rows (Uri refusal) own h = absurd h
+value_wrong name rows (Beside refusal) own h = absurd h
 value_wrong name rows Hex own h = absurd h
 value_wrong name rows Memory own h = tt
 
@@ -389,6 +384,9 @@ plain_wrong name rows Store takes h = absurd h
 plain_wrong name rows Plains takes h = (takes, h)
 plain_wrong name rows (Ends refusal) takes h = absurd h
 plain_wrong name rows (Together refusal) takes h = absurd h
+plain_wrong name rows NoPath takes h = absurd h
+plain_wrong name rows (Uri refusal) takes h = absurd h
+plain_wrong name rows (Beside refusal) takes h = absurd h
 plain_wrong name rows Hex takes h = absurd h
 plain_wrong name rows Memory takes h = tt
 
@@ -428,7 +426,7 @@ ours words name rows e =
 
 pub said_by : (words : List Text) (name : Text) (rows : List Row) (r : Result Order Wrong) → Enters words name rows
     → MatchResult r (AsksForIn name rows) (IsWrongIn name rows) → IfOk r (AsksFor words)
-said_by words name rows (Ok o) e h = (name, rows, e, h)
+said_by words name rows (Ok o) e h = inr (name, rows, e, h)
 said_by words name rows (Err w) e h = tt
 
 wrong_in : (words : List Text) (name : Text) (rows : List Row) (w : Wrong) → Enters words name rows
@@ -446,6 +444,9 @@ wrong_in words name rows Store e h = (name, rows, e, h)
 wrong_in words name rows Plains e h = (name, rows, e, h)
 wrong_in words name rows (Ends refusal) e h = (name, rows, e, h)
 wrong_in words name rows (Together refusal) e h = (name, rows, e, h)
+wrong_in words name rows NoPath e h = (name, rows, e, h)
+wrong_in words name rows (Uri refusal) e h = (name, rows, e, h)
+wrong_in words name rows (Beside refusal) e h = (name, rows, e, h)
 wrong_in words name rows Hex e h = (name, rows, e, h)
 wrong_in words name rows Memory e h = tt
 
@@ -456,30 +457,36 @@ wrong_by words name rows (Err w) e h = wrong_in words name rows w e h
 
 -- ---- a parse that fails
 
-wrong_of_clap : (words : List Text) (faults : Kinds) (e : Error) (w : Wrong) → fault_of coap_app words ≡ faults
-    → IsWrongOfClap e w → HasKind faults e → IsWrong words w
-wrong_of_clap words faults e (Words own) same h kind =
-    subst (λ ks. IsAmong (kind_of own) ks) (sym same)
-    (subst (λ x. IsAmong (kind_of x) faults) (sym h.0) (elim kind [ inl none ↦ absurd (h.1 none) | inr among ↦ among ]))
-wrong_of_clap words faults e (Path refusal) same h kind = absurd h
-wrong_of_clap words faults e (Number refusal) same h kind = absurd h
-wrong_of_clap words faults e Word same h kind = absurd h
-wrong_of_clap words faults e (Address refusal) same h kind = absurd h
-wrong_of_clap words faults e Size same h kind = absurd h
-wrong_of_clap words faults e (Tags refusal) same h kind = absurd h
-wrong_of_clap words faults e (Setting refusal) same h kind = absurd h
-wrong_of_clap words faults e Body same h kind = absurd h
-wrong_of_clap words faults e Store same h kind = absurd h
-wrong_of_clap words faults e Plains same h kind = absurd h
-wrong_of_clap words faults e (Ends refusal) same h kind = absurd h
-wrong_of_clap words faults e (Together refusal) same h kind = absurd h
-wrong_of_clap words faults e Hex same h kind = absurd h
-wrong_of_clap words faults e Memory same h kind = tt
+wrong_of_clap : (words : List Text) (faults : Kinds) (e : Error) (w : Wrong) → (IsVersion words → ⊥)
+    → fault_of coap_app words ≡ faults → IsWrongOfClap e w → HasKind faults e → IsWrong words w
+wrong_of_clap words faults e (Words own) other same h kind = (
+  other,
+  subst (λ ks. IsAmong (kind_of own) ks) (sym same)
+      (subst (λ x. IsAmong (kind_of x) faults) (sym h.0)
+      (elim kind [ inl none ↦ absurd (h.1 none) | inr among ↦ among ])),
+)
+wrong_of_clap words faults e (Path refusal) other same h kind = absurd h
+wrong_of_clap words faults e (Number refusal) other same h kind = absurd h
+wrong_of_clap words faults e Word other same h kind = absurd h
+wrong_of_clap words faults e (Address refusal) other same h kind = absurd h
+wrong_of_clap words faults e Size other same h kind = absurd h
+wrong_of_clap words faults e (Tags refusal) other same h kind = absurd h
+wrong_of_clap words faults e (Setting refusal) other same h kind = absurd h
+wrong_of_clap words faults e Body other same h kind = absurd h
+wrong_of_clap words faults e Store other same h kind = absurd h
+wrong_of_clap words faults e Plains other same h kind = absurd h
+wrong_of_clap words faults e (Ends refusal) other same h kind = absurd h
+wrong_of_clap words faults e (Together refusal) other same h kind = absurd h
+wrong_of_clap words faults e NoPath other same h kind = absurd h
+wrong_of_clap words faults e (Uri refusal) other same h kind = absurd h
+wrong_of_clap words faults e (Beside refusal) other same h kind = absurd h
+wrong_of_clap words faults e Hex other same h kind = absurd h
+wrong_of_clap words faults e Memory other same h kind = tt
 
 pub refused_by_clap : (app : App) → app ≡ coap_app → (words : List Text) (e : Error) (r : Result Order Wrong)
-    → IsErrAnd r (λ w. IsWrongOfClap e w) → (is_simple_and_free app ≡ true → HasKind (fault_of app words) e)
-    → IfErr r (IsWrong words)
-refused_by_clap app is words e (Ok o) h kinds = tt
-refused_by_clap app is words e (Err w) h kinds =
-    wrong_of_clap words (fault_of app words) e w (ap (λ (a : App). fault_of a words) (sym is)) h
+    → (IsVersion words → ⊥) → IsErrAnd r (λ w. IsWrongOfClap e w)
+    → (is_simple_and_free app ≡ true → HasKind (fault_of app words) e) → IfErr r (IsWrong words)
+refused_by_clap app is words e (Ok o) other h kinds = tt
+refused_by_clap app is words e (Err w) other h kinds =
+    wrong_of_clap words (fault_of app words) e w other (ap (λ (a : App). fault_of a words) (sym is)) h
     (kinds (ap is_simple_and_free is ∙ is_free_coap))

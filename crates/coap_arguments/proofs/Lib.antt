@@ -6,3 +6,4 @@ pub mod GivenTexts
 pub mod GivenWords
 pub mod NamingPaths
 pub mod OwnRows
+pub mod UriWords

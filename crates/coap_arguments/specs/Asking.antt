@@ -1,15 +1,17 @@
 -- What the words of a subcommand ask of a server.
 use Rattle.std.specs.Prelude.{ℕ, Bool, ◌↔◌, IsTrue, List, ◌≡◌, ◌⊎◌, ◌<◌, ◌≤◌, Option, Some, None, Ok}
 use Rattle.std.specs.Prelude.{codes, length}
+use Rattle.std.specs.declared.net.ipv4_addr.Ipv4Addr.{Ipv4Addr}
 use Rattle.clap.specs.Words.{Row, Text, first_of}
 use Rattle.coap_types.specs.declared.tag.TheConstants.{MAX_TAG_LEN as max_tag_len, MAX_TAGS as max_tags}
 use Rattle.hex.specs.Hex.{decode_of}
-use Rattle.coap_arguments.specs.Addresses.{HasAddress}
 use Rattle.coap_arguments.specs.Numbers.{argument_of}
 use Rattle.coap_arguments.specs.Sizes.{HasSize}
 use Rattle.coap_arguments.specs.Texts.{AreTexts, SomeSaysNone, texts_of}
+use Rattle.coap_arguments.specs.Uris.{IsUri}
 use Rattle.coap_arguments.specs.Values.{HasLimit, HasNumber, HasRemembered, HasWord, IsValue}
-use Rattle.coap_arguments.specs.declared.refusals.AddressRefusal.TheVariants.{Host}
+use Rattle.coap_arguments.specs.declared.refusals.BesideRefusal.{BesideRefusal}
+use Rattle.coap_arguments.specs.declared.refusals.BesideRefusal.TheVariants as beside
 use Rattle.coap_arguments.specs.declared.orders.AskOptions.{AskOptions}
 use Rattle.coap_arguments.specs.declared.orders.Content.{Content}
 use Rattle.coap_arguments.specs.declared.orders.Content.TheVariants as content
@@ -38,15 +40,46 @@ AsksChange subcommand = (subcommand ≡ codes "delete") ⊎ SendsBody subcommand
 abbrev pub IsAsk : Text → Type 0
 IsAsk subcommand = (subcommand ≡ codes "get") ⊎ ((subcommand ≡ codes "observe") ⊎ AsksChange subcommand)
 
--- ---- the body: BODY, or what the file of this name holds, where the other is left out
-abbrev pub HasContent : List Row → Content → Type 0
-HasContent values (content.Text text) = IsValue (codes "BODY") values text.now × (first_of (codes "file") values ≡ None)
-HasContent values (content.File name) = (first_of (codes "BODY") values ≡ None) × IsValue (codes "file") values name.now
+-- ---- of which server: by PORT and PATH, or by a URI in the place of both
+
+-- the first word is a URI, with this behind its `://`
+abbrev pub HasUri : List Row → (text rest : Text) → Type 0
+HasUri values text rest = IsValue (codes "PORT|URI") values text × IsUri text rest
+
+abbrev pub HasNoUri : List Row → Type 0
+HasNoUri values = (text rest : Text) → HasUri values text rest → ⊥
+
+-- behind a URI the last word of a subcommand is one too many
+abbrev pub IsSpareWord : Text → Text → Type 0
+IsSpareWord subcommand word = (SendsBody subcommand × (word ≡ codes "BODY"))
+    ⊎ ((SendsBody subcommand → ⊥) × (word ≡ codes "PATH"))
+
+-- beside a URI nothing stands that it says itself
+abbrev pub HasNothingBeside : Text → List Row → Type 0
+HasNothingBeside subcommand values = (first_of (codes "host") values ≡ None)
+    × (word : Text) × IsSpareWord subcommand word × (first_of word values ≡ None)
+
+-- this does
+abbrev pub IsWrongBeside : BesideRefusal → Text → List Row → Type 0
+IsWrongBeside beside.Word subcommand values =
+    (word : Text) × IsSpareWord subcommand word × (text : Text) × IsValue word values text
+IsWrongBeside beside.Host subcommand values = (text : Text) × IsValue (codes "host") values text
+
+-- ---- the body: a word, or what the file of this name holds, where the other is left out
+
+-- the word is BODY, or that behind a URI, which stands where PATH does
+abbrev pub IsBodyWord : Text → List Row → Type 0
+IsBodyWord word values = (HasNoUri values × (word ≡ codes "BODY"))
+    ⊎ ((text rest : Text) × HasUri values text rest × (word ≡ codes "PATH"))
+
+abbrev pub HasContent : Text → List Row → Content → Type 0
+HasContent word values (content.Text text) = IsValue word values text.now × (first_of (codes "file") values ≡ None)
+HasContent word values (content.File name) = (first_of word values ≡ None) × IsValue (codes "file") values name.now
 
 -- both are there, or neither
-abbrev pub HasNoContent : List Row → Type 0
-HasNoContent values = ((first_of (codes "BODY") values ≡ None) × (first_of (codes "file") values ≡ None))
-    ⊎ ((body : Text) × (name : Text) × IsValue (codes "BODY") values body × IsValue (codes "file") values name)
+abbrev pub HasNoContent : Text → List Row → Type 0
+HasNoContent word values = ((first_of word values ≡ None) × (first_of (codes "file") values ≡ None))
+    ⊎ ((body : Text) × (name : Text) × IsValue word values body × IsValue (codes "file") values name)
 
 -- ---- a body that is asked for again and again
 
@@ -62,13 +95,13 @@ AreApart together.Count values = (first_of (codes "every") values ≡ None)
 AreApart together.Etag values = (every : Text) × (etag : Text) × IsValue (codes "every") values every
     × IsValue (codes "etag") values etag
 
--- what the subcommand with these values asks for
-abbrev pub IsWhat : Text → List Row → What → Type 0
-IsWhat subcommand values Get = (subcommand ≡ codes "get") × GoTogether values
-IsWhat subcommand values (Put content) = (subcommand ≡ codes "put") × HasContent values content
-IsWhat subcommand values (Post content) = (subcommand ≡ codes "post") × HasContent values content
-IsWhat subcommand values Delete = subcommand ≡ codes "delete"
-IsWhat subcommand values Observe = subcommand ≡ codes "observe"
+-- what the subcommand with these values asks for, where the body may be this word
+abbrev pub IsWhat : Text → Text → List Row → What → Type 0
+IsWhat word subcommand values Get = (subcommand ≡ codes "get") × GoTogether values
+IsWhat word subcommand values (Put content) = (subcommand ≡ codes "put") × HasContent word values content
+IsWhat word subcommand values (Post content) = (subcommand ≡ codes "post") × HasContent word values content
+IsWhat word subcommand values Delete = subcommand ≡ codes "delete"
+IsWhat word subcommand values Observe = subcommand ≡ codes "observe"
 
 -- ---- entity-tags (RFC 7252, section 5.10.6)
 
@@ -104,9 +137,9 @@ HasOptionalNumber argument values (Some n) = HasNumber argument values n
 abbrev pub HasFlag : Text → List Row → Bool → Type 0
 HasFlag name values set = IsTrue set ↔ IsValue name values (codes "true")
 
--- the word where none is given is a random one
-pub record HasOptions (values : List Row) (options : AskOptions) : Type 0 where
-  pub host : HasAddress Host values options.host
+-- the server is at this address; the word where none is given is a random one
+pub record HasOptions (host : Ipv4Addr) (values : List Row) (options : AskOptions) : Type 0 where
+  pub server : options.host ≡ host
   pub size : HasSize values options.size
   pub trace : HasFlag (codes "trace") values options.trace
   pub format : HasOptionalNumber Format values options.format

@@ -44,9 +44,9 @@ conditions rest = repeated_of (codes "if-match") ∷ flag_of (codes "if-none-mat
 abbrev pub with_body : List Rule → List Rule
 with_body rest = optional_word (codes "BODY") ∷ option_of (codes "file") ∷ option_of (codes "format") ∷ rest
 
--- what each subcommand takes first that asks something of a server
+-- what each subcommand takes first that asks something of a server: PORT and PATH, or a URI in the place of both
 abbrev pub asking : List Rule → List Rule
-asking rest = required_word (codes "PORT") ∷ required_word (codes "PATH") ∷ rest
+asking rest = required_word (codes "PORT|URI") ∷ optional_word (codes "PATH") ∷ rest
 
 -- how a server is set up: `--address A.B.C.D`, and `--hold PATH=BODY`, `--delay PATH=MS` and `--plain PATH`, each again
 -- and again, `--trace` and `--changes`

@@ -10,13 +10,15 @@ use Rattle.coap_arguments.specs.declared.orders.TheConstants.{FOREVER as forever
 use Rattle.coap_arguments.specs.declared.refusals.NumberRefusal.{NumberRefusal}
 use Rattle.coap_arguments.specs.declared.refusals.NumberRefusal.TheVariants.{Port, Count, Limit, Remember, Format}
 use Rattle.coap_arguments.specs.declared.refusals.NumberRefusal.TheVariants.{Accept, Times, Seconds, GiveUp, Every}
+use Rattle.coap_arguments.specs.declared.refusals.NumberRefusal.TheVariants.{ServerPort}
+use Rattle.coap_arguments.specs.Uris.{IsPortText, IsUri, port_text}
 
 -- the text says this number
 abbrev pub IsNumber : Text → ℕ → Type 0
 IsNumber text n = IsNumeral 10 (without_leading_plus text) × (digits_value 10 (without_leading_plus text) ≡ n)
 
--- the text is no number, and stands for this one of the argument: COUNT may be `forever`, which is the most, and a
--- format may be said by its name
+-- the text is no number, and stands for this one of the argument: COUNT may be `forever`, which is the most, a format
+-- may be said by its name, and the port of a server that is asked by a URI
 abbrev pub IsWordFor : NumberRefusal → Text → ℕ → Type 0
 IsWordFor Count text n = (text ≡ codes "forever") × (n ≡ forever)
 IsWordFor Port text n = ⊥
@@ -28,6 +30,7 @@ IsWordFor Times text n = ⊥
 IsWordFor Seconds text n = ⊥
 IsWordFor GiveUp text n = ⊥
 IsWordFor Every text n = ⊥
+IsWordFor ServerPort text n = (rest : Text) × IsUri text rest × IsPortText (port_text rest) n
 
 -- the text says this number of the argument
 abbrev pub SaysNumber : NumberRefusal → Text → ℕ → Type 0
@@ -45,6 +48,7 @@ argument_of Times = codes "count"
 argument_of Seconds = codes "seconds"
 argument_of GiveUp = codes "give-up"
 argument_of Every = codes "every"
+argument_of ServerPort = codes "PORT|URI"
 
 abbrev pub least_of : NumberRefusal → ℕ
 least_of Port = 0
@@ -57,6 +61,7 @@ least_of Times = 0
 least_of Seconds = 0
 least_of GiveUp = 0
 least_of Every = 1
+least_of ServerPort = 0
 
 abbrev pub most_of : NumberRefusal → ℕ
 most_of Port = 2 ^ 16 - 1
@@ -69,6 +74,7 @@ most_of Times = 2 ^ 64 - 1
 most_of Seconds = 2 ^ 64 - 1
 most_of GiveUp = 2 ^ 64 - 1
 most_of Every = 2 ^ 64 - 1
+most_of ServerPort = 2 ^ 16 - 1
 
 -- the text says a number in range
 abbrev pub IsInRange : NumberRefusal → Text → ℕ → Type 0

@@ -12,6 +12,7 @@ use Rattle.coap_arguments.specs.declared.orders.TheConstants.{MAX_PLAINS as max_
 use Rattle.coap_arguments.specs.declared.orders.Wrong.{Wrong}
 use Rattle.coap_arguments.specs.declared.orders.Wrong.TheVariants.{Words, Path, Number, Word, Address, Size, Tags}
 use Rattle.coap_arguments.specs.declared.orders.Wrong.TheVariants.{Setting, Body, Store, Plains, Ends, Together}
+use Rattle.coap_arguments.specs.declared.orders.Wrong.TheVariants.{NoPath, Uri, Beside}
 use Rattle.coap_arguments.specs.declared.orders.Wrong.TheVariants.{Hex, Memory}
 
 -- the path is one of these
@@ -60,5 +61,8 @@ IsWrongPlain values Store = ⊥
 IsWrongPlain values Plains = HasTooManyPlains values
 IsWrongPlain values (Ends refusal) = ⊥
 IsWrongPlain values (Together refusal) = ⊥
+IsWrongPlain values NoPath = ⊥
+IsWrongPlain values (Uri refusal) = ⊥
+IsWrongPlain values (Beside refusal) = ⊥
 IsWrongPlain values Hex = ⊥
 IsWrongPlain values Memory = ⊤

@@ -2,7 +2,7 @@
 use Rattle.std.specs.Prelude.{List, ◌≡◌, ◌⊎◌, ⊤, None, codes}
 use Rattle.clap.specs.Words.{Row, Text, all_of}
 use Rattle.coap_arguments.specs.Addresses.{HasNoAddress, address_argument_of}
-use Rattle.coap_arguments.specs.Asking.{AsksChange, HasNoTags, IsAsk, SendsBody, tags_argument_of}
+use Rattle.coap_arguments.specs.Asking.{AsksChange, HasNoTags, HasNoUri, IsAsk, SendsBody, tags_argument_of}
 use Rattle.coap_arguments.specs.Numbers.{argument_of}
 use Rattle.coap_arguments.specs.Plains.{IsWrongPlain}
 use Rattle.coap_arguments.specs.Sizes.{HasNoSize}
@@ -13,17 +13,20 @@ use Rattle.coap_arguments.specs.declared.refusals.AddressRefusal.TheVariants.{Ho
 use Rattle.coap_arguments.specs.declared.refusals.NumberRefusal.{NumberRefusal}
 use Rattle.coap_arguments.specs.declared.refusals.NumberRefusal.TheVariants.{Port, Count, Limit, Remember, Format}
 use Rattle.coap_arguments.specs.declared.refusals.NumberRefusal.TheVariants.{Accept, Times, Seconds, GiveUp, Every}
+use Rattle.coap_arguments.specs.declared.refusals.NumberRefusal.TheVariants.{ServerPort}
 use Rattle.coap_arguments.specs.declared.refusals.SettingRefusal.{SettingRefusal}
 use Rattle.coap_arguments.specs.declared.refusals.TagsRefusal.{TagsRefusal}
 use Rattle.coap_arguments.specs.declared.refusals.TagsRefusal.TheVariants.{Etag, IfMatch}
 use Rattle.coap_arguments.specs.declared.orders.Wrong.{Wrong}
 use Rattle.coap_arguments.specs.declared.orders.Wrong.TheVariants.{Words, Path, Number, Word, Address, Size, Tags}
 use Rattle.coap_arguments.specs.declared.orders.Wrong.TheVariants.{Setting, Body, Store, Plains, Ends, Together}
+use Rattle.coap_arguments.specs.declared.orders.Wrong.TheVariants.{NoPath, Uri, Beside}
 use Rattle.coap_arguments.specs.declared.orders.Wrong.TheVariants.{Hex, Memory}
 
--- the subcommand takes a PATH
-abbrev pub TakesPath : Text → Type 0
-TakesPath subcommand = (subcommand ≡ codes "answer") ⊎ ((subcommand ≡ codes "pair") ⊎ IsAsk subcommand)
+-- the subcommand with these values takes a PATH: one that asks, where no URI stands in its place
+abbrev pub TakesPath : Text → List Row → Type 0
+TakesPath subcommand values = (subcommand ≡ codes "answer")
+    ⊎ ((subcommand ≡ codes "pair") ⊎ (IsAsk subcommand × HasNoUri values))
 
 -- the subcommand makes an end, and so takes the options of one
 abbrev pub MakesEnd : Text → Type 0
@@ -31,7 +34,7 @@ MakesEnd subcommand = (subcommand ≡ codes "pair") ⊎ ((subcommand ≡ codes "
 
 -- the subcommand takes this argument, a number
 abbrev pub TakesNumber : NumberRefusal → Text → Type 0
-TakesNumber Port subcommand = (subcommand ≡ codes "serve") ⊎ IsAsk subcommand
+TakesNumber Port subcommand = subcommand ≡ codes "serve"
 TakesNumber Count subcommand = subcommand ≡ codes "serve"
 TakesNumber Limit subcommand = MakesEnd subcommand
 TakesNumber Remember subcommand = (subcommand ≡ codes "sim") ⊎ MakesEnd subcommand
@@ -41,6 +44,7 @@ TakesNumber Times subcommand = (subcommand ≡ codes "get") ⊎ (subcommand ≡ 
 TakesNumber Seconds subcommand = subcommand ≡ codes "observe"
 TakesNumber GiveUp subcommand = IsAsk subcommand
 TakesNumber Every subcommand = subcommand ≡ codes "get"
+TakesNumber ServerPort subcommand = IsAsk subcommand
 
 -- the subcommand takes this argument, an address
 abbrev pub TakesAddress : AddressRefusal → Text → Type 0
@@ -83,6 +87,9 @@ IsWrongOption values Store = ⊥
 IsWrongOption values Plains = ⊥
 IsWrongOption values (Ends refusal) = ⊥
 IsWrongOption values (Together refusal) = ⊥
+IsWrongOption values NoPath = ⊥
+IsWrongOption values (Uri refusal) = ⊥
+IsWrongOption values (Beside refusal) = ⊥
 IsWrongOption values Hex = ⊥
 IsWrongOption values Memory = ⊤
 

@@ -1,34 +1,52 @@
 -- What the words of the program say, as clap reads them.
-use Rattle.std.specs.Prelude.{ℕ, List, ◌≡◌, ◌⊎◌, ⊤, codes}
-use Rattle.clap.specs.Words.{IsAmong, Row, Text, fault_of, kind_of}
+use Rattle.std.specs.Prelude.{ℕ, List, [], ◌∷◌, ◌≡◌, ◌⊎◌, ⊤, None, codes}
+use Rattle.std.specs.declared.net.ipv4_addr.Ipv4Addr.{Ipv4Addr}
+use Rattle.clap.specs.Words.{IsAmong, Row, Text, fault_of, first_of, kind_of}
 use Rattle.clap.specs.declared.error.Error.{Error}
 use Rattle.coap_types.specs.Path.{HoldsAtMost}
 use Rattle.coap_types.specs.declared.path.TheConstants.{MAX_SEGMENT_LEN as max_segment_len}
 use Rattle.coap_types.specs.declared.path.TheConstants.{MAX_SEGMENTS as max_segments}
-use Rattle.coap_arguments.specs.Addresses.{HasNoAddress}
-use Rattle.coap_arguments.specs.Asking.{AreApart, HasFlag, HasNoContent, HasNoTags, HasOptions, IsAsk, IsWhat}
-use Rattle.coap_arguments.specs.Asking.{SendsBody}
+use Rattle.coap_arguments.specs.Addresses.{HasAddress, HasNoAddress}
+use Rattle.coap_arguments.specs.Asking.{AreApart, HasFlag, HasNoContent, HasNoTags, HasNoUri, HasNothingBeside}
+use Rattle.coap_arguments.specs.Asking.{HasOptions, HasUri, IsAsk, IsBodyWord, IsWhat, IsWrongBeside, SendsBody}
 use Rattle.coap_arguments.specs.CommandLine.{coap_app}
 use Rattle.coap_arguments.specs.Ends.{AreNoEnds, HasEnds}
 use Rattle.coap_arguments.specs.Plains.{HasNoPlain, HasPlains, HasTooManyPlains}
 use Rattle.coap_arguments.specs.Serving.{HasNoSetting, HasServeOptions, serving_word}
 use Rattle.coap_arguments.specs.Sizes.{HasNoSize}
 use Rattle.coap_arguments.specs.Taking.{MakesEnd, TakesAddress, TakesNumber, TakesPath, TakesPlains, TakesTags}
+use Rattle.coap_arguments.specs.Uris.{IsPlace, IsWrongUri}
 use Rattle.coap_arguments.specs.Values.{Enters, HasBytes, HasCount, HasLimit, HasNoBytes, HasNoNumber, HasNoPath}
 use Rattle.coap_arguments.specs.Values.{HasNoStore}
 use Rattle.coap_arguments.specs.Values.{HasNoWord, HasNumber, HasPath, HasRemembered, HasStore, HasWord, IsValue}
 use Rattle.coap_arguments.specs.declared.orders.Order.{Order}
-use Rattle.coap_arguments.specs.declared.orders.Order.TheVariants.{Show, Dump, Answer, Pair, Serve, Ask, Sim}
-use Rattle.coap_arguments.specs.declared.refusals.NumberRefusal.TheVariants.{Port}
+use Rattle.coap_arguments.specs.declared.orders.Order.TheVariants.{Version, Show, Dump, Answer, Pair, Serve, Ask, Sim}
+use Rattle.coap_arguments.specs.declared.orders.What.{What}
+use Rattle.coap_arguments.specs.declared.refusals.AddressRefusal.TheVariants.{Host}
+use Rattle.coap_arguments.specs.declared.refusals.NumberRefusal.TheVariants.{Port, ServerPort}
 use Rattle.coap_arguments.specs.declared.orders.TheConstants.{DEFAULT_WORD as default_word}
 use Rattle.coap_arguments.specs.declared.orders.WordChoice.TheVariants.{Given}
 use Rattle.coap_arguments.specs.declared.orders.Wrong.{Wrong}
 use Rattle.coap_arguments.specs.declared.orders.Wrong.TheVariants.{Words, Path, Number, Word, Address, Size, Tags}
 use Rattle.coap_arguments.specs.declared.orders.Wrong.TheVariants.{Setting, Body, Store, Plains, Ends, Together}
+use Rattle.coap_arguments.specs.declared.orders.Wrong.TheVariants.{NoPath, Uri, Beside}
 use Rattle.coap_arguments.specs.declared.orders.Wrong.TheVariants.{Hex, Memory}
+
+-- by PORT and PATH this is asked of a server at this address
+abbrev pub AsksByPort : Text → List Row → Ipv4Addr → List (List ℕ) → What → Type 0
+AsksByPort subcommand values host path what = HasNoUri values × HasPath values path
+    × HoldsAtMost max_segments max_segment_len path × HasAddress Host values host
+    × IsWhat (codes "BODY") subcommand values what
+
+-- by a URI
+abbrev pub AsksByUri : Text → List Row → Ipv4Addr → ℕ → List (List ℕ) → What → Type 0
+AsksByUri subcommand values host port path what = (text rest : Text) × HasUri values text rest
+    × IsPlace text rest host port path × HasNothingBeside subcommand values
+    × IsWhat (codes "PATH") subcommand values what
 
 -- the subcommand with these values says this order
 abbrev pub AsksForIn : Text → List Row → Order → Type 0
+AsksForIn subcommand values Version = ⊥
 AsksForIn subcommand values (Show datagram) = (subcommand ≡ codes "show") × HasBytes values datagram.items
 AsksForIn subcommand values Dump = subcommand ≡ codes "dump"
 AsksForIn subcommand values (Answer path body datagram) =
@@ -42,17 +60,22 @@ AsksForIn subcommand values (Serve port count options) =
     (subcommand ≡ codes "serve") × HasNumber Port values port × HasCount values count
     × HasServeOptions (serving_word count) values options
 AsksForIn subcommand values (Ask port path what options) =
-    IsWhat subcommand values what × HasNumber Port values port × HasPath values path
-    × HoldsAtMost max_segments max_segment_len path × HasOptions values options
+    HasNumber ServerPort values port × (AsksByPort subcommand values options.host path what
+    ⊎ AsksByUri subcommand values options.host port path what) × HasOptions options.host values options
 AsksForIn subcommand values (Sim file store plains remembered chart client server) =
     (subcommand ≡ codes "sim") × IsValue (codes "FILE") values file.now × HasStore values store
     × HasPlains values plains.items × HasRemembered values remembered × HasFlag (codes "chart") values chart
     × HasEnds values client server
 
+-- the words are the program's name and `--version`
+abbrev pub IsVersion : List Text → Type 0
+IsVersion words = (name : Text) × (words ≡ name ∷ codes "--version" ∷ [])
+
 -- the words say this order
 abbrev pub AsksFor : List Text → Order → Type 0
-AsksFor words order = (subcommand : Text) × (values : List Row) × Enters words subcommand values
-    × AsksForIn subcommand values order
+AsksFor words order = (IsVersion words × (order ≡ Version))
+    ⊎ ((subcommand : Text) × (values : List Row) × Enters words subcommand values
+    × AsksForIn subcommand values order)
 
 -- the subcommand takes no PATH, or its PATH is a text of a path
 abbrev pub IsPathFine : Text → List Row → Type 0
@@ -60,15 +83,15 @@ IsPathFine subcommand values = (subcommand ≡ codes "show")
     ⊎ ((subcommand ≡ codes "answer") × (segments : List (List ℕ)) × HasPath values segments
     × HoldsAtMost max_segments max_segment_len segments)
 
--- clap refuses the words, and the error is of a kind that they call for
+-- the words ask for no version, clap refuses them, and the error is of a kind that they call for
 abbrev pub IsRefusedBy : Error → List Text → Type 0
-IsRefusedBy error words = IsAmong (kind_of error) (fault_of coap_app words)
+IsRefusedBy error words = (IsVersion words → ⊥) × IsAmong (kind_of error) (fault_of coap_app words)
 
 -- this is wrong in the values of the subcommand; of memory that is refused they say nothing
 abbrev pub IsWrongIn : Text → List Row → Wrong → Type 0
 IsWrongIn subcommand values (Words error) = ⊥
 -- the PATH, or a value of `--plain`, is a text of no path, for this reason
-IsWrongIn subcommand values (Path refusal) = (TakesPath subcommand × HasNoPath values refusal)
+IsWrongIn subcommand values (Path refusal) = (TakesPath subcommand values × HasNoPath values refusal)
     ⊎ (TakesPlains subcommand × HasNoPlain values refusal)
 -- this argument is no number in its range
 IsWrongIn subcommand values (Number refusal) = TakesNumber refusal subcommand × HasNoNumber refusal values
@@ -82,8 +105,9 @@ IsWrongIn subcommand values Size = IsAsk subcommand × HasNoSize values
 IsWrongIn subcommand values (Tags refusal) = TakesTags refusal subcommand × HasNoTags refusal values
 -- this argument says nothing of how a server is set up, or is given too often
 IsWrongIn subcommand values (Setting refusal) = (subcommand ≡ codes "serve") × HasNoSetting refusal values
--- BODY and `--file` are both there, or neither
-IsWrongIn subcommand values Body = SendsBody subcommand × HasNoContent values
+-- both of the body as a word and `--file` are there, or neither
+IsWrongIn subcommand values Body = SendsBody subcommand × (word : Text) × IsBodyWord word values
+    × HasNoContent word values
 -- `--store` names no store
 IsWrongIn subcommand values Store = (subcommand ≡ codes "sim") × HasNoStore values
 -- `--plain` names more paths than a server takes
@@ -92,6 +116,14 @@ IsWrongIn subcommand values Plains = TakesPlains subcommand × HasTooManyPlains 
 IsWrongIn subcommand values (Ends refusal) = (subcommand ≡ codes "sim") × AreNoEnds refusal values
 -- `--count` of a body that is read once, or `--etag` of one that is read again and again
 IsWrongIn subcommand values (Together refusal) = (subcommand ≡ codes "get") × AreApart refusal values
+-- behind a PORT there is no PATH
+IsWrongIn subcommand values NoPath = IsAsk subcommand × HasNoUri values × (first_of (codes "PATH") values ≡ None)
+-- the URI says no resource that is asked for, for this reason
+IsWrongIn subcommand values (Uri refusal) = IsAsk subcommand × (text rest : Text) × HasUri values text rest
+    × IsWrongUri refusal text rest
+-- beside a URI stands what it says itself
+IsWrongIn subcommand values (Beside refusal) = IsAsk subcommand × (text rest : Text) × HasUri values text rest
+    × IsWrongBeside refusal subcommand values
 -- a PATH is a text of a path, and HEX is the hex of no list of bytes
 IsWrongIn subcommand values Hex = IsPathFine subcommand values × HasNoBytes values
 IsWrongIn subcommand values Memory = ⊤
@@ -116,5 +148,8 @@ IsWrong words Store = EntersWrong words Store
 IsWrong words Plains = EntersWrong words Plains
 IsWrong words (Ends refusal) = EntersWrong words (Ends refusal)
 IsWrong words (Together refusal) = EntersWrong words (Together refusal)
+IsWrong words NoPath = EntersWrong words NoPath
+IsWrong words (Uri refusal) = EntersWrong words (Uri refusal)
+IsWrong words (Beside refusal) = EntersWrong words (Beside refusal)
 IsWrong words Hex = EntersWrong words Hex
 IsWrong words Memory = ⊤

@@ -10,6 +10,7 @@ use Rattle.hex.specs.declared.FromHexError.TheVariants as hex
 use Rattle.coap_arguments.specs.declared.orders.Wrong.{Wrong}
 use Rattle.coap_arguments.specs.declared.orders.Wrong.TheVariants.{Words, Path, Number, Word, Address, Size, Tags}
 use Rattle.coap_arguments.specs.declared.orders.Wrong.TheVariants.{Setting, Body, Store, Plains, Ends, Together}
+use Rattle.coap_arguments.specs.declared.orders.Wrong.TheVariants.{NoPath, Uri, Beside}
 use Rattle.coap_arguments.specs.declared.orders.Wrong.TheVariants.{Hex, Memory}
 
 -- the number of a refusal: that of the words has a text for each cause
@@ -27,6 +28,9 @@ wrong_number Store = 1
 wrong_number Plains = 1
 wrong_number (Ends refusal) = 1
 wrong_number (Together refusal) = 1
+wrong_number NoPath = 1
+wrong_number (Uri refusal) = 1
+wrong_number (Beside refusal) = 1
 wrong_number Hex = 2
 wrong_number Memory = 3
 
@@ -46,6 +50,9 @@ IsWrongOfClap error Store = ⊥
 IsWrongOfClap error Plains = ⊥
 IsWrongOfClap error (Ends refusal) = ⊥
 IsWrongOfClap error (Together refusal) = ⊥
+IsWrongOfClap error NoPath = ⊥
+IsWrongOfClap error (Uri refusal) = ⊥
+IsWrongOfClap error (Beside refusal) = ⊥
 IsWrongOfClap error Hex = ⊥
 
 abbrev pub wrong_path : PathRefusal → Wrong

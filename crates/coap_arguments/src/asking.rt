@@ -21,12 +21,12 @@ use hex::FromHexError;
 use std::alloc::{AllocError, Global};
 use std::net::Ipv4Addr;
 
-/// The body that is sent, where there is just one.
-pub(crate) fn content_of<'a>(given: &ArgMatches<'a>) -> Option<Content<'a>>
-    ensures { MatchOption result (HasNoContent (rows_of (found_of given.now)))
-        (HasContent (rows_of (found_of given.now))) }
+/// The body that is sent, where there is just one: this word, or what is in a file.
+pub(crate) fn content_of<'a>(given: &ArgMatches<'a>, word: &str) -> Option<Content<'a>>
+    ensures { MatchOption result (HasNoContent word.now (rows_of (found_of given.now)))
+        (HasContent word.now (rows_of (found_of given.now))) }
 {
-    let body = optional(given, "BODY");
+    let body = optional(given, word);
     let file = optional(given, "file");
     match (body, file) {
         (Some(text), None) => Some(Content::Text(text)),
@@ -35,14 +35,17 @@ pub(crate) fn content_of<'a>(given: &ArgMatches<'a>) -> Option<Content<'a>>
     }
 }
 
-/// How it is asked for. Where no word is given, the client begins with a random one: with the same word two
-/// runs have the same Message IDs and tokens, and the second may be answered with what the server stored for the
-/// first (RFC 7252, sections 4.4, 4.5 and 5.3.1).
-pub(crate) fn options_of(alloc: Global, given: &ArgMatches<'_>) -> Result<AskOptions, Wrong>
-    ensures { MatchResult result (HasOptions (rows_of (found_of given.now)))
+/// How it is asked for, of a server at this address. Where no word is given, the client begins with a random one: with
+/// the same word two runs have the same Message IDs and tokens, and the second may be answered with what the server
+/// stored for the first (RFC 7252, sections 4.4, 4.5 and 5.3.1).
+pub(crate) fn options_of(
+    alloc: Global,
+    given: &ArgMatches<'_>,
+    host: Ipv4Addr,
+) -> Result<AskOptions, Wrong>
+    ensures { MatchResult result (HasOptions host (rows_of (found_of given.now)))
         (IsWrongOption (rows_of (found_of given.now))) }
 {
-    let host = address_of(given, AddressRefusal::Host)?;
     let Some(size) = size_of(given) else {
         return Err(Wrong::Size);
     };
@@ -86,7 +89,7 @@ pub(crate) fn options_of(alloc: Global, given: &ArgMatches<'_>) -> Result<AskOpt
     })
 }
 
-// An address: that of this machine to itself where it is left out.
+/// An address: that of this machine to itself where it is left out.
 pub(crate) fn address_of(
     given: &ArgMatches<'_>,
     argument: AddressRefusal,

@@ -3,6 +3,7 @@
 #![tactic(auto)]
 
 mod arguments;
+mod ask_orders;
 mod asking;
 mod command_line;
 mod ends;
@@ -16,15 +17,17 @@ mod repeating;
 mod serving;
 mod sizes;
 mod tables;
+mod uris;
 mod words;
 
 pub use command_line::coap_command;
 pub use orders::{
-    AskOptions, Content, DEFAULT_WORD, Delay, FOREVER, Hold, MAX_DELAYS, MAX_PLAINS, Order,
-    ServeOptions, StoreKind, What, WordChoice, Wrong,
+    AskOptions, Content, DEFAULT_PORT, DEFAULT_WORD, Delay, FOREVER, Hold, MAX_DELAYS, MAX_PLAINS,
+    Order, ServeOptions, StoreKind, What, WordChoice, Wrong,
 };
 pub use path_text::path_of_text;
 pub use refusals::{
-    AddressRefusal, EndsRefusal, NumberRefusal, SettingRefusal, TagsRefusal, TogetherRefusal,
+    AddressRefusal, BesideRefusal, EndsRefusal, NumberRefusal, SettingRefusal, TagsRefusal,
+    TogetherRefusal, UriRefusal,
 };
 pub use words::order;

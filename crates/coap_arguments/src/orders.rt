@@ -3,7 +3,8 @@ ghost use Rattle.std.specs.Prelude.{◌≡◌};
 ghost use Rattle.coap_arguments.specs.Wrongs.{wrong_number};
 
 use crate::refusals::{
-    AddressRefusal, EndsRefusal, NumberRefusal, SettingRefusal, TagsRefusal, TogetherRefusal,
+    AddressRefusal, BesideRefusal, EndsRefusal, NumberRefusal, SettingRefusal, TagsRefusal,
+    TogetherRefusal, UriRefusal,
 };
 use clap::error::ErrorKind;
 use coap_types::{BodyLimit, Endpoint, Path, PathRefusal, Remembered, Szx, Tags};
@@ -15,6 +16,8 @@ use thiserror::Error;
 /// What the program is asked to do.
 #[derive(Drop)]
 pub enum Order<'a> {
+    /// Say which version of the program it is.
+    Version,
     /// Show what a datagram says.
     Show {
         /// The datagram.
@@ -216,6 +219,11 @@ pub const FOREVER: u64 = u64::MAX;
 
 const _: () = prove!(FOREVER == 18_446_744_073_709_551_615);
 
+/// The port of a server where its URI says none (RFC 7252, section 6.1).
+pub const DEFAULT_PORT: u16 = 5_683;
+
+const _: () = prove!(DEFAULT_PORT == 5_683);
+
 /// How many paths a server has at most whose observers are told in Non-confirmable messages.
 pub const MAX_PLAINS: usize = 16;
 
@@ -227,8 +235,8 @@ pub const MAX_DELAYS: usize = 16;
 const _: () = prove!(MAX_DELAYS == 16);
 
 /// Why the words give no order. `Words`, `Path`, `Number`, `Word`, `Address`, `Size`, `Tags`, `Setting`,
-/// `Body`, `Store`, `Plains`, `Ends` and `Together` are one refusal, that of wrong words, with a text of its own for
-/// each.
+/// `Body`, `Store`, `Plains`, `Ends`, `Together`, `NoPath`, `Uri` and `Beside` are one refusal, that of wrong words,
+/// with a text of its own for each.
 /// The refusals are tested in the order of their numbers.
 #[derive(Debug, Drop, Error)]
 pub enum Wrong {
@@ -271,6 +279,15 @@ pub enum Wrong {
     /// Options of `get` don't go together.
     #[error("{0}")]
     Together(TogetherRefusal),
+    /// PATH is left out behind a PORT.
+    #[error("give PATH behind PORT, or a URI in the place of both, as coap://127.0.0.1/temperature")]
+    NoPath,
+    /// A URI says no resource that the program asks for.
+    #[error("{0}")]
+    Uri(UriRefusal),
+    /// Beside a URI stands what it says itself.
+    #[error("{0}")]
+    Beside(BesideRefusal),
     /// HEX is not the hex of any list of bytes.
     #[error("bad hex")]
     Hex,
@@ -298,7 +315,10 @@ impl Wrong {
             | Wrong::Store
             | Wrong::Plains
             | Wrong::Ends(_)
-            | Wrong::Together(_) => 1,
+            | Wrong::Together(_)
+            | Wrong::NoPath
+            | Wrong::Uri(_)
+            | Wrong::Beside(_) => 1,
             Wrong::Hex => 2,
             Wrong::Memory => 3,
         }

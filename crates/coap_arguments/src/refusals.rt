@@ -40,6 +40,9 @@ pub enum NumberRefusal {
     /// After how many seconds a body is asked for again.
     #[error("--every is no number from 1 to 18446744073709551615")]
     Every,
+    /// The UDP port of a server that is asked.
+    #[error("PORT is no number from 0 to 65535")]
+    ServerPort,
 }
 
 impl NumberRefusal {
@@ -58,6 +61,7 @@ impl NumberRefusal {
             NumberRefusal::Seconds => "seconds",
             NumberRefusal::GiveUp => "give-up",
             NumberRefusal::Every => "every",
+            NumberRefusal::ServerPort => "PORT|URI",
         }
     }
 }
@@ -154,4 +158,50 @@ pub enum TogetherRefusal {
     /// Readings again and again, and a body that is there already.
     #[error("--etag does not go with --every")]
     Etag,
+}
+
+/// Why a URI says no resource that the program asks for (RFC 7252, sections 6.1 and 6.4).
+#[derive(Clone, Copy, Debug, PartialEq, Eq, Error)]
+pub enum UriRefusal {
+    /// Its scheme is another one.
+    #[error("the URI is none of coap: it begins with another word than coap://")]
+    Scheme,
+    /// It has a fragment.
+    #[error("the URI has a fragment, which no request has: %23 is a # in a path")]
+    Fragment,
+    /// It has a query.
+    #[error("the URI has a query, which is not sent: %3F is a ? in a path")]
+    Query,
+    /// It has a user.
+    #[error("the URI has a user before its host, which a URI of coap has not")]
+    User,
+    /// Its host is an address of IPv6.
+    #[error("the host of the URI is an IPv6 address, which is not asked")]
+    Six,
+    /// Its host is no address of IPv4.
+    #[error("the host of the URI is no IPv4 address, as 192.0.2.1; a name is none")]
+    Host,
+    /// Its port is none.
+    #[error("the port of the URI is no number from 0 to 65535")]
+    Port,
+    /// An escape has no two digits.
+    #[error("the URI has a percent sign without two hexadecimal digits")]
+    Percent,
+    /// A segment of its path is too long.
+    #[error("the path of the URI has a segment of over 255 bytes")]
+    SegmentTooLong,
+    /// Its path has too many segments.
+    #[error("the path of the URI has over 16 segments")]
+    TooManySegments,
+}
+
+/// What stands beside a URI that says it itself.
+#[derive(Clone, Copy, Debug, PartialEq, Eq, Error)]
+pub enum BesideRefusal {
+    /// A word too many.
+    #[error("a word too many: a URI stands in the place of PORT and PATH")]
+    Word,
+    /// The server's address.
+    #[error("--host does not go with a URI, which says the host")]
+    Host,
 }

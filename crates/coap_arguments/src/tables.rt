@@ -44,8 +44,16 @@ const OWN_PORT: Argument = Argument {
 // PORT of a server that is asked.
 const SERVER_PORT: Argument = Argument {
     form: Form::Required,
-    name: "PORT",
-    help: "the server's UDP port, as 5683",
+    name: "PORT|URI",
+    help: "the server's UDP port, as 5683; or a URI in the place of PORT and PATH, as coap://192.0.2.1/sensors/t, with \
+        :PORT behind the address where it is another than 5683",
+};
+
+// PATH at a server that is asked.
+const SERVER_PATH: Argument = Argument {
+    form: Form::Optional,
+    name: "PATH",
+    help: "segments joined by /, as sensors/temperature; behind a URI there is none",
 };
 
 const COUNT: Argument = Argument {
@@ -299,7 +307,7 @@ const PLAIN: Argument = Argument {
 pub(crate) const GROUPS: &str = "Ask a server: get, put, post, delete, observe\n\
     Serve: serve, answer\n\
     Look: show, dump, pair, sim\n\n\
-    coap COMMAND --help has an example of each.";
+    coap COMMAND --help has an example of each, and coap --version says which version it is.";
 
 /// The subcommands that ask nothing of a server elsewhere, in the order in which help lists them.
 pub(crate) static OTHERS: [Subcommand; 6] = [
@@ -352,7 +360,7 @@ pub(crate) static ASKING: [Subcommand; 5] = [
         example: "Example: coap get 5683 temperature",
         arguments: &[
             SERVER_PORT,
-            PATH,
+            SERVER_PATH,
             ACCEPT,
             ETAG,
             EVERY,
@@ -372,7 +380,7 @@ pub(crate) static ASKING: [Subcommand; 5] = [
         example: "Example: coap put 5683 lamp on",
         arguments: &[
             SERVER_PORT,
-            PATH,
+            SERVER_PATH,
             SENT_BODY,
             BODY_FILE,
             FORMAT,
@@ -393,7 +401,7 @@ pub(crate) static ASKING: [Subcommand; 5] = [
         example: "Example: coap post 5683 temperature !",
         arguments: &[
             SERVER_PORT,
-            PATH,
+            SERVER_PATH,
             SENT_BODY,
             BODY_FILE,
             FORMAT,
@@ -414,7 +422,7 @@ pub(crate) static ASKING: [Subcommand; 5] = [
         example: "Example: coap delete 5683 lamp",
         arguments: &[
             SERVER_PORT,
-            PATH,
+            SERVER_PATH,
             IF_MATCH,
             IF_NONE_MATCH,
             HOST,
@@ -432,7 +440,7 @@ pub(crate) static ASKING: [Subcommand; 5] = [
         example: "Example: coap observe 5683 temperature --count 2",
         arguments: &[
             SERVER_PORT,
-            PATH,
+            SERVER_PATH,
             TIMES,
             SECONDS,
             IN_HEX,

@@ -1,48 +1,72 @@
 //! The words of the program, read.
 ghost use Rattle.std.specs.Prelude.{◌≡◌, ◌<◌, ◌≤◌, ◌-◌, ◌^◌, ℕ, IfOk, IfErr, None, MatchOption, MatchResult, map};
-ghost use Rattle.std.specs.Prelude.{codes};
+ghost use Rattle.std.specs.Prelude.{codes, ◌↔◌, IsTrue};
 ghost use Rattle.std.specs.Prelude.{string_bytes};
 ghost use Rattle.clap.specs.Words.{first_of, found_of, rows_of};
-ghost use Rattle.coap_arguments.specs.Asking.{IsAsk, IsWhat};
 ghost use Rattle.coap_arguments.specs.Numbers.{IsInRange, IsNumber, IsOutOfRange};
 ghost use Rattle.coap_arguments.specs.Taking.{TakesItsOwn};
 ghost use Rattle.coap_arguments.specs.Values.{HasCount, HasLimit, HasNoNumber, HasNoStore, HasNoWord, HasNumber};
 ghost use Rattle.coap_arguments.specs.Values.{HasRemembered};
 ghost use Rattle.coap_arguments.specs.Values.{HasStore, HasWord, IsChoice, IsGiven, IsValue};
-ghost use Rattle.coap_arguments.specs.Words.{AsksFor, AsksForIn, IsWrong, IsWrongIn};
+ghost use Rattle.coap_arguments.specs.Words.{AsksFor, AsksForIn, IsVersion, IsWrong, IsWrongIn};
 ghost use Rattle.coap_arguments.specs.declared.refusals.NumberRefusal.TheVariants.{Count, Limit, Port, Remember};
 ghost use Rattle.coap_arguments.specs.declared.orders.WordChoice.{WordChoice as WordChoiceSpec};
 
-use crate::asking::{content_of, is_set, options_of};
+use crate::ask_orders::ask_order;
+use crate::asking::is_set;
 use crate::command_line::coap_command;
 use crate::ends::ends_of;
-use crate::orders::{DEFAULT_WORD, FOREVER, Order, StoreKind, What, WordChoice, Wrong};
+use crate::orders::{DEFAULT_WORD, FOREVER, Order, StoreKind, WordChoice, Wrong};
 use crate::path_text::path_of_text;
 use crate::plains::plains_of;
 use crate::refusals::NumberRefusal;
-use crate::repeating::apart;
 use crate::serving::{serve_options_of, serving_word};
 use clap::ArgMatches;
 use coap_types::{BodyLimit, Remembered};
 use std::alloc::Global;
 
-/// The order that the words give, of which the first is the program's own name. `clap` reads them,
-/// `path_of_text` reads PATH, `hex` reads HEX in upper and lower case, `parse` reads a number, and BODY
-/// is taken as it is.
+/// The order that the words give, of which the first is the program's own name. `--version` alone asks for the
+/// version. `clap` reads all others, `path_of_text` reads PATH and `path_of_uri` that of a URI, `hex` reads HEX in
+/// upper and lower case, `parse` reads a number, and BODY is taken as it is.
 pub fn order<'a>(alloc: Global, words: &'a [String]) -> Result<Order<'a>, Wrong>
     // The order is the one that the words say.
     ensures ok { IfOk result (AsksFor (map string_bytes words.now)) }
-    // What is called wrong is wrong. `Words`: clap refuses the words, with an error of a kind that they call for.
-    // `Path`: clap takes them, and PATH or a value of `--plain` is no path, for the reason that is given. `Number`:
-    // clap takes them, and an argument is no number in its range. `Word`: clap takes them, and `--word` is no choice of
-    // a word. `Address`: clap takes them, and an argument is no address of IPv4. `Size`: clap takes them, and `--size`
-    // is no size of a block. `Tags`: clap takes them, and an argument is no entity-tag, or given more than four times.
-    // `Setting`: clap takes them, and a value of `--hold` or `--delay` says nothing, or `--delay` is given more than 16
-    // times. `Body`: clap takes them, and both of BODY and `--file` are there, or neither. `Store`: clap takes them,
-    // and `--store` names no store. `Plains`: clap takes them, and `--plain` names more than 16 paths. `Ends`: clap
-    // takes them, and `--client` or `--server` is no address of IPv4 with a port, or they are one. `Together`: clap
-    // takes them, and `get` has `--count` without `--every`, or both of `--every` and `--etag`. `Hex`: clap takes
-    // them, PATH is a path where there is one, and HEX is the hex of no bytes. `Memory` says nothing of the words.
+    // What is called wrong is wrong. `Words`: they are not `--version` alone, and clap refuses them, with an error of
+    // a kind that they call for. `Path`: clap takes them, and PATH or a value of `--plain` is no path, for the reason
+    // that is given. `Number`: clap takes them, and an argument is no number in its range. `Word`: clap takes them,
+    // and `--word` is no choice of a word. `Address`: clap takes them, and an argument is no address of IPv4. `Size`:
+    // clap takes them, and `--size` is no size of a block. `Tags`: clap takes them, and an argument is no entity-tag,
+    // or given more than four times. `Setting`: clap takes them, and a value of `--hold` or `--delay` says nothing, or
+    // `--delay` is given more than 16 times. `Body`: clap takes them, and both of BODY and `--file` are there, or
+    // neither. `Store`: clap takes them, and `--store` names no store. `Plains`: clap takes them, and `--plain` names
+    // more than 16 paths. `Ends`: clap takes them, and `--client` or `--server` is no address of IPv4 with a port, or
+    // they are one. `Together`: clap takes them, and `get` has `--count` without `--every`, or both of `--every` and
+    // `--etag`. `NoPath`: clap takes them, and behind PORT there is no PATH. `Uri`: clap takes them, and the URI in
+    // the place of PORT names nothing that is asked for, for the reason that is given. `Beside`: clap takes them, and
+    // beside the URI there is a word too many, or `--host`. `Hex`: clap takes them, PATH is a path where there is one,
+    // and HEX is the hex of no bytes. `Memory` says nothing of the words.
+    ensures wrong { IfErr result (IsWrong (map string_bytes words.now)) }
+{
+    if is_version(words) {
+        return Ok(Order::Version);
+    }
+    order_of(alloc, words)
+}
+
+// Whether the words ask for the version of the program, and for nothing else.
+fn is_version(words: &[String]) -> bool
+    ensures { IsTrue result ↔ IsVersion (map string_bytes words.now) }
+{
+    match words {
+        [_, word] => word.as_str() == "--version",
+        _ => false,
+    }
+}
+
+// The order that the words of a subcommand give.
+fn order_of<'a>(alloc: Global, words: &'a [String]) -> Result<Order<'a>, Wrong>
+    requires { IsVersion (map string_bytes words.now) → ⊥ }
+    ensures ok { IfOk result (AsksFor (map string_bytes words.now)) }
     ensures wrong { IfErr result (IsWrong (map string_bytes words.now)) }
 {
     let matches = coap_command(alloc)?.try_get_matches_from(words)?;
@@ -135,60 +159,6 @@ fn serve_order<'a>(alloc: Global, given: &ArgMatches<'a>) -> Result<Order<'a>, W
         count,
         options,
     })
-}
-
-// `coap get PORT PATH`, and `put`, `post`, `delete` and `observe`
-#[tactic(auto, using(crate::proofs::ClapWords::value_wrong))]
-fn ask_order<'a>(
-    alloc: Global,
-    subcommand: &str,
-    given: &ArgMatches<'a>,
-) -> Result<Order<'a>, Wrong>
-    requires name { IsAsk subcommand.now }
-    requires port { IsGiven (codes "PORT") (rows_of (found_of given.now)) }
-    requires path { IsGiven (codes "PATH") (rows_of (found_of given.now)) }
-    requires own { TakesItsOwn subcommand.now (rows_of (found_of given.now)) }
-    ensures { MatchResult result (AsksForIn subcommand.now (rows_of (found_of given.now)))
-        (IsWrongIn subcommand.now (rows_of (found_of given.now))) }
-{
-    let Some(port) = port(given) else {
-        return Err(Wrong::Number(NumberRefusal::Port));
-    };
-    let text = value(given, "PATH");
-    let path = path_of_text(alloc, text)?;
-    let what = what_of(subcommand, given)?;
-    let options = options_of(alloc, given)?;
-    Ok(Order::Ask {
-        port,
-        path,
-        what,
-        options,
-    })
-}
-
-// What is asked for.
-fn what_of<'a>(subcommand: &str, given: &ArgMatches<'a>) -> Result<What<'a>, Wrong>
-    requires name { IsAsk subcommand.now }
-    ensures { MatchResult result (IsWhat subcommand.now (rows_of (found_of given.now)))
-        (IsWrongIn subcommand.now (rows_of (found_of given.now))) }
-{
-    match subcommand {
-        "get" => match apart(given) {
-            Some(refusal) => Err(Wrong::Together(refusal)),
-            None => Ok(What::Get),
-        },
-        "put" => match content_of(given) {
-            Some(content) => Ok(What::Put(content)),
-            None => Err(Wrong::Body),
-        },
-        "post" => match content_of(given) {
-            Some(content) => Ok(What::Post(content)),
-            None => Err(Wrong::Body),
-        },
-        "delete" => Ok(What::Delete),
-        "observe" => Ok(What::Observe),
-        _ => unreachable!(),
-    }
 }
 
 // `coap sim FILE`
@@ -349,8 +319,8 @@ pub(crate) fn optional<'a>(given: &ArgMatches<'a>, name: &str) -> Option<&'a str
     given.get_str(name)
 }
 
-// The value of an argument that clap requires.
-fn value<'a>(given: &ArgMatches<'a>, name: &str) -> &'a str
+/// The value of an argument that clap requires.
+pub(crate) fn value<'a>(given: &ArgMatches<'a>, name: &str) -> &'a str
     requires { IsGiven name.now (rows_of (found_of given.now)) }
     ensures { IsValue name.now (rows_of (found_of given.now)) result.now }
 {

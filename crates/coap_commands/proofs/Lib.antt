@@ -3,6 +3,7 @@ pub mod ObservedCalls
 pub mod PairCalls
 pub mod PolledCalls
 pub mod RightEnds
+pub mod RightUris
 pub mod RightWords
 pub mod ServedCalls
 pub mod SettingUpCalls

@@ -10,7 +10,8 @@ use Rattle.coap_arguments.specs.Asking.{AreApart, GoTogether, IsWhat}
 use Rattle.coap_arguments.specs.Ends.{AreNoEnds, HasEndpoint, HasEnds, HasNoEndpoint, IsEndpointText}
 use Rattle.coap_arguments.specs.Words.{AsksForIn, IsWrongIn}
 use Rattle.coap_arguments.specs.declared.orders.Order.{Order}
-use Rattle.coap_arguments.specs.declared.orders.Order.TheVariants.{Show, Dump, Answer, Pair, Serve, Ask, Sim}
+use Rattle.coap_arguments.specs.declared.orders.Order.TheVariants.{Version, Show, Dump, Answer, Pair, Serve, Ask}
+use Rattle.coap_arguments.specs.declared.orders.Order.TheVariants.{Sim}
 use Rattle.coap_arguments.specs.declared.orders.What.{What}
 use Rattle.coap_arguments.specs.declared.orders.What.TheVariants.{Get, Put, Post, Delete, Observe}
 use Rattle.coap_arguments.specs.declared.orders.Wrong.TheVariants.{Ends as NoEnds, Together}
@@ -18,7 +19,7 @@ use Rattle.coap_arguments.specs.declared.refusals.EndsRefusal.{EndsRefusal}
 use Rattle.coap_arguments.specs.declared.refusals.EndsRefusal.TheVariants.{Client, Server, Same}
 use Rattle.coap_arguments.specs.declared.refusals.TogetherRefusal.{TogetherRefusal}
 use Rattle.coap_arguments.specs.declared.refusals.TogetherRefusal.TheVariants as together
-use Rattle.coap_commands.proofs.WhoTakes.{asks_none, differ, sim_asks_none, value_one, what_asks}
+use Rattle.coap_commands.proofs.WhoTakes.{asks_none, differ, order_asks, sim_asks_none, value_one}
 
 -- ---- ends
 
@@ -58,6 +59,7 @@ ends_or_not v client server Same has one =
 
 pub not_ends : (order : Order) (why : EndsRefusal) (name : Text) (v : List Row) → AsksForIn name v order
     → IsWrongIn name v (NoEnds why) → ⊥
+not_ends Version why name v h (sim, none) = h
 not_ends (Show datagram) why name v h (sim, none) = differ (codes "show") (codes "sim") name refl h.0 sim
 not_ends Dump why name v h (sim, none) = differ (codes "dump") (codes "sim") name refl h sim
 not_ends (Answer path body datagram) why name v h (sim, none) =
@@ -66,7 +68,7 @@ not_ends (Pair path body word limit remembered) why name v h (sim, none) =
     differ (codes "pair") (codes "sim") name refl h.0 sim
 not_ends (Serve port count options) why name v h (sim, none) = differ (codes "serve") (codes "sim") name refl h.0 sim
 not_ends (Ask port path what options) why name v h (sim, none) =
-    asks_none (codes "sim") name sim_asks_none sim (what_asks name v what h.0)
+    asks_none (codes "sim") name sim_asks_none sim (order_asks name v port path what options h)
 not_ends (Sim file store plains remembered chart client server) why name v h (sim, none) =
     ends_or_not v client server why h.6 none
 
@@ -78,16 +80,17 @@ together_or_not v together.Count (inr has) apart = absurd (cc (sym apart.0 ∙ h
 together_or_not v together.Etag (inl none) apart = absurd (cc (sym none.0 ∙ apart.2))
 together_or_not v together.Etag (inr has) apart = absurd (cc (sym has.2 ∙ apart.3))
 
-what_together : (name : Text) (v : List Row) (what : What) (why : TogetherRefusal) → IsWhat name v what
+what_together : (word name : Text) (v : List Row) (what : What) (why : TogetherRefusal) → IsWhat word name v what
     → name ≡ codes "get" → AreApart why v → ⊥
-what_together name v Get why h get apart = together_or_not v why h.1 apart
-what_together name v (Put content) why h get apart = differ (codes "put") (codes "get") name refl h.0 get
-what_together name v (Post content) why h get apart = differ (codes "post") (codes "get") name refl h.0 get
-what_together name v Delete why h get apart = differ (codes "delete") (codes "get") name refl h get
-what_together name v Observe why h get apart = differ (codes "observe") (codes "get") name refl h get
+what_together word name v Get why h get apart = together_or_not v why h.1 apart
+what_together word name v (Put content) why h get apart = differ (codes "put") (codes "get") name refl h.0 get
+what_together word name v (Post content) why h get apart = differ (codes "post") (codes "get") name refl h.0 get
+what_together word name v Delete why h get apart = differ (codes "delete") (codes "get") name refl h get
+what_together word name v Observe why h get apart = differ (codes "observe") (codes "get") name refl h get
 
 pub not_together : (order : Order) (why : TogetherRefusal) (name : Text) (v : List Row) → AsksForIn name v order
     → IsWrongIn name v (Together why) → ⊥
+not_together Version why name v h (get, apart) = h
 not_together (Show datagram) why name v h (get, apart) = differ (codes "show") (codes "get") name refl h.0 get
 not_together Dump why name v h (get, apart) = differ (codes "dump") (codes "get") name refl h get
 not_together (Answer path body datagram) why name v h (get, apart) =
@@ -96,6 +99,9 @@ not_together (Pair path body word limit remembered) why name v h (get, apart) =
     differ (codes "pair") (codes "get") name refl h.0 get
 not_together (Serve port count options) why name v h (get, apart) =
     differ (codes "serve") (codes "get") name refl h.0 get
-not_together (Ask port path what options) why name v h (get, apart) = what_together name v what why h.0 get apart
+not_together (Ask port path what options) why name v h (get, apart) = elim h.1 [
+  | inl by ↦ what_together (codes "BODY") name v what why by.4 get apart
+  | inr by ↦ what_together (codes "PATH") name v what why by.5 get apart
+]
 not_together (Sim file store plains remembered chart client server) why name v h (get, apart) =
     differ (codes "sim") (codes "get") name refl h.0 get

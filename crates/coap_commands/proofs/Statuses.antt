@@ -24,7 +24,8 @@ use Rattle.coap_scripts.specs.declared.status.Status.TheVariants as status
 use Rattle.coap_scripts.specs.declared.status.Stop.{Stop}
 use Rattle.coap_scripts.specs.declared.status.Stop.TheVariants as stop
 use Rattle.coap_arguments.specs.declared.orders.Order.{Order}
-use Rattle.coap_arguments.specs.declared.orders.Order.TheVariants.{Show, Dump, Answer, Pair, Serve, Ask, Sim}
+use Rattle.coap_arguments.specs.declared.orders.Order.TheVariants.{Version, Show, Dump, Answer, Pair, Serve, Ask}
+use Rattle.coap_arguments.specs.declared.orders.Order.TheVariants.{Sim}
 use Rattle.coap_arguments.specs.declared.orders.AskOptions.{AskOptions}
 use Rattle.coap_arguments.specs.declared.orders.ServeOptions.{ServeOptions}
 use Rattle.coap_arguments.specs.declared.orders.WordChoice.{WordChoice}
@@ -33,9 +34,10 @@ use Rattle.coap_arguments.specs.declared.orders.What.TheVariants.{Get, Put, Post
 use Rattle.coap_arguments.specs.declared.orders.Wrong.{Wrong}
 use Rattle.coap_arguments.specs.declared.orders.Wrong.TheVariants.{Words, Path, Number, Word, Address, Size, Tags}
 use Rattle.coap_arguments.specs.declared.orders.Wrong.TheVariants.{Setting, Body, Store, Plains, Ends as NoEnds}
-use Rattle.coap_arguments.specs.declared.orders.Wrong.TheVariants.{Together, Hex, Memory}
+use Rattle.coap_arguments.specs.declared.orders.Wrong.TheVariants.{Together, NoPath, Uri, Beside, Hex, Memory}
 use Rattle.coap_commands.proofs.PairCalls.{paired_carried}
 use Rattle.coap_commands.proofs.RightEnds.{not_ends, not_together}
+use Rattle.coap_commands.proofs.RightUris.{not_beside, not_no_path, not_uri}
 use Rattle.coap_commands.proofs.RightWords.{none_wrong, not_plains, not_path, not_number, not_word, not_address}
 use Rattle.coap_commands.proofs.RightWords.{not_size, not_tags, not_setting, not_body, not_store, not_hex}
 use Rattle.coap_commands.proofs.WhoTakes.{enters_one, differ, path_or_not, not_refused, sends_none, show_asks_none}
@@ -49,7 +51,7 @@ not_both : (wrong : Wrong) (name : Text) (v : List Row) → IsWrongIn name v Hex
     → (wrong ≡ Hex) ⊎ (wrong ≡ Memory)
 not_both (Words error) name v bad is = absurd is
 not_both (Path why) name v (fine, none) (inl wrong) = elim fine [
-  | inl shows ↦ absurd (takes_none (codes "show") name show_asks_none refl refl shows wrong.0)
+  | inl shows ↦ absurd (takes_none (codes "show") name v show_asks_none refl refl shows wrong.0)
   | inr h ↦ absurd (path_or_not v h.1 why h.2 h.3 wrong.1)
 ]
 not_both (Path why) name v (fine, none) (inr wrong) = absurd (plain_hexless name v wrong.0 fine)
@@ -72,7 +74,7 @@ not_both (Tags why) name v (fine, none) (takes, other) = elim fine [
 ]
 not_both (Setting why) name v (fine, none) (serves, other) = absurd (hexless (codes "serve") name v refl refl serves
     fine)
-not_both Body name v (fine, none) (sends, other) = elim fine [
+not_both Body name v (fine, none) (sends, word, is, other) = elim fine [
   | inl shows ↦ absurd (sends_none (codes "show") name refl refl shows sends)
   | inr h ↦ absurd (sends_none (codes "answer") name refl refl h.0 sends)
 ]
@@ -83,6 +85,11 @@ not_both Store name v (fine, none) (sim, other) = elim fine [
 not_both Plains name v (fine, none) (takes, other) = absurd (plain_hexless name v takes fine)
 not_both (NoEnds why) name v (fine, none) (sim, other) = absurd (hexless (codes "sim") name v refl refl sim fine)
 not_both (Together why) name v (fine, none) (get, other) = absurd (hexless (codes "get") name v refl refl get fine)
+not_both NoPath name v (fine, none) (asks, uriless, other) = absurd (asks_hexless name v asks fine)
+not_both (Uri why) name v (fine, none) (asks, text, rest, uri, other) =
+    absurd (asks_hexless name v asks fine)
+not_both (Beside why) name v (fine, none) (asks, text, rest, uri, other) =
+    absurd (asks_hexless name v asks fine)
 not_both Hex name v bad is = inl refl
 not_both Memory name v bad is = inr refl
 
@@ -120,6 +127,9 @@ with_2 Store n is = inl is
 with_2 Plains n is = inl is
 with_2 (NoEnds why) n is = inl is
 with_2 (Together why) n is = inl is
+with_2 NoPath n is = inl is
+with_2 (Uri why) n is = inl is
+with_2 (Beside why) n is = inl is
 with_2 Hex n is = inl is
 with_2 Memory n is = tt
 
@@ -137,6 +147,9 @@ with_4 Store n is = inr is
 with_4 Plains n is = inr is
 with_4 (NoEnds why) n is = inr is
 with_4 (Together why) n is = inr is
+with_4 NoPath n is = inr is
+with_4 (Uri why) n is = inr is
+with_4 (Beside why) n is = inr is
 with_4 Hex n is = inr (inr is)
 with_4 Memory n is = tt
 
@@ -163,12 +176,16 @@ with_3 words Store n bad is three = hex_alone words Store n bad is three
 with_3 words Plains n bad is three = hex_alone words Plains n bad is three
 with_3 words (NoEnds why) n bad is three = hex_alone words (NoEnds why) n bad is three
 with_3 words (Together why) n bad is three = hex_alone words (Together why) n bad is three
+with_3 words NoPath n bad is three = hex_alone words NoPath n bad is three
+with_3 words (Uri why) n bad is three = hex_alone words (Uri why) n bad is three
+with_3 words (Beside why) n bad is three = hex_alone words (Beside why) n bad is three
 with_3 words Hex n bad is three = inr (inl three)
 with_3 words Memory n bad is three = tt
 
 order_answered : (words : List Text) (order : Order) (wrong : Wrong) (n : ℕ) → AsksFor words order → IsWrong words wrong
     → IsAnswered wrong n
-order_answered words order (Words error) n (name, v, e, asks) is = absurd (not_refused words error e.taken is)
+order_answered words order (Words error) n (inl version) is = absurd (is.0 version.0)
+order_answered words order (Words error) n (inr (name, v, e, asks)) is = absurd (not_refused words error e.taken is)
 order_answered words order (Path why) n asks is = absurd (none_wrong words order (Path why) (not_path order why) asks
     is)
 order_answered words order (Number why) n asks is =
@@ -188,6 +205,10 @@ order_answered words order (NoEnds why) n asks is =
     absurd (none_wrong words order (NoEnds why) (not_ends order why) asks is)
 order_answered words order (Together why) n asks is =
     absurd (none_wrong words order (Together why) (not_together order why) asks is)
+order_answered words order NoPath n asks is = absurd (none_wrong words order NoPath (not_no_path order) asks is)
+order_answered words order (Uri why) n asks is = absurd (none_wrong words order (Uri why) (not_uri order why) asks is)
+order_answered words order (Beside why) n asks is =
+    absurd (none_wrong words order (Beside why) (not_beside order why) asks is)
 order_answered words order Hex n asks is = absurd (none_wrong words order Hex (not_hex order) asks is)
 order_answered words order Memory n asks is = tt
 
@@ -206,6 +227,9 @@ wrong_answered words ended Store wrong own told is = with_2 wrong _ (ap number t
 wrong_answered words ended Plains wrong own told is = with_2 wrong _ (ap number told)
 wrong_answered words ended (NoEnds why) wrong own told is = with_2 wrong _ (ap number told)
 wrong_answered words ended (Together why) wrong own told is = with_2 wrong _ (ap number told)
+wrong_answered words ended NoPath wrong own told is = with_2 wrong _ (ap number told)
+wrong_answered words ended (Uri why) wrong own told is = with_2 wrong _ (ap number told)
+wrong_answered words ended (Beside why) wrong own told is = with_2 wrong _ (ap number told)
 wrong_answered words ended Hex wrong own (inl told) is = with_2 wrong _ (ap number told)
 wrong_answered words ended Hex wrong own (inr told) is = with_3 words wrong _ own is (ap number told)
 wrong_answered words ended Memory wrong own told is = with_4 wrong _ (ap number told)
@@ -237,6 +261,9 @@ of_words words ended Store is told h = (Store, is, λ e. cc e)
 of_words words ended Plains is told h = (Plains, is, λ e. cc e)
 of_words words ended (NoEnds why) is told h = (NoEnds why, is, λ e. cc e)
 of_words words ended (Together why) is told h = (Together why, is, λ e. cc e)
+of_words words ended NoPath is told h = (NoPath, is, λ e. cc e)
+of_words words ended (Uri why) is told h = (Uri why, is, λ e. cc e)
+of_words words ended (Beside why) is told h = (Beside why, is, λ e. cc e)
 of_words words ended Hex is told h = (Hex, is, λ e. cc e)
 of_words words ended Memory is told h = absurd (let n : 4 ≡ 2 = sym (ap number told) ∙ h in omega (arith, n))
 
@@ -325,9 +352,14 @@ served_done : (ended : Result Status Stop) (count : ℕ) (options : ServeOptions
 served_done (Ok s) count options h = served_ends s count options h
 served_done (Err stop) count options h = tt
 
+version_done : (ended : Result Status Stop) → IfOk ended (λ s. s ≡ status.Done) → IfOk ended IsCarriedOut
+version_done (Ok s) is = inl is
+version_done (Err stop) is = tt
+
 -- an order that is carried out comes to 2 only where it reads a text
 text_only : (order : Order) (ended : Result Status Stop) → IfOk ended (CarriesOut order) → number ended ≡ 2
     → ReadsText order
+text_only Version ended c h = absurd (carried_out ended (version_done ended c) h)
 text_only (Show datagram) ended c h = absurd (carried_out ended c h)
 text_only Dump ended c h = tt
 text_only (Answer path body datagram) ended c h = absurd (carried_out ended c h)
@@ -359,6 +391,9 @@ told_more ended Store told h = absurd (let n : number ended ≡ 2 = ap number to
 told_more ended Plains told h = absurd (let n : number ended ≡ 2 = ap number told in omega (arith, n, h))
 told_more ended (NoEnds why) told h = absurd (let n : number ended ≡ 2 = ap number told in omega (arith, n, h))
 told_more ended (Together why) told h = absurd (let n : number ended ≡ 2 = ap number told in omega (arith, n, h))
+told_more ended NoPath told h = absurd (let n : number ended ≡ 2 = ap number told in omega (arith, n, h))
+told_more ended (Uri why) told h = absurd (let n : number ended ≡ 2 = ap number told in omega (arith, n, h))
+told_more ended (Beside why) told h = absurd (let n : number ended ≡ 2 = ap number told in omega (arith, n, h))
 told_more ended Hex (inl told) h = absurd (let n : number ended ≡ 2 = ap number told in omega (arith, n, h))
 told_more ended Hex (inr told) h = absurd (let n : number ended ≡ 3 = ap number told in omega (arith, n, h))
 told_more ended Memory told h = absurd (let n : number ended ≡ 4 = ap number told in omega (arith, n, h))

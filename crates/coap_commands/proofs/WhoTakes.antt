@@ -1,7 +1,8 @@
 -- Which subcommand takes which argument, and that words enter one subcommand, where an argument has one value.
-use Rattle.std.proofs.Common.{◌≡◌, ◌∙◌, inl, inr, ap, sym, subst, ℕ, List, [], ◌∷◌, Option, Some}
+use Rattle.std.proofs.Common.{◌≡◌, ◌∙◌, ◌⊎◌, inl, inr, ap, sym, subst, ℕ, List, [], ◌∷◌, Option, Some}
 use Rattle.std.proofs.Common.{unwrap_or, codes, true, false, true≢false, refl, Ok}
 use Rattle.std.specs.Str.{bytes_eq}
+use Rattle.std.specs.declared.net.ipv4_addr.Ipv4Addr.{Ipv4Addr}
 use Rattle.std.proofs.lemmas.Slice.Eq.{bytes_eq-Decides}
 use Rattle.clap.specs.Words.{Row, Text, IsAmong, fault_of}
 use Rattle.coap_types.specs.Path.{HoldsAtMost}
@@ -12,14 +13,17 @@ use Rattle.coap_arguments.specs.Asking.{IsWhat, SendsBody}
 use Rattle.coap_arguments.specs.Taking.{MakesEnd, TakesAddress, TakesNumber, TakesPath, TakesPlains, TakesTags}
 use Rattle.coap_arguments.specs.Values.{Enters, HasBytes, HasNoBytes, HasNoPath}
 use Rattle.coap_arguments.specs.Values.{HasPath, IsValue}
-use Rattle.coap_arguments.specs.Words.{IsPathFine, IsRefusedBy}
+use Rattle.coap_arguments.specs.Words.{AsksByPort, AsksByUri, AsksForIn, IsPathFine, IsRefusedBy}
 use Rattle.coap_arguments.specs.declared.refusals.AddressRefusal.{AddressRefusal}
 use Rattle.coap_arguments.specs.declared.refusals.AddressRefusal.TheVariants.{Host, Address as Own}
 use Rattle.coap_arguments.specs.declared.refusals.NumberRefusal.{NumberRefusal}
 use Rattle.coap_arguments.specs.declared.refusals.NumberRefusal.TheVariants.{Port, Count, Limit, Remember, Format}
 use Rattle.coap_arguments.specs.declared.refusals.NumberRefusal.TheVariants.{Accept, Times, Seconds, GiveUp, Every}
+use Rattle.coap_arguments.specs.declared.refusals.NumberRefusal.TheVariants.{ServerPort}
 use Rattle.coap_arguments.specs.declared.refusals.TagsRefusal.{TagsRefusal}
 use Rattle.coap_arguments.specs.declared.refusals.TagsRefusal.TheVariants.{Etag, IfMatch}
+use Rattle.coap_arguments.specs.declared.orders.AskOptions.{AskOptions}
+use Rattle.coap_arguments.specs.declared.orders.Order.TheVariants.{Ask}
 use Rattle.coap_arguments.specs.declared.orders.What.{What}
 use Rattle.coap_arguments.specs.declared.orders.What.TheVariants.{Get, Put, Post, Delete, Observe}
 use Rattle.coap_types.specs.declared.path.PathRefusal.{PathRefusal}
@@ -69,7 +73,7 @@ none_refused kind (x ∷ xs) is h = absurd (cc is)
 pub not_refused : (words : List Text) (error : Rattle.clap.specs.declared.error.Error.Error) → fault_of coap_app words
     ≡ []
     → IsRefusedBy error words → ⊥
-not_refused words error taken h = none_refused _ (fault_of coap_app words) taken h
+not_refused words error taken h = none_refused _ (fault_of coap_app words) taken h.1
 
 -- ---- who takes what
 
@@ -115,19 +119,28 @@ pub sim_asks_none : AsksNone (codes "sim")
 sim_asks_none = record { get = refl; put = refl; post = refl; delete = refl; observe = refl }
 
 -- what asks of a server is none of the other subcommands
-pub what_asks : (name : Text) (v : List Row) (what : What) → IsWhat name v what → IsAsk name
-what_asks name v Get h = inl h.0
-what_asks name v (Put content) h = inr (inr (inr (inl h.0)))
-what_asks name v (Post content) h = inr (inr (inr (inr h.0)))
-what_asks name v Delete h = inr (inr (inl h))
-what_asks name v Observe h = inr (inl h)
+pub what_asks : (word name : Text) (v : List Row) (what : What) → IsWhat word name v what → IsAsk name
+what_asks word name v Get h = inl h.0
+what_asks word name v (Put content) h = inr (inr (inr (inl h.0)))
+what_asks word name v (Post content) h = inr (inr (inr (inr h.0)))
+what_asks word name v Delete h = inr (inr (inl h))
+what_asks word name v Observe h = inr (inl h)
+
+pub place_asks : (name : Text) (v : List Row) (host : Ipv4Addr) (port : ℕ) (path : List (List ℕ)) (what : What)
+    → AsksByPort name v host path what ⊎ AsksByUri name v host port path what → IsAsk name
+place_asks name v host port path what (inl by) = what_asks (codes "BODY") name v what by.4
+place_asks name v host port path what (inr by) = what_asks (codes "PATH") name v what by.5
+
+pub order_asks : (name : Text) (v : List Row) (port : ℕ) (path : List (List ℕ)) (what : What) (options : AskOptions)
+    → AsksForIn name v (Ask port path what options) → IsAsk name
+order_asks name v port path what options h = place_asks name v options.host port path what h.1
 
 -- who takes no PATH
-pub takes_none : (known name : Text) → AsksNone known → bytes_eq known (codes "answer") ≡ false
-    → bytes_eq known (codes "pair") ≡ false → name ≡ known → TakesPath name → ⊥
-takes_none known name n a p is (inl e) = differ known (codes "answer") name a is e
-takes_none known name n a p is (inr (inl e)) = differ known (codes "pair") name p is e
-takes_none known name n a p is (inr (inr e)) = asks_none known name n is e
+pub takes_none : (known name : Text) (v : List Row) → AsksNone known → bytes_eq known (codes "answer") ≡ false
+    → bytes_eq known (codes "pair") ≡ false → name ≡ known → TakesPath name v → ⊥
+takes_none known name v n a p is (inl e) = differ known (codes "answer") name a is e
+takes_none known name v n a p is (inr (inl e)) = differ known (codes "pair") name p is e
+takes_none known name v n a p is (inr (inr e)) = asks_none known name n is e.0
 
 -- who makes no end, and who takes no number
 pub makes_none : (known name : Text) → AsksNone known → bytes_eq known (codes "pair") ≡ false
@@ -144,8 +157,7 @@ reads_none known name n is (inr e) = differ known (codes "observe") name n.obser
 pub counts_none : (known name : Text) (why : NumberRefusal) → AsksNone known → bytes_eq known (codes "pair") ≡ false
     → bytes_eq known (codes "serve") ≡ false → (why ≡ Remember → bytes_eq known (codes "sim") ≡ false) → name ≡ known
     → TakesNumber why name → ⊥
-counts_none known name Port n p s m is (inl e) = differ known (codes "serve") name s is e
-counts_none known name Port n p s m is (inr e) = asks_none known name n is e
+counts_none known name Port n p s m is e = differ known (codes "serve") name s is e
 counts_none known name Count n p s m is e = differ known (codes "serve") name s is e
 counts_none known name Limit n p s m is e = makes_none known name n p s is e
 counts_none known name Remember n p s m is (inl e) = differ known (codes "sim") name (m refl) is e
@@ -156,6 +168,7 @@ counts_none known name Times n p s m is e = reads_none known name n is e
 counts_none known name Seconds n p s m is e = differ known (codes "observe") name n.observe is e
 counts_none known name GiveUp n p s m is e = asks_none known name n is e
 counts_none known name Every n p s m is e = differ known (codes "get") name n.get is e
+counts_none known name ServerPort n p s m is e = asks_none known name n is e
 
 pub addresses_none : (known name : Text) (why : AddressRefusal) → AsksNone known → bytes_eq known (codes "serve")
     ≡ false

@@ -13,11 +13,11 @@ use Rattle.coap_scripts.specs.declared.status.Status.TheVariants as status
 use Rattle.coap_scripts.specs.declared.status.Stop.{Stop}
 use Rattle.coap_scripts.specs.declared.status.Stop.TheVariants as stop
 use Rattle.coap_arguments.specs.declared.orders.Order.{Order}
-use Rattle.coap_arguments.specs.declared.orders.Order.TheVariants.{Ask, Dump, Pair, Serve, Sim}
+use Rattle.coap_arguments.specs.declared.orders.Order.TheVariants.{Ask, Dump, Pair, Serve, Sim, Version}
 use Rattle.coap_arguments.specs.declared.orders.Wrong.{Wrong}
 use Rattle.coap_arguments.specs.declared.orders.Wrong.TheVariants.{Words, Path, Number, Word, Address, Size, Tags}
 use Rattle.coap_arguments.specs.declared.orders.Wrong.TheVariants.{Setting, Body, Store, Plains, Ends as NoEnds}
-use Rattle.coap_arguments.specs.declared.orders.Wrong.TheVariants.{Together, Hex, Memory}
+use Rattle.coap_arguments.specs.declared.orders.Wrong.TheVariants.{Together, NoPath, Uri, Beside, Hex, Memory}
 
 -- the status of a run that came to its end, or stopped
 abbrev pub status_of : Result Status Stop → Status
@@ -44,6 +44,7 @@ abbrev pub CarriesOut : Order → Status → Type 0
 CarriesOut (Sim file store plains remembered chart client server) s = (events : List Event)
     × IsSim (sim_config (record { client = client; server = server }) remembered plains.items) events s
 CarriesOut Dump s = IsOfScript s
+CarriesOut Version s = s ≡ status.Done
 CarriesOut (Pair path body word limit remembered) s = IsPaired path body.now word limit remembered s
 CarriesOut (Serve port count options) s = IsServed count options s
 CarriesOut (Ask port path what options) s = IsAsked port path what options s
@@ -64,6 +65,9 @@ IsTold Store ended = ended ≡ Ok status.Words
 IsTold Plains ended = ended ≡ Ok status.Words
 IsTold (NoEnds refusal) ended = ended ≡ Ok status.Words
 IsTold (Together refusal) ended = ended ≡ Ok status.Words
+IsTold NoPath ended = ended ≡ Ok status.Words
+IsTold (Uri refusal) ended = ended ≡ Ok status.Words
+IsTold (Beside refusal) ended = ended ≡ Ok status.Words
 IsTold Hex ended = (ended ≡ Ok status.Words) ⊎ (ended ≡ Err stop.Failed)
 IsTold Memory ended = ended ≡ Err stop.Memory
 
@@ -83,6 +87,9 @@ IsAnswered Store n = (n ≡ 2) ⊎ (n ≡ 4)
 IsAnswered Plains n = (n ≡ 2) ⊎ (n ≡ 4)
 IsAnswered (NoEnds refusal) n = (n ≡ 2) ⊎ (n ≡ 4)
 IsAnswered (Together refusal) n = (n ≡ 2) ⊎ (n ≡ 4)
+IsAnswered NoPath n = (n ≡ 2) ⊎ (n ≡ 4)
+IsAnswered (Uri refusal) n = (n ≡ 2) ⊎ (n ≡ 4)
+IsAnswered (Beside refusal) n = (n ≡ 2) ⊎ (n ≡ 4)
 IsAnswered Hex n = (n ≡ 2) ⊎ ((n ≡ 3) ⊎ (n ≡ 4))
 IsAnswered Memory n = ⊤
 

@@ -15,6 +15,7 @@ use crate::pair::pair;
 use crate::put_away::put_away;
 use crate::serve::serve;
 use crate::show::show;
+use crate::version::version;
 use coap_arguments::{Order, Wrong, order};
 use coap_run::Addresses;
 use coap_scripts::{Status, Stop, sim_file};
@@ -36,6 +37,7 @@ fn perform<R: AllocGlobal + Files + Net + Clock + RandomSource, O: Write, E: Wri
 {
     let alloc = rt.alloc();
     match order {
+        Order::Version => version(out),
         Order::Show { datagram } => show(alloc, datagram.as_slice(), out),
         Order::Dump => dump(rt, out),
         Order::Answer {
@@ -103,7 +105,10 @@ pub fn refuse<O: Write, E: Write>(wrong: Wrong, out: &mut O, err: &mut E) -> Res
         | Wrong::Store
         | Wrong::Plains
         | Wrong::Ends(_)
-        | Wrong::Together(_) => {
+        | Wrong::Together(_)
+        | Wrong::NoPath
+        | Wrong::Uri(_)
+        | Wrong::Beside(_) => {
             let _ = writeln!(err, "{wrong}");
             Ok(Status::Words)
         }

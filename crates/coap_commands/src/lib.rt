@@ -30,6 +30,7 @@ mod show;
 mod side;
 mod timekeeper;
 mod tracing;
+mod version;
 mod waiting;
 mod word;
 

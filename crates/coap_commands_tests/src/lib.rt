@@ -50,3 +50,5 @@ mod serving;
 mod sizes;
 #[cfg(test)]
 mod tracing;
+#[cfg(test)]
+mod uris;

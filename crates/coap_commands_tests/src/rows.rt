@@ -132,7 +132,7 @@ fn check_wrong<R: Abort + AllocGlobal + Files + Net + Clock + RandomSource>(
 
 #[test]
 fn wrong_words(rt: HostRuntime) -> Result<(), Fail> {
-    let cases: [&[&str]; 36] = [
+    let cases: [&[&str]; 39] = [
         &["pair"],
         &["pair", "t"],
         &["pair", "t", "hi", "--word"],
@@ -151,6 +151,9 @@ fn wrong_words(rt: HostRuntime) -> Result<(), Fail> {
         &["serve", "5683", "1", "--changes", "--changes"],
         &["get", "5683", "t", "--changes"],
         &["get", "5683"],
+        &["get", "http://127.0.0.1/t"],
+        &["get", "coap://127.0.0.1/t", "--host", "127.0.0.1"],
+        &["get", "5683", "t", "--version"],
         &["get", "", "t"],
         &["sim"],
         &["sim", "ping.sim", "--store"],

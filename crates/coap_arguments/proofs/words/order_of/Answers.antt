@@ -1,9 +1,9 @@
 use Rattle.std.proofs.Common.{refl, inl, inr, ◌≡◌, ℕ, List, codes}
 use Rattle.coap_arguments.proofs.ClapWords.{enters_met, ours, said_by, wrong_by, show_hex, answer_hex, answer_path}
-use Rattle.coap_arguments.proofs.ClapWords.{answer_body, ask_path, ask_port, pair_body, pair_path, serve_port}
+use Rattle.coap_arguments.proofs.ClapWords.{answer_body, ask_port, pair_body, pair_path, serve_port}
 use Rattle.coap_arguments.proofs.ClapWords.{IsOurs, refused_by_clap, sim_file, takes_its_own}
 use Rattle.coap_arguments.specs.Asking.{IsAsk}
-use Rattle.coap_arguments.proofs.words.order.Goals as goal
+use Rattle.coap_arguments.proofs.words.order_of.Goals as goal
 
 pub show_order-requires : goal.show_order-requires
 show_order-requires c =
@@ -24,7 +24,7 @@ pub returns-in-dump : goal.returns-in-dump
 returns-in-dump c =
     let enters = enters_met _ c.in_ok-coap_command.ensures _ _ c.in_ok-matches.ensures.matches
     c.in_ok-matches.ensures.kinds _ _ _ c.in-dump.is c.in-Some.ensures.name c.in-Some.ensures.rows in
-    record { ok = (codes "dump", _, enters, refl); wrong = tt }
+    record { ok = inr (codes "dump", _, enters, refl); wrong = tt }
 
 pub answer_order-requires : goal.answer_order-requires
 answer_order-requires c =
@@ -88,7 +88,7 @@ returns-in-sim c =
 
 pub returns-in_err-matches-clause-wrong : goal.returns-in_err-matches-clause-wrong
 returns-in_err-matches-clause-wrong c =
-    refused_by_clap _ c.in_ok-coap_command.ensures _ _ _ c.from_residual-in_err-matches.ensures.1
+    refused_by_clap _ c.in_ok-coap_command.ensures _ _ _ c.requires c.from_residual-in_err-matches.ensures.1
     c.in_err-matches.ensures.kinds
 
 is_ask : (name : List ℕ) → IsOurs name → (name ≡ codes "show" → ⊥) → (name ≡ codes "answer" → ⊥)
@@ -112,7 +112,6 @@ ask_order-requires c =
     record {
       name = ask;
       port = ask_port _ _ _ ask enters;
-      path = ask_path _ _ _ ask enters;
       own = takes_its_own _ _ _ enters;
     }
 
