@@ -214,10 +214,10 @@ module _ {S F : Type 0} (takes : S → Input → S → Type 0) (gives : S → Pa
   commits_one t old new result acts k (Commits.unwritten r going one are is) =
       subst (λ (us : List Act). Keeps (us ++ t) new) (sym are)
       (ends_one t (Appends (next_frame old) false ∷ t) old new k is refl refl)
-  commits_one t old new result acts k (Commits.full r are is) =
+  commits_one t old new result acts k (Commits.full r going some full are is) =
       subst (λ (us : List Act). Keeps (us ++ t) new) (sym are)
       (ends_one t t old new k (is ∙ ap (ended_with old) (sym (ap (λ (j : Journal S F). j.file) is))) refl refl)
-  commits_one t old new result acts k (Commits.refused r are same) =
+  commits_one t old new result acts k (Commits.refused r going some are same) =
       subst (λ (us : List Act). Keeps (us ++ t) new) (sym are) (subst (Keeps t) (sym same) k)
   commits_one t old new result acts k (Commits.over r going are same) =
       subst (λ (us : List Act). Keeps (us ++ t) new) (sym are) (subst (Keeps t) (sym same) k)

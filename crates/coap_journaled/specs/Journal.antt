@@ -1,5 +1,5 @@
 -- An end and its journal: what goes into a file, and what may go out.
-use Rattle.std.specs.Prelude.{◌≡◌, ◌⊎◌, ◌+◌, ◌-◌, ◌^◌, ℕ, max, min, Bool, true, false, not, ◌&&◌, Option, Some, None}
+use Rattle.std.specs.Prelude.{◌≡◌, ◌⊎◌, ◌+◌, ◌-◌, ◌^◌, ◌≤◌, ◌<◌, ℕ, max, min, Bool, true, false, not, ◌&&◌, Option, Some, None}
 use Rattle.std.specs.Prelude.{List, [], ◌∷◌, ◌++◌, length}
 use Rattle.coap_journal.specs.Frames.{frame}
 use Rattle.coap_journal.specs.Input.{Delay, Feed, Input, Plain, Remove, Set, Tick, spelled}
@@ -77,6 +77,14 @@ turn_in j = 9 ∷ (number j.moment ++ (number j.taken ++ j.inputs))
 
 abbrev pub next_frame : {S F : Type 0} → Journal S F → List ℕ
 next_frame j = frame j.place (turn_in j)
+
+-- The file can't hold the next frame: it stands too far on, or would end past the last place; its turn is too long; or
+-- more datagrams were taken than can be counted.
+pub data IsFull {S F : Type 0} (j : Journal S F) : Type 0 where
+  far : 2 ^ 62 ≤ j.place → IsFull j
+  long : 2 ^ 24 < length (turn_in j) → IsFull j
+  many : most ≤ j.taken → IsFull j
+  ends : 2 ^ 64 ≤ j.place + length (next_frame j) → IsFull j
 
 -- the frame was written and synced
 abbrev pub synced_to : {S F : Type 0} → Journal S F → F → Journal S F

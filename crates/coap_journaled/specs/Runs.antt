@@ -3,7 +3,8 @@ use Rattle.std.specs.Prelude.{◌≡◌, ◌≢◌, ◌<◌, ℕ, Bool, true, fa
 use Rattle.coap_layer.specs.Trace.{Packet}
 use Rattle.coap_types.specs.declared.endpoint.Endpoint.{Endpoint}
 use Rattle.coap_journal.specs.Input.{Delay, Feed, Input, Plain, Remove, Set, Tick}
-use Rattle.coap_journaled.specs.Journal.{IsNoted, IsTaken, Journal, ended_with, most, next_frame, synced_to}
+use Rattle.coap_journaled.specs.Journal.{IsFull, IsNoted, IsTaken, Journal, ended_with, most}
+use Rattle.coap_journaled.specs.Journal.{next_frame, synced_to}
 use Rattle.coap_journaled.specs.declared.journaled.CommitError.{CommitError}
 use Rattle.coap_journaled.specs.declared.journaled.CommitError.TheVariants.{Memory, NoRoom, NotSynced, NotWritten, Over}
 
@@ -31,8 +32,10 @@ pub data Commits {S F : Type 0} (appends : F → List ℕ → Bool → F → Typ
   unwritten : result ≡ Err NotWritten → old.over ≡ false → appends old.file (next_frame old) false new.file
       → acts ≡ Appends (next_frame old) false ∷ [] → new ≡ ended_with old new.file
       → Commits appends syncs old result acts new
-  full : result ≡ Err NoRoom → acts ≡ [] → new ≡ ended_with old old.file → Commits appends syncs old result acts new
-  refused : result ≡ Err Memory → acts ≡ [] → new ≡ old → Commits appends syncs old result acts new
+  full : result ≡ Err NoRoom → old.over ≡ false → old.inputs ≢ [] → IsFull old → acts ≡ []
+      → new ≡ ended_with old old.file → Commits appends syncs old result acts new
+  refused : result ≡ Err Memory → old.over ≡ false → old.inputs ≢ [] → acts ≡ [] → new ≡ old
+      → Commits appends syncs old result acts new
   over : result ≡ Err Over → old.over ≡ true → acts ≡ [] → new ≡ old → Commits appends syncs old result acts new
 
 -- what a datagram and a tick make of an end (`feeds` and `ticks` are its own words); it takes nothing else

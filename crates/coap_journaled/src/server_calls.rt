@@ -1,7 +1,9 @@
 //! A server that keeps a journal: its local changes, and what it applied.
 ghost use Rattle.std.specs.Prelude.{◌≡◌, ◌≢◌, true, false, Err, IfSome, option_copied};
 ghost use Rattle.coap_resource.specs.declared.refusal.StoreRefusal.TheVariants as store_refusals;
+ghost use Rattle.coap_server.specs.Led.{Step};
 ghost use Rattle.coap_server.specs.Object.Shown.{applied_list, state_of};
+ghost use Rattle.coap_server.specs.Trace.{Removes, Sets};
 ghost use Rattle.coap_journal.specs.Input.{Remove, Set};
 ghost use Rattle.coap_replay.specs.Replaying.{Takes};
 ghost use Rattle.coap_journaled.specs.Journal.{IsNoted, is_open, shown};
@@ -50,6 +52,10 @@ impl<S: Store<A>, F: JournalFile, A: Allocator + Copy, H: BuildHasher> Journaled
         // The server takes just that change.
         ensures taken { result ≢ Err store_refusals.Memory → Takes (state_of S.content self.old.end)
             (Set now.0 path.now format body.now) (state_of S.content self.new.end) }
+        // The version, or why it is refused, is what the server answers to that change.
+        ensures answered { result ≢ Err store_refusals.Memory → Step (state_of S.content self.old.end)
+            (Sets now.0 path.now format body.now result (state_of S.content self.new.end).own.store)
+            (state_of S.content self.new.end) }
         // After Memory nothing is noted, and nothing changed.
         ensures memory { result ≡ Err store_refusals.Memory
             → shown (state_of S.content) self.new ≡ shown (state_of S.content) self.old }
@@ -83,6 +89,13 @@ impl<S: Store<A>, F: JournalFile, A: Allocator + Copy, H: BuildHasher> Journaled
         // The server takes just that removal.
         ensures taken { result ≢ Err store_refusals.Memory → Takes (state_of S.content self.old.end)
             (Remove now.0 path.now) (state_of S.content self.new.end) }
+        // Whether the path held anything is what the server answers to that removal.
+        ensures answered { result ≢ Err store_refusals.Memory → Step (state_of S.content self.old.end)
+            (Removes now.0 path.now result (state_of S.content self.new.end).own.store)
+            (state_of S.content self.new.end) }
+        // After Memory no removal is noted, and nothing changed.
+        ensures memory { result ≡ Err store_refusals.Memory
+            → shown (state_of S.content) self.new ≡ shown (state_of S.content) self.old }
     {
         if self.over {
             return Err(StoreRefusal::Memory);
@@ -106,6 +119,9 @@ impl<S: Store<A>, F: JournalFile, A: Allocator + Copy, H: BuildHasher> Journaled
     pub fn applied(&self) -> Option<&Applied<A>>
         // What was applied is told only where each input is in the file, which was synced.
         ensures synced { IfSome result (λ _. is_open (shown (state_of S.content) self.now) ≡ true) }
+        // Where each input is in the file, what the server applied last is told, and None where it applied nothing.
+        ensures open { is_open (shown (state_of S.content) self.now) ≡ true → applied_list (option_copied result)
+            ≡ (state_of S.content self.now.end).own.applied }
         // What is told is what the server applied last.
         ensures told { IfSome result (λ x. applied_list (option_copied result)
             ≡ (state_of S.content self.now.end).own.applied) }

@@ -1,5 +1,7 @@
 -- One more at the end of what is replayed.
 use Rattle.std.proofs.Common.{◌≡◌, ℕ, List, [], ◌∷◌, ◌++◌, ◌+◌, ◌<◌, length, refl, sym, ap, ◌∙◌, append_assoc, arith}
+use Rattle.std.proofs.Common.{Result, Ok, Err, subst}
+use Rattle.std.specs.Result.{IfErr, IsErrAnd}
 use Rattle.std.proofs.lemmas.List.{length-append}
 use Rattle.coap_layer.specs.Trace.{Packet}
 use Rattle.coap_server.specs.Led.{State}
@@ -61,3 +63,15 @@ latest_more latest [] r = refl
 latest_more latest (Begun b first ∷ records) r = latest_more latest records r
 latest_more latest (Woke further ∷ records) r = latest_more further.moment.0 records r
 latest_more latest (Turn moment taken inputs ∷ records) r = latest_more moment records r
+
+-- what stands after the frames of records, by its place
+pub stands_at : (place at : ℕ) (bytes rest : List ℕ) (records : List Record)
+    → bytes ≡ frames place (bodies records) ++ rest → at + length rest ≡ place + length bytes
+    → at ≡ place + length (frames place (bodies records))
+stands_at place at bytes rest records e is =
+    omega (arith, is, ap (length {A = ℕ}) e, length-append (frames place (bodies records)) rest)
+
+-- an error that is passed on by `?`
+pub passed_up : {T E : Type 0} (r : Result T E) (e : E) (P : E → Type 0) → IsErrAnd r (λ y. y ≡ e) → P e → IfErr r P
+passed_up (Ok x) e P is h = absurd is
+passed_up (Err y) e P is h = subst P (sym is) h

@@ -1,5 +1,5 @@
 //! The records of a journal, done again.
-ghost use Rattle.std.specs.Prelude.{◌≡◌, ◌≢◌, ◌∷◌, ◌++◌, ◌<◌, ◌+◌, ◌^◌, [], List, ℕ, length, false, Err, IfOk, OnOk};
+ghost use Rattle.std.specs.Prelude.{◌≡◌, ◌≢◌, ◌∷◌, ◌++◌, ◌<◌, ◌+◌, ◌^◌, [], List, ℕ, length, false, Err, IfErr, IfOk, OnOk};
 ghost use Rattle.coap_layer.specs.Trace.{Packet};
 ghost use Rattle.coap_resource.specs.declared.refusal.StoreRefusal.TheVariants.{Memory};
 ghost use Rattle.coap_server.specs.declared.server.delays.DelayRefusal.TheVariants as delay_refusals;
@@ -9,6 +9,8 @@ ghost use Rattle.coap_journal.specs.Frames.{BeginsFrame, frames};
 ghost use Rattle.coap_journal.specs.Input.{Delay, Feed, Input, Plain, Remove, Set, Tick, all_spelled, spelled};
 ghost use Rattle.coap_journal.specs.Records.{Record, Turn, record_bytes};
 ghost use Rattle.coap_replay.specs.Doing.{bodies};
+ghost use Rattle.coap_replay.specs.declared.replay.ReplayError.TheVariants.{OtherServer};
+ghost use Rattle.coap_replay.specs.Refusing.{GivesTooFew, IsOfOther, StopsAt};
 ghost use Rattle.coap_replay.specs.Replaying.{Does, GivesOut, Replays, Takes, TakesAll, Turned};
 ghost use Rattle.coap_replay.specs.Replaying.{last_life, latest_moment};
 
@@ -49,7 +51,10 @@ pub struct Replayed {
 }
 
 impl From<AllocError> for ReplayError {
-    ghost from_gives = { λ _ e. Unit {0} };
+    ghost use Rattle.std.specs.Prelude.{◌≡◌};
+    ghost use Rattle.coap_replay.specs.declared.replay.ReplayError.TheVariants.{Memory};
+
+    ghost from_gives = { λ _ e. e ≡ Memory };
 
     fn from(_: AllocError) -> Self {
         ReplayError::Memory
@@ -57,7 +62,10 @@ impl From<AllocError> for ReplayError {
 }
 
 impl From<ReadError> for ReplayError {
-    ghost from_gives = { λ _ e. Unit {0} };
+    ghost use Rattle.std.specs.Prelude.{◌≡◌};
+    ghost use Rattle.coap_replay.specs.Refusing.{refusal_of};
+
+    ghost from_gives = { λ why e. e ≡ refusal_of why };
 
     fn from(why: ReadError) -> Self {
         match why {
@@ -72,8 +80,9 @@ fn replay_feed<'a, S: Store<A>, A: Allocator + Copy, H: BuildHasher>(
     server: &mut Server<S, A, H>,
     bytes: &'a [u8],
 ) -> Result<&'a [u8], ReplayError>
-    ensures { IfOk result (λ rest. (input : Input) × (FEED ∷ bytes.now ≡ spelled input ++ rest.now)
+    ensures done { IfOk result (λ rest. (input : Input) × (FEED ∷ bytes.now ≡ spelled input ++ rest.now)
         × Takes (state_of S.content server.old) input (state_of S.content server.new)) }
+    ensures same { IfErr result (λ why. why ≢ OtherServer) }
 {
     match read_feed(bytes) {
         Some((fed, rest)) => {
@@ -89,8 +98,9 @@ fn replay_tick<'a, S: Store<A>, A: Allocator + Copy, H: BuildHasher>(
     server: &mut Server<S, A, H>,
     bytes: &'a [u8],
 ) -> Result<&'a [u8], ReplayError>
-    ensures { IfOk result (λ rest. (input : Input) × (TICK ∷ bytes.now ≡ spelled input ++ rest.now)
+    ensures done { IfOk result (λ rest. (input : Input) × (TICK ∷ bytes.now ≡ spelled input ++ rest.now)
         × Takes (state_of S.content server.old) input (state_of S.content server.new)) }
+    ensures same { IfErr result (λ why. why ≢ OtherServer) }
 {
     match read_tick(bytes) {
         Some((now, word, rest)) => {
@@ -143,8 +153,9 @@ fn replay_set<'a, S: Store<A>, A: Allocator + Copy, H: BuildHasher>(
     alloc: A,
     bytes: &'a [u8],
 ) -> Result<&'a [u8], ReplayError>
-    ensures { IfOk result (λ rest. (input : Input) × (SET ∷ bytes.now ≡ spelled input ++ rest.now)
+    ensures done { IfOk result (λ rest. (input : Input) × (SET ∷ bytes.now ≡ spelled input ++ rest.now)
         × Takes (state_of S.content server.old) input (state_of S.content server.new)) }
+    ensures same { IfErr result (λ why. why ≢ OtherServer) }
 {
     let (now, format, path, body, rest) = read_set(alloc, bytes)?;
     let lacked = set_lacked(server.set(now, &path, format, body));
@@ -160,8 +171,9 @@ fn replay_remove<'a, S: Store<A>, A: Allocator + Copy, H: BuildHasher>(
     alloc: A,
     bytes: &'a [u8],
 ) -> Result<&'a [u8], ReplayError>
-    ensures { IfOk result (λ rest. (input : Input) × (REMOVE ∷ bytes.now ≡ spelled input ++ rest.now)
+    ensures done { IfOk result (λ rest. (input : Input) × (REMOVE ∷ bytes.now ≡ spelled input ++ rest.now)
         × Takes (state_of S.content server.old) input (state_of S.content server.new)) }
+    ensures same { IfErr result (λ why. why ≢ OtherServer) }
 {
     let (now, path, rest) = read_numbered_path(alloc, bytes)?;
     let _ = server.remove(Moment(now), &path);
@@ -174,8 +186,9 @@ fn replay_delay<'a, S: Store<A>, A: Allocator + Copy, H: BuildHasher>(
     alloc: A,
     bytes: &'a [u8],
 ) -> Result<&'a [u8], ReplayError>
-    ensures { IfOk result (λ rest. (input : Input) × (DELAY ∷ bytes.now ≡ spelled input ++ rest.now)
+    ensures done { IfOk result (λ rest. (input : Input) × (DELAY ∷ bytes.now ≡ spelled input ++ rest.now)
         × Takes (state_of S.content server.old) input (state_of S.content server.new)) }
+    ensures same { IfErr result (λ why. why ≢ OtherServer) }
 {
     let (ms, path, rest) = read_numbered_path(alloc, bytes)?;
     let lacked = delay_lacked(server.set_delay(&path, ms));
@@ -191,8 +204,9 @@ fn replay_plain<'a, S: Store<A>, A: Allocator + Copy, H: BuildHasher>(
     alloc: A,
     bytes: &'a [u8],
 ) -> Result<&'a [u8], ReplayError>
-    ensures { IfOk result (λ rest. (input : Input) × (PLAIN ∷ bytes.now ≡ spelled input ++ rest.now)
+    ensures done { IfOk result (λ rest. (input : Input) × (PLAIN ∷ bytes.now ≡ spelled input ++ rest.now)
         × Takes (state_of S.content server.old) input (state_of S.content server.new)) }
+    ensures same { IfErr result (λ why. why ≢ OtherServer) }
 {
     let (path, rest) = read_path(alloc, bytes)?;
     let lacked = plain_lacked(server.set_plain(&path));
@@ -208,8 +222,9 @@ fn replay_input<'a, S: Store<A>, A: Allocator + Copy, H: BuildHasher>(
     alloc: A,
     bytes: &'a [u8],
 ) -> Result<&'a [u8], ReplayError>
-    ensures { IfOk result (λ rest. (input : Input) × (bytes.now ≡ spelled input ++ rest.now)
+    ensures done { IfOk result (λ rest. (input : Input) × (bytes.now ≡ spelled input ++ rest.now)
         × Takes (state_of S.content server.old) input (state_of S.content server.new)) }
+    ensures same { IfErr result (λ why. why ≢ OtherServer) }
 {
     match bytes {
         [FEED, rest @ ..] => replay_feed(server, rest),
@@ -227,8 +242,9 @@ fn take_out<S: Store<A>, A: Allocator + Copy, H: BuildHasher>(
     server: &mut Server<S, A, H>,
     count: u64,
 ) -> Result<(), ReplayError>
-    ensures { OnOk result ((out : List Packet) × (length out ≡ count)
+    ensures done { OnOk result ((out : List Packet) × (length out ≡ count)
         × GivesOut (state_of S.content server.old) out (state_of S.content server.new)) }
+    ensures few { IfErr result (λ why. why ≡ OtherServer → GivesTooFew (state_of S.content server.old) count) }
 {
     for _ in 0..count {
         match server.next_out() {
@@ -245,8 +261,9 @@ fn replay_inputs<S: Store<A>, A: Allocator + Copy, H: BuildHasher>(
     alloc: A,
     bytes: &[u8],
 ) -> Result<(), ReplayError>
-    ensures { OnOk result ((inputs : List Input) × (bytes.now ≡ all_spelled inputs)
+    ensures done { OnOk result ((inputs : List Input) × (bytes.now ≡ all_spelled inputs)
         × TakesAll (state_of S.content server.old) inputs (state_of S.content server.new)) }
+    ensures same { IfErr result (λ why. why ≢ OtherServer) }
 {
     let mut rest = bytes;
     while !rest.is_empty() {
@@ -262,9 +279,10 @@ fn replay_turn<S: Store<A>, A: Allocator + Copy, H: BuildHasher>(
     bytes: &[u8],
     life: Life,
 ) -> Result<(Life, Moment), ReplayError>
-    ensures { IfOk result (λ p. (done : Record) × (out : List Packet) × (TURN ∷ bytes.now ≡ record_bytes done)
+    ensures done { IfOk result (λ p. (done : Record) × (out : List Packet) × (TURN ∷ bytes.now ≡ record_bytes done)
         × Does (state_of S.content server.old) done out (state_of S.content server.new)
         × (p.0 ≡ last_life life (done ∷ [])) × ((latest : ℕ) → p.1.0 ≡ latest_moment latest (done ∷ []))) }
+    ensures other { IfErr result (λ why. why ≡ OtherServer → IsOfOther (state_of S.content server.old) (TURN ∷ bytes.now)) }
 {
     match read_turn(bytes) {
         Some((moment, taken, inputs)) => {
@@ -282,9 +300,10 @@ fn replay_woke<S: Store<A>, A: Allocator + Copy, H: BuildHasher>(
     bytes: &[u8],
     life: Life,
 ) -> Result<(Life, Moment), ReplayError>
-    ensures { IfOk result (λ p. (done : Record) × (out : List Packet) × (WOKE ∷ bytes.now ≡ record_bytes done)
+    ensures done { IfOk result (λ p. (done : Record) × (out : List Packet) × (WOKE ∷ bytes.now ≡ record_bytes done)
         × Does (state_of S.content server.now) done out (state_of S.content server.now)
         × (p.0 ≡ last_life life (done ∷ [])) × ((latest : ℕ) → p.1.0 ≡ latest_moment latest (done ∷ []))) }
+    ensures same { IfErr result (λ why. why ≢ OtherServer) }
 {
     let _before = life;
     let _same = server;
@@ -301,9 +320,10 @@ fn replay_record<S: Store<A>, A: Allocator + Copy, H: BuildHasher>(
     bytes: &[u8],
     life: Life,
 ) -> Result<(Life, Moment), ReplayError>
-    ensures { IfOk result (λ p. (done : Record) × (out : List Packet) × (bytes.now ≡ record_bytes done)
+    ensures done { IfOk result (λ p. (done : Record) × (out : List Packet) × (bytes.now ≡ record_bytes done)
         × Does (state_of S.content server.old) done out (state_of S.content server.new)
         × (p.0 ≡ last_life life (done ∷ [])) × ((latest : ℕ) → p.1.0 ≡ latest_moment latest (done ∷ []))) }
+    ensures other { IfErr result (λ why. why ≡ OtherServer → IsOfOther (state_of S.content server.old) (bytes.now)) }
 {
     match bytes {
         [TURN, rest @ ..] => replay_turn(server, alloc, rest, life),
@@ -328,6 +348,9 @@ pub fn replay_frames<'a, S: Store<A>, A: Allocator + Copy, H: BuildHasher>(
         × (bytes.now ≡ frames place (bodies records) ++ end.1.now)
         × Replays (state_of S.content server.old) records out (state_of S.content server.new)
         × (end.0.life ≡ last_life life records) × (end.0.latest.0 ≡ latest_moment life.moment.0 records)) }
+    // OtherServer is the answer only where a turn follows before which more datagrams were taken than the server has.
+    ensures other { IfErr result (λ why. why ≡ OtherServer
+        → StopsAt IsOfOther place (state_of S.content server.old) bytes.now) }
     // No frame begins with the rest.
     ensures whole { IfOk result (λ end. BeginsFrame end.0.end end.1.now → ⊥) }
     // The rest stands where the frames end.

@@ -3,8 +3,8 @@ use Rattle.coap_journal.specs.Input.{Feed}
 use Rattle.coap_server.specs.Trace.{Feeds}
 use Rattle.coap_replay.proofs.replay.replay_feed.Goals as goal
 
-pub returns-in_ok-feed-in-Some : goal.returns-in_ok-feed-in-Some
-returns-in_ok-feed-in-Some g c =
+pub returns-in_ok-feed-in-Some-clause-done : goal.returns-in_ok-feed-in-Some-clause-done
+returns-in_ok-feed-in-Some-clause-done g c =
     let fed = c.in-Some.fed in
     let s = c.in_ok-feed-in-Some.ensures.step in (
       Feed fed.now.0 fed.from fed.bytes.now fed.word,

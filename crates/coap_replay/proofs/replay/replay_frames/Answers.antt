@@ -1,7 +1,10 @@
-use Rattle.std.proofs.Common.{[], ◌∷◌, ◌++◌, ◌+◌, ◌∙◌, sym, ap, refl, arith}
+use Rattle.std.proofs.Common.{[], ◌∷◌, ◌++◌, ◌+◌, ◌∙◌, sym, ap, refl, arith, List, ℕ}
 use Rattle.coap_journal.specs.declared.beginning.Life.{Life}
 use Rattle.coap_replay.specs.Replaying.{last_life}
 use Rattle.coap_journal.proofs.Facts.{rest_is_less}
+use Rattle.coap_journal.specs.Frames.{frames}
+use Rattle.coap_replay.specs.Doing.{bodies}
+use Rattle.coap_replay.proofs.Chains.{passed_up, stands_at}
 use Rattle.coap_replay.proofs.Chains.{last_life_more, latest_more, record_framed, replays_more}
 use Rattle.coap_replay.proofs.replay.replay_frames.Goals as goal
 
@@ -20,7 +23,7 @@ loop-body-smaller g c =
 pub loop-body-preserved : goal.loop-body-preserved
 loop-body-preserved g c =
     let so_far = c.loop-body.invariant in
-    let next = c.in_ok-further.ensures in (
+    let next = c.in_ok-further.ensures.done in (
       so_far.0 ++ next.0 ∷ [],
       so_far.1 ++ next.1,
       record {
@@ -38,3 +41,21 @@ loop-body-preserved g c =
         latest = next.5 _ ∙ sym (latest_more c.args.life.moment.0 so_far.0 next.0);
       },
     )
+
+pub returns-in_err-further-clause-other : goal.returns-in_err-further-clause-other
+returns-in_err-further-clause-other g c =
+    let so_far = c.loop-body.invariant in
+    passed_up c.from_residual.result c.in_err-further.field-0.0 _ c.from_residual.ensures.1 (λ is. record {
+      records = so_far.0;
+      out = so_far.1;
+      between = _;
+      replays = so_far.2.replays;
+      at = c.loop-body.at;
+      body = c.in-Some.body.now;
+      rest = c.in-Some.behind.now;
+      bytes_are = so_far.2.bytes ∙ ap (λ (xs : List ℕ). frames c.args.place (bodies so_far.0) ++ xs)
+          c.in-Some.ensures.some;
+      stands = stands_at c.args.place c.loop-body.at c.args.bytes.now c.loop-body.rest.now so_far.0 so_far.2.bytes
+          so_far.2.place;
+      refused = c.in_err-further.ensures.other is;
+    })

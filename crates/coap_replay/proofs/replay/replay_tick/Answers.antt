@@ -3,8 +3,8 @@ use Rattle.coap_journal.specs.Input.{Tick}
 use Rattle.coap_server.specs.Trace.{Ticks}
 use Rattle.coap_replay.proofs.replay.replay_tick.Goals as goal
 
-pub returns-in_ok-tick-in-Some : goal.returns-in_ok-tick-in-Some
-returns-in_ok-tick-in-Some g c =
+pub returns-in_ok-tick-in-Some-clause-done : goal.returns-in_ok-tick-in-Some-clause-done
+returns-in_ok-tick-in-Some-clause-done g c =
     let now = c.in-Some.now.0 in
     let word = c.in-Some.word in
     let s = c.in_ok-tick-in-Some.ensures.step in (

@@ -1,12 +1,13 @@
 use Rattle.std.proofs.Common.{ap, refl, ◌∷◌, ◌++◌, ℕ, List, ◌∙◌}
 use Rattle.coap_journal.specs.Numbers.{number}
 use Rattle.coap_journal.specs.Records.{Turn}
+use Rattle.coap_replay.proofs.Chains.{passed_up}
 use Rattle.coap_replay.proofs.replay.replay_turn.Goals as goal
 
-pub returns-in_ok-replay_inputs-in-Some : goal.returns-in_ok-replay_inputs-in-Some
-returns-in_ok-replay_inputs-in-Some g c =
-    let given = c.in_ok-take_out-in-Some.ensures in
-    let taken = c.in_ok-replay_inputs-in-Some.ensures in (
+pub returns-in_ok-replay_inputs-in-Some-clause-done : goal.returns-in_ok-replay_inputs-in-Some-clause-done
+returns-in_ok-replay_inputs-in-Some-clause-done g c =
+    let given = c.in_ok-take_out-in-Some.ensures.done in
+    let taken = c.in_ok-replay_inputs-in-Some.ensures.done in (
       Turn c.in-Some.moment.0 c.in-Some.taken taken.0,
       given.0,
       ap (λ (xs : List ℕ). 9 ∷ xs) (c.in-Some.ensures.some
@@ -15,3 +16,13 @@ returns-in_ok-replay_inputs-in-Some g c =
       refl,
       λ latest. refl,
     )
+
+pub returns-in_err-take_out-in-Some-clause-other : goal.returns-in_err-take_out-in-Some-clause-other
+returns-in_err-take_out-in-Some-clause-other g c =
+    passed_up c.from_residual.result c.in_err-take_out-in-Some.field-0.0 _ c.from_residual.ensures.1 (λ is. record {
+      moment = c.in-Some.moment.0;
+      taken = c.in-Some.taken;
+      inputs = c.in-Some.inputs.now;
+      turn_is = ap (λ (xs : List ℕ). 9 ∷ xs) c.in-Some.ensures.some;
+      few = c.in_err-take_out-in-Some.ensures.few is;
+    })

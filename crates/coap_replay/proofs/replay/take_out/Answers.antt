@@ -11,3 +11,13 @@ loop-preserved g c =
       gives_more _ so_far.0 _ c.in-Some.field-0 _ so_far.2
           (record { first = c.in-Some.ensures.some; step = c.in-Some.ensures.step }),
     )
+
+pub returns-in-None-clause-few : goal.returns-in-None-clause-few
+returns-in-None-clause-few g c is =
+    let so_far = c.loop.invariant in record {
+      out = so_far.0;
+      left = _;
+      gives = so_far.2;
+      none = c.in-None.ensures.none.0;
+      fewer = omega (arith, so_far.1);
+    }
