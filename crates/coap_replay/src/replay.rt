@@ -1,5 +1,6 @@
 //! The records of a journal, done again.
-ghost use Rattle.std.specs.Prelude.{◌≡◌, ◌≢◌, ◌∷◌, ◌++◌, ◌<◌, ◌+◌, ◌^◌, [], List, ℕ, length, false, Err, IfErr, IfOk, OnOk};
+ghost use Rattle.std.specs.Prelude.{◌≡◌, ◌≢◌, ◌∷◌, ◌++◌, ◌<◌, ◌+◌, ◌^◌, [], List, ℕ, length, false, Err};
+ghost use Rattle.std.specs.Prelude.{IfErr, IfOk, OnOk};
 ghost use Rattle.coap_layer.specs.Trace.{Packet};
 ghost use Rattle.coap_resource.specs.declared.refusal.StoreRefusal.TheVariants.{Memory};
 ghost use Rattle.coap_server.specs.declared.server.delays.DelayRefusal.TheVariants as delay_refusals;
@@ -282,7 +283,8 @@ fn replay_turn<S: Store<A>, A: Allocator + Copy, H: BuildHasher>(
     ensures done { IfOk result (λ p. (done : Record) × (out : List Packet) × (TURN ∷ bytes.now ≡ record_bytes done)
         × Does (state_of S.content server.old) done out (state_of S.content server.new)
         × (p.0 ≡ last_life life (done ∷ [])) × ((latest : ℕ) → p.1.0 ≡ latest_moment latest (done ∷ []))) }
-    ensures other { IfErr result (λ why. why ≡ OtherServer → IsOfOther (state_of S.content server.old) (TURN ∷ bytes.now)) }
+    ensures other { IfErr result (λ why. why ≡ OtherServer
+        → IsOfOther (state_of S.content server.old) (TURN ∷ bytes.now)) }
 {
     match read_turn(bytes) {
         Some((moment, taken, inputs)) => {
