@@ -1,3 +1,6 @@
+-- What a client takes. It came from its server, in a message that its layer hands up in that very call (FromServer,
+-- HandedUp, Noted). It answers the request that was sent last, once (HeardRuns, HeardOnce), or is noted under the token
+-- of a live observation (NoticesHeard). And it is acknowledged (Acked).
 pub mod Acked
 pub mod FromServer
 pub mod HandedUp

@@ -1,3 +1,7 @@
+-- The observations of a client. Each has one token, that of its registration (OneToken, WatchedAs), and lives until it
+-- is over (StaysLive, Ended). A notification that is taken answers the registration, or is newer than the newest before
+-- (Notified, Marks), so values rise (Rising). A value is whole by its notification and what was fetched for it
+-- (Values), and the last value is of the newest (LastValue).
 pub mod AllOf
 pub mod AreThere
 pub mod Ascending

@@ -1,3 +1,6 @@
+-- What is reported of an answer, and of the end of an exchange. The table of reports is read line by line (TableLines,
+-- ByTable): what an answer comes to by its code (AnswerCodes, Codes, EachValid), a body that is whole by its parts
+-- (EachWhole, Bodies), and an exchange that ends without a response (Ends).
 pub mod AnswerCodes
 pub mod AnswerReports
 pub mod FetchedParts

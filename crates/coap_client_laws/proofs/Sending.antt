@@ -1,3 +1,7 @@
+-- What a client sends. Each request is asked for by an operation as it was taken (Asked, OfCalls), and begins one CON
+-- (SendsBegin, Begun), under a token of its own, but for a cancel (Tokens). One exchange is open at a time: that of the
+-- request that was sent last, for the operation that runs (SentFor, OpenSince). Where few exchanges end, each request
+-- is sent (SentWhereFew).
 pub mod ApartLists
 pub mod Asked
 pub mod Begun

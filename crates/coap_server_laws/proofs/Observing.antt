@@ -1,8 +1,17 @@
+-- The observers of a server. A registration is the latest of its endpoint and token (OneRegistration,
+-- LatestRegistration), and stays until it is told to have ended, is cancelled, or its path is gone (ObservationStays,
+-- ObservationEnds, ResetsEnd). A change marks its observers (ChangesMark), and what is due stays due until it is told
+-- (MarksStay); to whom nothing is due was told last what the path holds (UnmarkedAreCurrent). What is told under one
+-- registration follows on: versions rise, and each CON was acknowledged before the next begins (ToldInOrder,
+-- VersionsRise, Flights). It goes in a NON where the trace says so (NoticesGoSo, by EntriesKeepLast).
 pub mod ChangesMark
 pub mod ConsAreAcknowledged
 pub mod CurrentLists
 pub mod DatedMarks
 pub mod EndsObservation
+pub mod EntriesKeepLast
+pub mod EntrySteps
+pub mod EntryTold
 pub mod Flights
 pub mod LastRegistered
 pub mod LatestRegistration
@@ -22,7 +31,4 @@ pub mod ToldAt
 pub mod ToldInOrder
 pub mod UnmarkedAreCurrent
 pub mod VersionsRise
-pub mod WaysKept
-pub mod WaysSteps
-pub mod WaysTold
 pub mod YoungNons

@@ -16,6 +16,7 @@ pub mod Marks
 pub mod Outs
 pub mod Reads
 pub mod Recognised
+pub mod Refusals
 pub mod Registered
 pub mod Rejects
 pub mod SentAs

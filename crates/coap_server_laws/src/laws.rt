@@ -12,6 +12,7 @@ ghost use Rattle.coap_server_laws.specs.Follows.MadeHere.{AllMadeHere};
 ghost use Rattle.coap_server_laws.specs.Follows.Marks.{AllMark, StayDue};
 ghost use Rattle.coap_server_laws.specs.Follows.Registered.{AllRegister};
 ghost use Rattle.coap_server_laws.specs.Follows.Recognised.{AllRecognised, BodiesShort};
+ghost use Rattle.coap_server_laws.specs.Follows.Refusals.{NeverServed, RefusesUnknown};
 ghost use Rattle.coap_server_laws.specs.Follows.Rejects.{RejectsSo};
 ghost use Rattle.coap_server_laws.specs.Follows.SentAs.{AllSentSo};
 ghost use Rattle.coap_server.specs.Follows.Exact.{IsExact};
@@ -229,6 +230,16 @@ pub fn server_must_law()
     // .. and what it begins is the next: the first of what waits that can be answered, and where none can, the first
     // observer that can be notified (RFC 7252, sections 4.7 and 5.2.2; RFC 7641, section 4.5).
     ensures begins { ServerHolds AllBeginNext }
+{}
+
+/// What is refused at a server: a request of a method that there is none of, and so each datagram that is fed as one.
+pub fn refusal_law()
+    // A request whose code is that of no method is ignored, or answered with an error; it is not served, now or later,
+    // and nothing is changed (RFC 7252, sections 5.8 and 5.9.2).
+    ensures unknown { ServerHolds (λ limits szx _ t. Always (RefusesUnknown limits szx) t) }
+    // So is each datagram that is fed with 0.31 as its code, where it had that of a request: it never changes what a
+    // path holds.
+    ensures never { ServerHolds (λ limits szx _ t. Always (NeverServed limits szx) t) }
 {}
 
 /// Histories that stand in that law, with their bytes.

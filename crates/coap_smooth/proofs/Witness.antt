@@ -1,4 +1,6 @@
--- Which events are legal.
+-- Runs with their bytes: smooth ones, at the bounds of what is promised, and ones that are not smooth and in which it
+-- fails. How each is shown: its calls and turns stand in the laws of both ends (Client and Server of its folder), its
+-- events are legal, and SmoothTests computes whether it is smooth.
 pub mod SmoothTurns
 pub mod DefersLate
 pub mod DefersLongest
@@ -8,6 +10,5 @@ pub mod ShowsLate
 pub mod StaysOld
 pub mod ShowsPlain
 pub mod PutsInBlocks
--- Runs by two clocks, and how old a body may be.
 pub mod SmoothTests
 pub mod Unanswered

@@ -83,8 +83,8 @@ whole_part body num szx zero_num short =
     ap (λ (n : ℕ). take (size_of szx) (drop (n * size_of szx) body)) zero_num
     ∙ (ap (take (size_of szx)) (none_dropped (size_of szx) body) ∙ all_taken (size_of szx) body short)
 
-fits : (s l : ℕ) → nat_lt s l ≡ false → l ≤ s
-fits s l h = grind (arith, nat_tests, h)
+not_longer : (s l : ℕ) → nat_lt s l ≡ false → l ≤ s
+not_longer s l h = grind (arith, nat_tests, h)
 
 single_is : (sizes : Sizes) (m : Method) (body : List ℕ) → CarriesBody sizes m body Single → m ≡ Delete
 single_is sizes Delete body h = refl
@@ -144,7 +144,7 @@ module _ (config : Config) (number : ℕ) (all : List Entry) (small : config.cli
       by false short =
           let s = sends_body config.client_sizes k.request.method k.request.body u k.change
           (subst (CarriesBody config.client_sizes k.request.method k.request.body) e k.carries) in
-          let few = fits (size_of u.szx) (length u.body) short in
+          let few = not_longer (size_of u.szx) (length u.body) short in
           let begins = begins_at config.client_sizes (client_of all)
           (client_facts.pieces config.addresses.server config.client_sizes config.client_setup (client_of all)
           whole.client)

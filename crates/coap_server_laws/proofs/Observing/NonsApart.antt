@@ -40,7 +40,7 @@ use Rattle.coap_server.specs.Follows.Tells.{tells_if, way_of}
 use Rattle.coap_server_laws.specs.Follows.Ways.{is_pair, last_non, makes_it, non_by, non_then, number_in}
 use Rattle.coap_server_laws.proofs.Facts.Laws as facts
 use Rattle.coap_server.proofs.Facts.Observing.StoreSteps.{clock_rises}
-use Rattle.coap_server_laws.proofs.Observing.WaysSteps.{pair_is}
+use Rattle.coap_server_laws.proofs.Observing.EntrySteps.{pair_is}
 use Rattle.coap_server.proofs.Facts.Serving.Brought.{server_back}
 use Rattle.coap_server_laws.proofs.Telling.LayerCalls.{layer_next}
 use Rattle.coap_server.proofs.Facts.Calls.EachOf.{each_join}

@@ -25,8 +25,8 @@ use Rattle.coap_server_laws.specs.Follows.Ways.{GoesSo, PlainsStay, WaysAre}
 use Rattle.coap_server.specs.declared.limits.TheConstants.{CON_NOTIFICATION_MS as con_notification}
 use Rattle.coap_server.specs.declared.limits.TheConstants.{MAX_PLAIN_AGE_MS as max_plain_age}
 use Rattle.coap_server_laws.proofs.Observing.TellsBegin.{told_here}
-use Rattle.coap_server_laws.proofs.Observing.WaysKept.{fits, ticked_back}
-use Rattle.coap_server_laws.proofs.Observing.WaysSteps.{FitsOf}
+use Rattle.coap_server_laws.proofs.Observing.EntriesKeepLast.{keep_last, tick_left_them}
+use Rattle.coap_server_laws.proofs.Observing.EntrySteps.{KeepsLast}
 use Rattle.coap_server_laws.proofs.Observing.YoungNons.{young_is}
 use Rattle.coap_server.proofs.Facts.Serving.Brought.{server_back}
 
@@ -98,24 +98,8 @@ module _ (limits : Limits) (szx : ℕ) where
       let same : p ≡ path = cc e in
       subst (λ q. is_plain path (plains_with q true (own t).plains) ≡ true) (sym same) (now_plain path (own t).plains)
   there_plain path (Plains p true ∷ t) (inr h) = still_plain path p (own t).plains (there_plain path t h)
-  there_plain path (Plains p false ∷ t) (inl e) = absurd (cc e)
-  there_plain path (Plains p false ∷ t) (inr h) = there_plain path t h
-  there_plain path (Sets now p format body answer left ∷ t) (inl e) = absurd (cc e)
-  there_plain path (Sets now p format body answer left ∷ t) (inr h) = there_plain path t h
-  there_plain path (Removes now p answer left ∷ t) (inl e) = absurd (cc e)
-  there_plain path (Removes now p answer left ∷ t) (inr h) = there_plain path t h
-  there_plain path (Delays p ms answer ∷ t) (inl e) = absurd (cc e)
-  there_plain path (Delays p ms answer ∷ t) (inr h) = there_plain path t h
-  there_plain path (Feeds now from bytes w up came k below ∷ t) (inl e) = absurd (cc e)
-  there_plain path (Feeds now from bytes w up came k below ∷ t) (inr h) = there_plain path t h
-  there_plain path (Ticks now w below room d passed k id answer ∷ t) (inl e) = absurd (cc e)
-  there_plain path (Ticks now w below room d passed k id answer ∷ t) (inr h) = there_plain path t h
-  there_plain path (NextOut answer ∷ t) (inl e) = absurd (cc e)
-  there_plain path (NextOut answer ∷ t) (inr h) = there_plain path t h
-  there_plain path (Gets p answer ∷ t) (inl e) = absurd (cc e)
-  there_plain path (Gets p answer ∷ t) (inr h) = there_plain path t h
-  there_plain path (TellsApplied answer ∷ t) (inl e) = absurd (cc e)
-  there_plain path (TellsApplied answer ∷ t) (inr h) = there_plain path t h
+  there_plain path (_ ∷ t) (inl e) = absurd (cc e)
+  there_plain path (_ ∷ t) (inr h) = there_plain path t h
 
   pub plains_stay : (t : List Call) → PlainsStay limits szx t
   plains_stay t = record { made = λ path h. made_plain path t h; there = λ path h. there_plain path t h }
@@ -171,8 +155,8 @@ module _ (limits : Limits) (szx : ℕ) (setup : Setup) where
         let told = told_here limits szx setup t now w below room passed id answer o reply law in
         let before = server_back limits szx setup
         (Ticks now w below room due.Idle passed (Notifies o reply) id answer) t law in
-        let f : FitsOf limits szx setup o.to o.token t o = fits limits szx setup o.to o.token t before o
-        (ticked_back limits szx setup o.to o.token t now below room due.Idle o told.is) in
+        let f : KeepsLast limits szx setup o.to o.token t o = keep_last limits szx setup o.to o.token t before o
+        (tick_left_them limits szx setup o.to o.token t now below room due.Idle o told.is) in
         record {
           con = o.con;
           con_is = f.con;

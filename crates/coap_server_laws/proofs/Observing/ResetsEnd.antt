@@ -32,7 +32,7 @@ use Rattle.coap_server_laws.proofs.Observing.RejectedNons.{none_reset}
 use Rattle.coap_server.proofs.Facts.Observing.MarkedObservers.{IsThere, there_is}
 use Rattle.coap_server_laws.proofs.Observing.NonsApart.{nons_apart, was_issued}
 use Rattle.coap_server_laws.proofs.Observing.OneRegistration.{pair_of}
-use Rattle.coap_server_laws.proofs.Observing.WaysKept.{fits}
+use Rattle.coap_server_laws.proofs.Observing.EntriesKeepLast.{keep_last}
 use Rattle.coap_server.proofs.Facts.Serving.Brought.{server_back}
 
 find_is : (p : Observer → Bool) (os : List Observer) (o : Observer) → find p os ≡ Some o → IsThere o os × (p o ≡ true)
@@ -123,7 +123,7 @@ module _ (limits : Limits) (szx : ℕ) (setup : Setup) (t : List Call) (now : �
       let there : registration x.to o.token mine.observers ≡ Some o =
       ap (λ z. registration z o.token mine.observers) (sym to)
       ∙ there_is mine.observers o (good limits szx t).registrations.distinct k.0 in
-      let f = fits limits szx setup x.to o.token t before o there in (
+      let f = keep_last limits szx setup x.to o.token t before o there in (
         to,
         record {
           observer = o;
@@ -152,7 +152,7 @@ module _ (limits : Limits) (szx : ℕ) (setup : Setup) (t : List Call) (now : �
   ends_so : (token : List ℕ) → LastNon limits szx x.to token x.id clk t
       → registration x.to token (own_of limits szx (call ∷ t)).observers ≡ None
   ends_so token l =
-      let f = fits limits szx setup x.to token t before l.observer l.there in
+      let f = keep_last limits szx setup x.to token t before l.observer l.there in
       let k = find_is (is_of x.to token) mine.observers l.observer l.there in
       let pair = (is_of-decides x.to token l.observer).0 k.1 in
       let noted : is_noted_at clk x.to x.id l.observer ≡ true =

@@ -64,7 +64,7 @@ asked_short at a (w ∷ ws) q h is = by (is_of at a w) refl is (asked_short at a
         (sym (same_asked_is a w.asked (and_parts (same_asked a w.asked) (nat_le w.delay (at - w.at)) so).0)) h.0
     by false so k f = f k
 
-requests_back : (xs ys : List E.Call) → AreRequests (xs ++ ys) → AreRequests ys
+pub requests_back : (xs ys : List E.Call) → AreRequests (xs ++ ys) → AreRequests ys
 requests_back [] ys h = h
 requests_back (x ∷ xs) ys h = requests_back xs ys h.1
 

@@ -1,6 +1,6 @@
 -- What a server's message layer is given in a call is Empty, or carries a response that this very call made: the reply
 -- to a request, a 2.31, a refusal, or a notification of what the path holds here (RFC 7252, sections 4.2 and 5.2).
-use Rattle.std.specs.Prelude.{◌≡◌, ◌⊎◌, ℕ, Some, List, ◌∷◌}
+use Rattle.std.specs.Prelude.{◌≡◌, ◌⊎◌, ℕ, Some, List}
 use Rattle.coap_types.specs.Past.{Ever, Always}
 use Rattle.coap_types.specs.declared.endpoint.Endpoint.{Endpoint}
 use Rattle.coap_codec.specs.Message.{Message, Spells}

@@ -20,7 +20,7 @@ use Rattle.coap_smooth.specs.Smooth.{TakesNoObservation}
 use Rattle.coap_smooth.specs.SmoothAnswers.{ChangesAnswered}
 use Rattle.coap_smooth.specs.Young.{AreYoung}
 use Rattle.coap_smooth.proofs.Reported.InTurn.{AreQuiet, IsReported}
-use Rattle.coap_smooth.proofs.Reported.NoneBad.{NoneBad, none_bad}
+use Rattle.coap_smooth.proofs.Reported.NoBlockIsBad.{NoneBad, none_bad}
 use Rattle.coap_smooth.proofs.Reported.Since.{Goes, way, client_join, too_late, in_bound, one_more, begins}
 use Rattle.coap_smooth.proofs.Reported.Since.{reported_or_not}
 use Rattle.coap_smooth.proofs.Reports.ByAnswer.{Answering}

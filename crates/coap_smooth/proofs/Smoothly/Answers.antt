@@ -1,3 +1,10 @@
+-- The answer to a request that waits comes, and ends its exchange. The argument, where nothing is observed:
+--
+-- Each CON of the server carries a response to what it answers in that very call (ConsAnswer, AnswerMade), so one that
+-- begins while an exchange is open carries the answer to that (ConsOfOpen). After the delay a tick begins such a CON,
+-- or one is outstanding (AnswerBegins). It comes to the client within 1,000 ms and ends the exchange that is open
+-- (SeparateEnds): no answer to it was taken before (AnswerEnds). So each exchange is young (Young), and each that is
+-- young ends by an answer (ByAnswers).
 pub mod AnswerBegins
 pub mod AnswerEnds
 pub mod AnswerMade

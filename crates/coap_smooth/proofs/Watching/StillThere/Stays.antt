@@ -32,7 +32,7 @@ use Rattle.coap_smooth.specs.NoticesCome.{NoticesAreOfIt}
 use Rattle.coap_smooth.proofs.Watching.StillThere.Premises.{AreServedFor, IsHeard}
 use Rattle.coap_smooth.proofs.Watching.StillThere.IsMade.{HasOne, made_has, none_first}
 use Rattle.coap_smooth.proofs.Watching.StillThere.NeverFails.{never_fails}
-use Rattle.coap_smooth.proofs.Watching.StillThere.NoReset.{not_told, not_rejected}
+use Rattle.coap_smooth.proofs.Watching.StillThere.NoResetEndsIt.{not_told, not_rejected}
 use Rattle.coap_smooth.proofs.Watching.StillThere.ResetLaws.{ResetLaws}
 use Rattle.coap_smooth.proofs.Watching.StillThere.OfTheOne.{no_cancel}
 use Rattle.coap_smooth.proofs.Watching.StillThere.OpenYoung.{AtMoment, IsTimely}

@@ -1,4 +1,5 @@
--- What an entry keeps of the last CON, of the last change and of the last NON is so on the whole trace.
+-- What an entry keeps of the last CON, of the last change and of the last NON is so on the whole trace (`KeepsLast`),
+-- by induction on the calls: EntrySteps and EntryTold say it of each.
 use Rattle.std.proofs.Common.{◌≡◌, ℕ, max, Bool, true, false, Option, Some, None, List}
 use Rattle.std.proofs.Common.{[], ◌∷◌, refl, ap, sym, ◌∙◌}
 use Rattle.coap_types.specs.declared.endpoint.Endpoint.{Endpoint}
@@ -28,9 +29,9 @@ use Rattle.coap_server.specs.Follows.Tells.{tells, way_of}
 use Rattle.coap_server.proofs.Facts.Observing.Outcomes.{Came, came, served, Turned, turned, responded, noticed}
 use Rattle.coap_server_laws.proofs.Observing.TellsBegin.{told_here}
 use Rattle.coap_server.proofs.Facts.Serving.Brought.{server_back}
-use Rattle.coap_server_laws.proofs.Observing.WaysSteps as W
-use Rattle.coap_server_laws.proofs.Observing.WaysTold as T
-use Rattle.coap_server_laws.proofs.Observing.WaysSteps.{none_marked}
+use Rattle.coap_server_laws.proofs.Observing.EntrySteps as W
+use Rattle.coap_server_laws.proofs.Observing.EntryTold as T
+use Rattle.coap_server_laws.proofs.Observing.EntrySteps.{none_marked}
 
 module _ (limits : Limits) (szx : ℕ) (setup : Setup) (to : Endpoint) (token : List ℕ) where
   module _ (t : List Call) where
@@ -40,7 +41,7 @@ module _ (limits : Limits) (szx : ℕ) (setup : Setup) (to : Endpoint) (token : 
     -- a notification
     module _ (now w : ℕ) (below : L.Answer) (room : Bool) (passed id : ℕ) (answer : Bool) (o : Observer) (reply : Reply)
         (law : ServerLaw limits szx setup (Ticks now w below room due.Idle passed (Notifies o reply) id answer ∷ t))
-        (fits : W.Fits limits szx setup to token t) where
+        (keep_last : W.KeepLast limits szx setup to token t) where
       abbrev notice : Call
       notice = Ticks now w below room due.Idle passed (Notifies o reply) id answer
 
@@ -50,7 +51,7 @@ module _ (limits : Limits) (szx : ℕ) (setup : Setup) (to : Endpoint) (token : 
       abbrev left : Bool → Option Held → List Observer
       left plain held = notified plain s.clock id held o s.observers
 
-      back : W.Back limits szx setup to token own.observers s.observers
+      back : W.Were limits szx setup to token own.observers s.observers
       back = W.ended_back limits szx setup to token (P.failed_by below own.exchanges.separate) own.observers
 
       told_so : (plain : Bool) → by_plain s o ≡ plain → (held : Option Held) → s.store.holds o.path ≡ held
@@ -64,87 +65,87 @@ module _ (limits : Limits) (szx : ℕ) (setup : Setup) (to : Endpoint) (token : 
       left_so plain goes held is = ap (λ b. left b (s.store.holds o.path)) goes ∙ ap (left plain) is
 
       by_way : (plain : Bool) → by_plain s o ≡ plain → (held : Option Held) → s.store.holds o.path ≡ held
-          → W.Fits limits szx setup to token (notice ∷ t)
+          → W.KeepLast limits szx setup to token (notice ∷ t)
       by_way plain goes None is =
           W.quiet_step limits szx setup to token t notice refl (told_so plain goes None is) refl
           (λ y h. back y (W.removed_back limits szx setup to token o.to o.token s.observers y
-          (sym (ap (W.reg limits szx setup to token) (left_so plain goes None is)) ∙ h))) fits
+          (sym (ap (W.reg limits szx setup to token) (left_so plain goes None is)) ∙ h))) keep_last
       by_way false goes (Some held) is =
           let told = told_here limits szx setup t now w below room passed id answer o reply law in
           T.con_step limits szx setup to token t notice o s.clock held id s.observers refl (told_so false goes
           (Some held) is) refl back told.is
-          told.marked_is (left_so false goes (Some held) is) fits
+          told.marked_is (left_so false goes (Some held) is) keep_last
       by_way true goes (Some held) is =
           let told = told_here limits szx setup t now w below room passed id answer o reply law in
           T.non_step limits szx setup to token t notice o held s.observers refl (told_so true goes
           (Some held) is) refl back told.is
-          (left_so true goes (Some held) is) fits
+          (left_so true goes (Some held) is) keep_last
 
-      notice_step : W.Fits limits szx setup to token (notice ∷ t)
+      notice_step : W.KeepLast limits szx setup to token (notice ∷ t)
       notice_step = by_way (by_plain s o) refl (s.store.holds o.path) refl
 
     -- what an arrival and a tick leave besides
-    fed_back : (now : ℕ) (from : Endpoint) (bytes : List ℕ) (up : L.Answer) (came : Option (Asked × Message))
-        → W.Back limits szx setup to token own.observers (heard own now (incoming own now from bytes up came)).observers
-    fed_back now from bytes up came o h =
+    arrival_left_them : (now : ℕ) (from : Endpoint) (bytes : List ℕ) (up : L.Answer) (came : Option (Asked × Message))
+        → W.Were limits szx setup to token own.observers (heard own now (incoming own now from bytes up came)).observers
+    arrival_left_them now from bytes up came o h =
         let e : Option Ended = P.reset_by from up own.exchanges.separate in
         W.ended_back limits szx setup to token e own.observers o
         (W.rejected_back limits szx setup to token (max own.clock now) (unmatched_by from up)
         (unless_ended e own.observers) o h)
 
-    pub ticked_back : (now : ℕ) (below : L.Answer) (room : Bool) (d : Due)
-        → W.Back limits szx setup to token own.observers (heard own now (ticking own now below room d)).observers
-    ticked_back now below room d = W.ended_back limits szx setup to token (P.failed_by below own.exchanges.separate)
+    pub tick_left_them : (now : ℕ) (below : L.Answer) (room : Bool) (d : Due)
+        → W.Were limits szx setup to token own.observers (heard own now (ticking own now below room d)).observers
+    tick_left_them now below room d = W.ended_back limits szx setup to token (P.failed_by below own.exchanges.separate)
         own.observers
 
     fed : (now : ℕ) (from : Endpoint) (bytes : List ℕ) (w : ℕ) (up : L.Answer) (c : Option (Asked × Message))
         (h : Handling) (below : L.Answer) → Came (heard own now (incoming own now from bytes up c)) c h
-        → ServerLaw limits szx setup (Feeds now from bytes w up c h below ∷ t) → W.Fits limits szx setup to token t
-        → W.Fits limits szx setup to token (Feeds now from bytes w up c h below ∷ t)
-    fed now from bytes w up c h below (served p q reply left k unplaced) law fits =
+        → ServerLaw limits szx setup (Feeds now from bytes w up c h below ∷ t) → W.KeepLast limits szx setup to token t
+        → W.KeepLast limits szx setup to token (Feeds now from bytes w up c h below ∷ t)
+    fed now from bytes w up c h below (served p q reply left k unplaced) law keep_last =
         W.served_step limits szx setup to token t (Feeds now from bytes w up (Some p) (Serves q reply left) below) law _
-        refl refl fits
-    fed now from bytes w up c h below _ law fits =
-        W.quiet_step limits szx setup to token t _ refl refl refl (fed_back now from bytes up c) fits
+        refl refl keep_last
+    fed now from bytes w up c h below _ law keep_last =
+        W.quiet_step limits szx setup to token t _ refl refl refl (arrival_left_them now from bytes up c) keep_last
 
     ticked : (now w : ℕ) (below : L.Answer) (room : Bool) (d : Due) (passed : ℕ) (h : Handling) (id : ℕ)
         (answer : Bool) → Turned (heard own now (ticking own now below room d)) passed d h
         → ServerLaw limits szx setup (Ticks now w below room d passed h id answer ∷ t)
-        → W.Fits limits szx setup to token t
-        → W.Fits limits szx setup to token (Ticks now w below room d passed h id answer ∷ t)
-    ticked now w below room d passed h id answer (responded a q reply left asks k) law fits =
+        → W.KeepLast limits szx setup to token t
+        → W.KeepLast limits szx setup to token (Ticks now w below room d passed h id answer ∷ t)
+    ticked now w below room d passed h id answer (responded a q reply left asks k) law keep_last =
         W.served_step limits szx setup to token t
-        (Ticks now w below room (due.Ready a) passed (Serves q reply left) id answer) law _ refl refl fits
-    ticked now w below room d passed h id answer (noticed o reply found is) law fits =
-        notice_step now w below room passed id answer o reply law fits
-    ticked now w below room d passed h id answer _ law fits =
-        W.quiet_step limits szx setup to token t _ refl refl refl (ticked_back now below room d) fits
+        (Ticks now w below room (due.Ready a) passed (Serves q reply left) id answer) law _ refl refl keep_last
+    ticked now w below room d passed h id answer (noticed o reply found is) law keep_last =
+        notice_step now w below room passed id answer o reply law keep_last
+    ticked now w below room d passed h id answer _ law keep_last =
+        W.quiet_step limits szx setup to token t _ refl refl refl (tick_left_them now below room d) keep_last
 
     -- .. and a local change
     changed : (c : Call) (at : ℕ) (path : List (List ℕ)) (left : Content)
         → ServerLaw limits szx setup (c ∷ t) → registering own c ≡ None → telling own c ≡ None
         → change own c ≡ change_of path own.store left
         → (own_of limits szx (c ∷ t)).observers ≡ marked_if at path own.store left own.observers
-        → W.Fits limits szx setup to token t → W.Fits limits szx setup to token (c ∷ t)
-    changed c at path left law r tell is marks fits =
+        → W.KeepLast limits szx setup to token t → W.KeepLast limits szx setup to token (c ∷ t)
+    changed c at path left law r tell is marks keep_last =
         W.either_step limits szx setup to token t c law r tell
         (λ e o h. sym (ap (W.reg limits szx setup to token)
-        (marks ∙ none_marked at path own.store left own.observers (sym is ∙ e))) ∙ h) fits
+        (marks ∙ none_marked at path own.store left own.observers (sym is ∙ e))) ∙ h) keep_last
 
-    step : (c : Call) → ServerLaw limits szx setup (c ∷ t) → W.Fits limits szx setup to token t
-        → W.Fits limits szx setup to token (c ∷ t)
-    step (Sets now path format body answer left) law fits =
-        changed (Sets now path format body answer left) (max own.clock now) path left law refl refl refl refl fits
-    step (Removes now path answer left) law fits =
-        changed (Removes now path answer left) (max own.clock now) path left law refl refl refl refl fits
-    step (Feeds now from bytes w up c h below) law fits =
+    step : (c : Call) → ServerLaw limits szx setup (c ∷ t) → W.KeepLast limits szx setup to token t
+        → W.KeepLast limits szx setup to token (c ∷ t)
+    step (Sets now path format body answer left) law keep_last =
+        changed (Sets now path format body answer left) (max own.clock now) path left law refl refl refl refl keep_last
+    step (Removes now path answer left) law keep_last =
+        changed (Removes now path answer left) (max own.clock now) path left law refl refl refl refl keep_last
+    step (Feeds now from bytes w up c h below) law keep_last =
         fed now from bytes w up c h below (came (heard own now
-        (incoming own now from bytes up c)) c h law.rows.0) law fits
-    step (Ticks now w below room d passed h id answer) law fits =
+        (incoming own now from bytes up c)) c h law.rows.0) law keep_last
+    step (Ticks now w below room d passed h id answer) law keep_last =
         ticked now w below room d passed h id answer
-        (turned (heard own now (ticking own now below room d)) passed d h law.rows.0.0) law fits
-    step c law fits = W.quiet_step limits szx setup to token t c refl refl refl (λ o h. h) fits
+        (turned (heard own now (ticking own now below room d)) passed d h law.rows.0.0) law keep_last
+    step c law keep_last = W.quiet_step limits szx setup to token t c refl refl refl (λ o h. h) keep_last
 
-  pub fits : (t : List Call) → ServerLaw limits szx setup t → W.Fits limits szx setup to token t
-  fits [] law = λ o h. absurd (cc h)
-  fits (c ∷ t) law = step t c law (fits t (server_back limits szx setup c t law))
+  pub keep_last : (t : List Call) → ServerLaw limits szx setup t → W.KeepLast limits szx setup to token t
+  keep_last [] law = λ o h. absurd (cc h)
+  keep_last (c ∷ t) law = step t c law (keep_last t (server_back limits szx setup c t law))

@@ -1,4 +1,5 @@
--- So no Reset ends the observation (RFC 7641, section 3.6).
+-- No Reset ends an observation that goes on: a Reset is the reply to a message that the client rejected, and it rejects
+-- none of these (RFC 7641, section 3.6).
 use Rattle.std.proofs.Common.{◌≡◌, ◌≤◌, ◌+◌, inl, inr, ℕ, max, Some, List, [], ◌∷◌, ◌++◌, map, refl, ap, sym, subst}
 use Rattle.std.proofs.Common.{◌∙◌, append_assoc, arith}
 use Rattle.std.proofs.lemmas.List.{map-append}

@@ -17,8 +17,8 @@ use Rattle.coap_server.specs.Follows.Tells.{InCon, InNon, registering, telling, 
 use Rattle.coap_server_laws.specs.Follows.Ways.{is_pair, last_con, last_non}
 use Rattle.coap_server_laws.specs.Follows.Ways.{number_in}
 use Rattle.coap_server_laws.proofs.Observing.OneRegistration.{pair_of}
-use Rattle.coap_server_laws.proofs.Observing.WaysSteps as W
-use Rattle.coap_server_laws.proofs.Observing.WaysSteps.{is_pair_self, is_pair_other}
+use Rattle.coap_server_laws.proofs.Observing.EntrySteps as W
+use Rattle.coap_server_laws.proofs.Observing.EntrySteps.{is_pair_self, is_pair_other}
 
 module _ (limits : Limits) (szx : ℕ) (setup : Setup) (to : Endpoint) (token : List ℕ) (t : List Call) (c : Call) where
   abbrev own : Own
@@ -33,19 +33,19 @@ module _ (limits : Limits) (szx : ℕ) (setup : Setup) (to : Endpoint) (token : 
   abbrev reg : List Observer → Option Observer
   reg os = registration to token os
 
-  abbrev Fits : List Call → Type 0
-  Fits u = W.Fits limits szx setup to token u
+  abbrev KeepLast : List Call → Type 0
+  KeepLast u = W.KeepLast limits szx setup to token u
 
-  abbrev Back : List Observer → List Observer → Type 0
-  Back os ps = W.Back limits szx setup to token os ps
+  abbrev Were : List Observer → List Observer → Type 0
+  Were os ps = W.Were limits szx setup to token os ps
 
   -- it is told in a CON
   pub con_step : (o : Observer) (at : ℕ) (held : Held) (id : ℕ) (os : List Observer)
       → registering own c ≡ None
       → telling own c ≡ Some (telling_of o.to o.token o.path (InCon id) at false held) → change own c ≡ None
-      → Back own.observers os → registration o.to o.token os ≡ Some o → o.marked ≡ true
-      → after ≡ sent_to clk o.to o.token true os → Fits t → Fits (c ∷ t)
-  con_step o at held id os r tell e back there due is fits y h = elim (pair_of to token o.to o.token) [
+      → Were own.observers os → registration o.to o.token os ≡ Some o → o.marked ≡ true
+      → after ≡ sent_to clk o.to o.token true os → KeepLast t → KeepLast (c ∷ t)
+  con_step o at held id os r tell e back there due is keep_last y h = elim (pair_of to token o.to o.token) [
     | inl p ↦ (
         let mine = is_pair_self to token o.to o.token p in
         let here : reg os ≡ Some o =
@@ -56,8 +56,8 @@ module _ (limits : Limits) (szx : ℕ) (setup : Setup) (to : Endpoint) (token : 
         ∙ (registration-sent_to clk o.to o.token true os ∙ ap (option_map (told_by clk true)) there)) in
         let both : Some (told_by clk true o) ≡ Some y = sym sent ∙ (ap reg (sym is) ∙ h) in
         let one : told_by clk true o ≡ y = cc both in
-        let f = fits o (back o here) in
-        subst (W.FitsOf limits szx setup to token (c ∷ t)) one (record {
+        let f = keep_last o (back o here) in
+        subst (W.KeepsLast limits szx setup to token (c ∷ t)) one (record {
           con = W.con_so limits szx setup to token t c _ _ r tell
               ∙ (ap (λ b. cond b (Some clk) (last_con limits szx to token t)) mine
               ∙ ap (λ b. Some (cond b clk o.con)) (sym due));
@@ -69,7 +69,7 @@ module _ (limits : Limits) (szx : ℕ) (setup : Setup) (to : Endpoint) (token : 
         let other = is_pair_other to token o.to o.token n in
         let stays : reg os ≡ Some y = sym ((others_stay to token o.to o.token os n).sent_stay clk true)
         ∙ (ap reg (sym is) ∙ h) in
-        let f = fits y (back y stays) in
+        let f = keep_last y (back y stays) in
         record {
           con = W.con_so limits szx setup to token t c _ _ r tell
               ∙ (ap (λ b. cond b (Some clk) (last_con limits szx to token t)) other ∙ f.con);
@@ -86,9 +86,10 @@ module _ (limits : Limits) (szx : ℕ) (setup : Setup) (to : Endpoint) (token : 
   -- .. and in a NON
   pub non_step : (o : Observer) (held : Held) (os : List Observer) → registering own c ≡ None
       → telling own c ≡ Some (telling_of o.to o.token o.path InNon clk false held) → change own c ≡ None
-      → Back own.observers os → registration o.to o.token os ≡ Some o
-      → after ≡ sent_to clk o.to o.token false (noted_to clk o.to o.token (number_in c) os) → Fits t → Fits (c ∷ t)
-  non_step o held os r tell e back there is fits y h = elim (pair_of to token o.to o.token) [
+      → Were own.observers os → registration o.to o.token os ≡ Some o
+      → after ≡ sent_to clk o.to o.token false (noted_to clk o.to o.token (number_in c) os) → KeepLast t
+      → KeepLast (c ∷ t)
+  non_step o held os r tell e back there is keep_last y h = elim (pair_of to token o.to o.token) [
     | inl p ↦ (
         let mine = is_pair_self to token o.to o.token p in
         let here : reg os ≡ Some o =
@@ -100,8 +101,8 @@ module _ (limits : Limits) (szx : ℕ) (setup : Setup) (to : Endpoint) (token : 
         (registration-noted_to clk o.to o.token (number_in c) os ∙ ap (option_map keep) there))) in
         let both : Some (told_by clk false (keep o)) ≡ Some y = sym sent ∙ (ap reg (sym is) ∙ h) in
         let one : told_by clk false (keep o) ≡ y = cc both in
-        let f = fits o (back o here) in
-        subst (W.FitsOf limits szx setup to token (c ∷ t)) one (record {
+        let f = keep_last o (back o here) in
+        subst (W.KeepsLast limits szx setup to token (c ∷ t)) one (record {
           con = W.con_so limits szx setup to token t c _ _ r tell ∙ f.con;
           change_is = λ m. absurd (cc m);
           non = sym (W.non_so limits szx setup to token t c _ _ r tell ∙ ap (λ b. cond b (Some (record {
@@ -116,7 +117,7 @@ module _ (limits : Limits) (szx : ℕ) (setup : Setup) (to : Endpoint) (token : 
         let stays : reg os ≡ Some y =
         sym ((others_stay to token o.to o.token noted n).sent_stay clk false
         ∙ (others_stay to token o.to o.token os n).noted_stay clk (number_in c)) ∙ (ap reg (sym is) ∙ h) in
-        let f = fits y (back y stays) in
+        let f = keep_last y (back y stays) in
         record {
           con = W.con_so limits szx setup to token t c _ _ r tell ∙ f.con;
           change_is = λ m. W.change_so limits szx setup to token t c y.path None e ∙ f.change_is m;

@@ -80,20 +80,20 @@ module _ (limits : Limits) (szx : ℕ) (setup : Setup) (to : Endpoint) (token : 
   abbrev pub reg : List Observer → Option Observer
   reg os = registration to token os
 
-  pub record FitsOf (t : List Call) (o : Observer) : Type 0 where
+  pub record KeepsLast (t : List Call) (o : Observer) : Type 0 where
     pub con : last_con limits szx to token t ≡ Some o.con
     pub change_is : o.marked ≡ true → last_change limits szx o.path t ≡ Some o.changed
     pub non : o.noted ≡ last_non limits szx to token t
 
-  abbrev pub Fits : List Call → Type 0
-  Fits t = (o : Observer) → reg (own_of limits szx t).observers ≡ Some o → FitsOf t o
+  abbrev pub KeepLast : List Call → Type 0
+  KeepLast t = (o : Observer) → reg (own_of limits szx t).observers ≡ Some o → KeepsLast t o
 
   -- what is left of a list was there
 
-  abbrev pub Back : List Observer → List Observer → Type 0
-  Back os ps = (o : Observer) → reg ps ≡ Some o → reg os ≡ Some o
+  abbrev pub Were : List Observer → List Observer → Type 0
+  Were os ps = (o : Observer) → reg ps ≡ Some o → reg os ≡ Some o
 
-  pub removed_back : (by : Endpoint) (bytes : List ℕ) (os : List Observer) → Back os (removed by bytes os)
+  pub removed_back : (by : Endpoint) (bytes : List ℕ) (os : List Observer) → Were os (removed by bytes os)
   removed_back by bytes os o h = elim (pair_of to token by bytes) [
     | inl e ↦ (
         let none : reg (removed by bytes os) ≡ None = ap (λ p. registration p token (removed by bytes os)) e.0
@@ -102,7 +102,7 @@ module _ (limits : Limits) (szx : ℕ) (setup : Setup) (to : Endpoint) (token : 
     | inr n ↦ sym (others_stay to token by bytes os n).removed_stay ∙ h
   ]
 
-  pub ended_back : (e : Option Ended) (os : List Observer) → Back os (unless_ended e os)
+  pub ended_back : (e : Option Ended) (os : List Observer) → Were os (unless_ended e os)
   ended_back None os o h = h
   ended_back (Some x) os o h = by x.observe h
     where
@@ -110,8 +110,8 @@ module _ (limits : Limits) (szx : ℕ) (setup : Setup) (to : Endpoint) (token : 
       by true k = removed_back x.to x.token os o k
       by false k = k
 
-  pub rejected_back : (at : ℕ) (r : Option Sending) (os : List Observer) → Back os (unless_rejected at r os)
-  rejected_back at r os = rejected_left (Back os) at r os (λ o h. h) (λ by bytes. removed_back by bytes os)
+  pub rejected_back : (at : ℕ) (r : Option Sending) (os : List Observer) → Were os (unless_rejected at r os)
+  rejected_back at r os = rejected_left (Were os) at r os (λ o h. h) (λ by bytes. removed_back by bytes os)
 
   module _ (t : List Call) where
     abbrev own : Own
@@ -148,10 +148,10 @@ module _ (limits : Limits) (szx : ℕ) (setup : Setup) (to : Endpoint) (token : 
       change_so path x e = ap (λ z. cond (changes_it path z) (Some clk) (last_change limits szx path t)) e
 
       -- nothing is made, told or changed
-      pub quiet_step : registering own c ≡ None → telling own c ≡ None → change own c ≡ None → Back own.observers after
-          → Fits t → Fits (c ∷ t)
-      quiet_step r x e back fits o h =
-          let f = fits o (back o h) in
+      pub quiet_step : registering own c ≡ None → telling own c ≡ None → change own c ≡ None → Were own.observers after
+          → KeepLast t → KeepLast (c ∷ t)
+      quiet_step r x e back keep_last o h =
+          let f = keep_last o (back o h) in
           record {
             con = con_so None None r x ∙ f.con;
             change_is = λ m. change_so o.path None e ∙ f.change_is m;
@@ -160,14 +160,14 @@ module _ (limits : Limits) (szx : ℕ) (setup : Setup) (to : Endpoint) (token : 
 
       -- a path is changed
       changed_step : ServerLaw limits szx setup (c ∷ t) → registering own c ≡ None → telling own c ≡ None
-          → (x : Change) → change own c ≡ Some x → Fits t → Fits (c ∷ t)
-      changed_step law r tell x e fits o h = by (reg own.observers) refl
+          → (x : Change) → change own c ≡ Some x → KeepLast t → KeepLast (c ∷ t)
+      changed_step law r tell x e keep_last o h = by (reg own.observers) refl
         where
           marks : reg after ≡ option_map (marked_by clk x.path) (reg own.observers)
           marks = ap reg ((all_mark limits szx setup (c ∷ t) law).0 x e)
               ∙ registration-changed_at clk x.path to token own.observers
 
-          told : (was : Observer) → FitsOf t was → (n : Bool) → same_path was.path x.path ≡ n
+          told : (was : Observer) → KeepsLast t was → (n : Bool) → same_path was.path x.path ≡ n
               → (was.marked || same_path was.path x.path) ≡ true
               → last_change limits szx was.path (c ∷ t)
               ≡ Some (cond (same_path was.path x.path) clk was.changed)
@@ -197,13 +197,13 @@ module _ (limits : Limits) (szx : ℕ) (setup : Setup) (to : Endpoint) (token : 
                       (sym ((same_path-decides x.path was.path).0 e)) in
                       absurd (cc (z, is))
 
-          by : (was : Option Observer) → reg own.observers ≡ was → FitsOf (c ∷ t) o
+          by : (was : Option Observer) → reg own.observers ≡ was → KeepsLast (c ∷ t) o
           by None is = let none = marks ∙ ap (option_map (marked_by clk x.path)) is in absurd (cc (none, h))
           by (Some was) is =
-              let f = fits was is in
+              let f = keep_last was is in
               let same : marked_by clk x.path was ≡ o = one _ o
               (sym (marks ∙ ap (option_map (marked_by clk x.path)) is) ∙ h) in
-              subst (FitsOf (c ∷ t)) same (record {
+              subst (KeepsLast (c ∷ t)) same (record {
                 con = con_so None None r tell ∙ f.con;
                 change_is = told was f (same_path was.path x.path) refl;
                 non = f.non ∙ sym (non_so None None r tell);
@@ -213,19 +213,19 @@ module _ (limits : Limits) (szx : ℕ) (setup : Setup) (to : Endpoint) (token : 
               one a b k = cc k
 
       pub either_step : ServerLaw limits szx setup (c ∷ t) → registering own c ≡ None → telling own c ≡ None
-          → (change own c ≡ None → Back own.observers after) → Fits t → Fits (c ∷ t)
-      either_step law r tell back fits = by (change own c) refl
+          → (change own c ≡ None → Were own.observers after) → KeepLast t → KeepLast (c ∷ t)
+      either_step law r tell back keep_last = by (change own c) refl
         where
-          by : (x : Option Change) → change own c ≡ x → Fits (c ∷ t)
-          by None e = quiet_step r tell e (back e) fits
-          by (Some x) e = changed_step law r tell x e fits
+          by : (x : Option Change) → change own c ≡ x → KeepLast (c ∷ t)
+          by None e = quiet_step r tell e (back e) keep_last
+          by (Some x) e = changed_step law r tell x e keep_last
 
       -- a registration is made
       made_step : (a : Asked) (path : List (List ℕ)) (size : ℕ) (way : Way) (at : ℕ) (held : Option Held)
           → registering own c ≡ Some (record { to = a.from; token = a.token })
           → telling own c ≡ tells a.from a.token path way at true held → change own c ≡ None
-          → after ≡ registered clk a.from a.token path size own.observers → Fits t → Fits (c ∷ t)
-      made_step a path size way at held r tell e is fits o h = elim (pair_of to token a.from a.token) [
+          → after ≡ registered clk a.from a.token path size own.observers → KeepLast t → KeepLast (c ∷ t)
+      made_step a path size way at held r tell e is keep_last o h = elim (pair_of to token a.from a.token) [
         | inl p ↦ (
             let mine = is_pair_self to token a.from a.token p in
             let there : reg (registered clk a.from a.token path size own.observers)
@@ -235,7 +235,7 @@ module _ (limits : Limits) (szx : ℕ) (setup : Setup) (to : Endpoint) (token : 
             ∙ registration-registered clk a.from a.token path size own.observers) in
             let both : Some (begun clk a.from a.token path size) ≡ Some o = sym there ∙ (ap reg (sym is) ∙ h) in
             let same : begun clk a.from a.token path size ≡ o = cc both in
-            subst (FitsOf (c ∷ t)) same (record {
+            subst (KeepsLast (c ∷ t)) same (record {
               con = con_so _ _ r tell
                   ∙ ap (λ b. cond (b || confirms_it to token (tells a.from a.token path way at true held)) (Some clk)
                   (last_con limits szx to token t)) mine;
@@ -249,7 +249,7 @@ module _ (limits : Limits) (szx : ℕ) (setup : Setup) (to : Endpoint) (token : 
             let stays : reg own.observers ≡ Some o =
             sym ((others_stay to token a.from a.token own.observers n).registered_stay clk path size)
             ∙ (ap reg (sym is) ∙ h) in
-            let f = fits o stays in
+            let f = keep_last o stays in
             record {
               con = con_so _ _ r tell
                   ∙ (ap (λ b. cond (b || confirms_it to token (tells a.from a.token path way at true held)) (Some clk)
@@ -285,8 +285,8 @@ module _ (limits : Limits) (szx : ℕ) (setup : Setup) (to : Endpoint) (token : 
 
       -- a request is served
       pub served_step : ServerLaw limits szx setup (c ∷ t) → (x : Serving) → serving own c ≡ Some x
-          → change own c ≡ changed_by (Some x) → Fits t → Fits (c ∷ t)
-      served_step law x is said fits = by (is_get x.question.method) refl
+          → change own c ≡ changed_by (Some x) → KeepLast t → KeepLast (c ∷ t)
+      served_step law x is said keep_last = by (is_get x.question.method) refl
         where
           s : ServesAt limits szx setup t c x
           s = served_at limits szx setup t c law x is
@@ -305,7 +305,7 @@ module _ (limits : Limits) (szx : ℕ) (setup : Setup) (to : Endpoint) (token : 
           change_is : change own c ≡ change_of x.question.path own.store x.left
           change_is = said ∙ ap (λ (z : Content). change_of x.question.path z x.left) s.old
 
-          by : (b : Bool) → is_get x.question.method ≡ b → Fits (c ∷ t)
+          by : (b : Bool) → is_get x.question.method ≡ b → KeepLast (c ∷ t)
           by false e =
               let with : observers_with clk x.asked x.question x.reply os ≡ os =
               registers_none clk x.asked x.question x.reply os e in
@@ -313,7 +313,7 @@ module _ (limits : Limits) (szx : ℕ) (setup : Setup) (to : Endpoint) (token : 
               either_step law none.0 none.1
               (λ k o h. sym (ap reg (s.observers
               ∙ (ap (marked_if clk x.question.path own.store x.left) with
-              ∙ none_marked clk x.question.path own.store x.left os (sym change_is ∙ k)))) ∙ h) fits
+              ∙ none_marked clk x.question.path own.store x.left os (sym change_is ∙ k)))) ∙ h) keep_last
           by true e = get (registers x.asked x.question x.reply os) refl (observes 1 x.question) refl
             where
               same : x.left ≡ own.store
@@ -330,13 +330,13 @@ module _ (limits : Limits) (szx : ℕ) (setup : Setup) (to : Endpoint) (token : 
               size = szx_by (block_of x.question.options) x.question.szx
 
               get : (r : Bool) → registers x.asked x.question x.reply os ≡ r → (m : Bool) → observes 1 x.question ≡ m
-                  → Fits (c ∷ t)
+                  → KeepLast (c ∷ t)
               get true so m k =
                   made_step x.asked x.question.path size s.tells_so.0 clk (own.store.holds x.question.path)
                   (s.registers_so ∙ ap (λ b. pair_if b x.asked) so)
                   (s.tells_so.1 ∙ ap (λ b. tells_if b clk own.store x.asked x.question s.tells_so.0) so) still
                   (left_is ∙ ap (λ b. cond b (registered clk x.asked.from x.asked.token x.question.path size os)
-                  (cond (observes 1 x.question) (removed x.asked.from x.asked.token os) os)) so) fits
+                  (cond (observes 1 x.question) (removed x.asked.from x.asked.token os) os)) so) keep_last
               get false so true k =
                   let none = none_registers so in
                   quiet_step none.0 none.1 still
@@ -344,11 +344,11 @@ module _ (limits : Limits) (szx : ℕ) (setup : Setup) (to : Endpoint) (token : 
                   (sym (ap reg (left_is
                   ∙ (ap (λ b. cond b (registered clk x.asked.from x.asked.token x.question.path size os)
                   (cond (observes 1 x.question) (removed x.asked.from x.asked.token os) os)) so
-                  ∙ ap (λ b. cond b (removed x.asked.from x.asked.token os) os) k))) ∙ h)) fits
+                  ∙ ap (λ b. cond b (removed x.asked.from x.asked.token os) os) k))) ∙ h)) keep_last
               get false so false k =
                   let none = none_registers so in
                   quiet_step none.0 none.1 still
                   (λ o h. sym (ap reg (left_is
                   ∙ (ap (λ b. cond b (registered clk x.asked.from x.asked.token x.question.path size os)
                   (cond (observes 1 x.question) (removed x.asked.from x.asked.token os) os)) so
-                  ∙ ap (λ b. cond b (removed x.asked.from x.asked.token os) os) k))) ∙ h) fits
+                  ∙ ap (λ b. cond b (removed x.asked.from x.asked.token os) os) k))) ∙ h) keep_last

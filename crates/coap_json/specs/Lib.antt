@@ -1,0 +1,5 @@
+pub mod LinkObjects
+pub mod Objects
+pub mod OtherObjects
+pub mod ReportObjects
+pub mod Written

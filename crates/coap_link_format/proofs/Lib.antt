@@ -1,0 +1,4 @@
+pub mod Walks
+pub mod Complete
+pub mod Sound
+pub mod Lists

@@ -1,0 +1,4 @@
+pub mod Again
+pub mod Readings
+pub mod Steps
+pub mod Sums

@@ -1,0 +1,6 @@
+pub mod Numbers
+pub mod Checksums
+pub mod Packets
+pub mod Links
+pub mod Files
+pub mod Written
