@@ -137,7 +137,7 @@ base_app = record (new_app (codes "coap")) {
   top = record (new_app (codes "coap")).top { subcommand_required = true; arg_required_else_help = true };
 }
 
--- what asks nothing of a server elsewhere, what asks one for a body or sends it one, and what asks something else of one
+-- what asks nothing of a server elsewhere, what asks one for a body or sends it one, and what asks one something else
 abbrev pub other_apps : List App
 other_apps = show_app ∷ dump_app ∷ answer_app ∷ pair_app ∷ serve_app ∷ sim_app ∷ []
 

@@ -1,5 +1,5 @@
--- Where a server is: an address of IPv4, an address of IPv6 (RFC 4291, section 2.2), behind which the number of its zone
--- may stand (RFC 4007, section 11), or the name of a host (RFC 1123, section 2.1).
+-- Where a server is: an address of IPv4, an address of IPv6 (RFC 4291, section 2.2), behind which the number of its
+-- zone may stand (RFC 4007, section 11), or the name of a host (RFC 1123, section 2.1).
 use Rattle.std.specs.Prelude.{ℕ, Bool, [], ◌∷◌, ◌++◌, ◌≡◌, ◌⊎◌, ◌<◌, ◌^◌, ◌==◌, ◌&&◌, ◌||◌, true, false}
 use Rattle.std.specs.Prelude.{length, nat_le}
 use Rattle.std.specs.List.{list_all, list_any}

@@ -6,8 +6,8 @@ ghost use Rattle.coap_arguments.specs.declared.orders.Order.{Order};
 ghost use Rattle.coap_arguments.specs.declared.orders.Wrong.{Wrong};
 ghost use Rattle.coap_arguments.specs.declared.orders.Wrong.TheVariants as wrongs;
 
-/// Words have one answer: those that ask for an order are wrong in nothing, and bad hex is all that is wrong where it is
-/// there. Of memory that is refused they say nothing.
+/// Words have one answer: those that ask for an order are wrong in nothing, and where HEX is wrong nothing else is. Of
+/// memory that is refused they say nothing.
 pub fn one_answer()
     // Words that ask for an order are wrong in nothing but want of memory.
     ensures order { (words : List Text) (order : Order) (wrong : Wrong) → AsksFor words order → IsWrong words wrong

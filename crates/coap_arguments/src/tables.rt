@@ -73,7 +73,7 @@ pub(crate) static OTHERS: [Subcommand; 6] = [
     },
 ];
 
-/// The subcommands that ask a server for a body or send it one, in the order in which help lists them behind the others.
+/// The subcommands that ask a server for a body or send it one, in the order in which help lists them.
 pub(crate) static ASKING: [Subcommand; 3] = [
     Subcommand {
         name: "get",

@@ -10,6 +10,7 @@ loop-argument-preserved c =
     let subcommand = c.args.subcommand.now in
     let i = c.loop-argument.argument-index in (
       c.in_ok-command.ensures.app ∙ ap₂ with_rule c.loop-argument.invariant.0 c.argument_of.ensures.rule
-          ∙ ap (leaf subcommand.name.now (begins_required subcommand.arguments.now)) (sym (map_more rule_in subcommand.arguments.now i _ (omega arith))),
+          ∙ ap (leaf subcommand.name.now (begins_required subcommand.arguments.now))
+          (sym (map_more rule_in subcommand.arguments.now i _ (omega arith))),
       c.in_ok-command.ensures.own,
     )
