@@ -2,12 +2,8 @@ pub mod AskedTasks
 pub mod ObservedCalls
 pub mod PairCalls
 pub mod PolledCalls
-pub mod RightEnds
-pub mod RightUris
-pub mod RightWords
 pub mod ServedCalls
 pub mod SettingUpCalls
 pub mod Statuses
 pub mod TurnCalls
 pub mod WhatBecomes
-pub mod WhoTakes
