@@ -3,12 +3,14 @@
 #![tactic(auto)]
 
 mod critical;
+mod cursor;
 mod laws;
 mod reading;
 mod values;
 mod writing;
 
 pub use critical::unknown_critical;
+pub use cursor::{Astray, Cursor};
 pub use laws::options_law;
 pub use reading::{option_at, options_in};
 pub use values::value_of;
