@@ -2,9 +2,11 @@
 use Rattle.std.proofs.Common.{◌≡◌, ◌≢◌, ◌≤◌, ℕ, ◌+◌, ◌-◌, ◌*◌, List, [], ◌∷◌, ◌++◌, length, take, drop, sym, ap}
 use Rattle.std.proofs.Common.{◌/◌, ◌%◌, Ok, Some, ◌∙◌, subst, refl, arith, length-append}
 use Rattle.std.proofs.lemmas.List.{append_assoc, append-nil, drop-drop, drop-take, length-drop, length-take, take-take}
+use Rattle.std.proofs.lemmas.List.{take_all}
 use Rattle.std.proofs.Math.Seq.{take-append-add, take-append_seam, drop-append_seam}
 use Rattle.coap_types.specs.CoapOption.{CoapOption, option, option_of}
 use Rattle.coap_types.specs.declared.options.Opt.{Opt}
+use Rattle.coap_codec.specs.Message.{Message, Spells, header, marked}
 use Rattle.coap_codec.specs.Options.{IsOption, Options}
 use Rattle.coap_options.specs.declared.cursor.Cursor.{Cursor}
 use Rattle.coap_options.specs.Standing.{HasNone, IsBehind, IsFirst, IsNext, StandsAt, ahead}
@@ -139,3 +141,40 @@ pub stands_nowhere : (d : List ℕ) (c : Cursor) → c.at ≤ c.end → c.end �
 stands_nowhere d c rises fits not none [] stands = something_ahead d c rises fits not stands.options
 stands_nowhere d c rises fits not none (o ∷ os) stands =
     none o stands.options.0 stands.options.1 stands.options.3 stands.options.2
+
+-- the cursor in front of the options of a message, and its end in front of what follows them
+pub begins : (d : List ℕ) (m : Message) (token : List ℕ) (marks : ℕ) → Spells d m → token ≡ m.token
+    → marks ≡ length (marked m.payload)
+    → StandsAt d (record { at = 4 + length token; end = length d - marks; number = 0 }) m.options
+    × (drop (length d - marks) d ≡ marked m.payload)
+begins d m token marks is same count =
+    let front : List ℕ = header m ++ m.token in
+    let behind : List ℕ = is.option_bytes ++ marked m.payload in
+    let whole : d ≡ front ++ behind = is.parts ∙ sym (append_assoc (header m) m.token behind) in
+    let four : length (header m) ≡ 4 = refl in
+    let all = ap length whole in
+    let sum = length-append front behind in
+    let head = length-append (header m) m.token in
+    let tail = length-append is.option_bytes (marked m.payload) in
+    let long = ap length same in
+    let at : 4 + length token ≡ 0 + length front = omega (arith, four, head, long) in
+    let end : length d - marks ≡ length (front ++ is.option_bytes) =
+    (let both = length-append front is.option_bytes in omega (arith, all, sum, tail, count, both)) in
+    let between : (length d - marks) - (4 + length token) ≡ length is.option_bytes =
+    omega (arith, all, sum, tail, count, at) in
+    let lies : take ((length d - marks) - (4 + length token)) (drop (4 + length token) d) ≡ is.option_bytes =
+    ap (λ n. take n (drop (4 + length token) d)) between
+    ∙ ap (λ n. take (length is.option_bytes) (drop n d)) at
+    ∙ piece d 0 (length d) front is.option_bytes (marked m.payload) (take_all (length d) d (omega arith) ∙ whole) in (
+      record {
+        within = record {
+          rises = omega (arith, all, sum, tail, count, at);
+          fits = omega arith;
+        };
+        options = subst (λ b. Options 0 b m.options) (sym lies) is.options;
+      },
+      ap (λ n. drop n d) end
+          ∙ ap (λ b. drop (length (front ++ is.option_bytes)) b)
+          (whole ∙ sym (append_assoc front is.option_bytes (marked m.payload)))
+          ∙ drop-append_seam (front ++ is.option_bytes) (marked m.payload),
+    )

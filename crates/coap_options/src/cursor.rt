@@ -1,5 +1,5 @@
 //! The options of a message, one after the other, in one pass over its datagram (RFC 7252, section 3.1).
-ghost use Rattle.std.specs.Prelude.{◌≡◌, ◌≤◌, ◌<◌, ◌⊎◌, ◌++◌, ℕ, List, length, IfSome, IfNone, IfOk, OnErr};
+ghost use Rattle.std.specs.Prelude.{◌≡◌, ◌≤◌, ◌<◌, ◌⊎◌, ◌++◌, ℕ, List, length, drop, IfSome, IfNone, IfOk, OnErr};
 ghost use Rattle.coap_types.specs.CoapOption.{CoapOption, option_of};
 ghost use Rattle.coap_codec.specs.Extension.{Ext};
 ghost use Rattle.coap_codec.specs.Message.{Message, Spells, marked};
@@ -120,8 +120,10 @@ fn marked_len(message: &View<'_>) -> usize
 impl Cursor {
     /// The cursor before the options of a message; None where the datagram spells none.
     pub fn begin(datagram: &[u8]) -> Option<Cursor>
-        // A reading begins before all options of the message that the datagram spells.
-        ensures some { IfSome result (λ c. (m : Message) × Spells datagram.now m × StandsAt datagram.now c m.options) }
+        // A reading begins before all options of the message that the datagram spells, and its end is in front of the
+        // payload with its marker.
+        ensures some { IfSome result (λ c. (m : Message) × Spells datagram.now m × StandsAt datagram.now c m.options
+            × (drop c.end datagram.now ≡ marked m.payload)) }
         // No reading begins where the datagram spells no message.
         ensures none { IfNone result ((m : Message) → Spells datagram.now m → ⊥) }
     {

@@ -121,10 +121,10 @@ impl Asker {
             return None;
         }
         match told.kind {
-            raw_exchange::KS_RESPONSE => Message::read_fed(datagram).map(Answer::Response),
+            raw_exchange::KS_RESPONSE => Message::read(datagram).map(Answer::Response),
             raw_exchange::KS_NOTIFICATION => {
                 let token = Token::told(&told.token, told.token_len);
-                Message::read_fed(datagram).map(|message| Answer::Notification(token, message))
+                Message::read(datagram).map(|message| Answer::Notification(token, message))
             }
             raw::KS_TIMEOUT => Some(Answer::Timeout),
             raw::KS_RESET => Some(Answer::Reset),
