@@ -95,9 +95,10 @@ class Server:
 class Reader:
     """Gets a path of 127.0.0.1 again and again, from one port, each time with a Message ID and a token of its own.
 
-    A program that is started for each GET will not do. The system gives it a free port, by and by that of an earlier one;
-    one time in 16 its first Message ID is that one's, too. Then the server takes its request for a copy, for 247 s, and
-    answers what it answered then, with the other token (RFC 7252, section 4.5; EMBEDDING, "What a restart breaks")."""
+    A program that is started for each GET will not do. The system gives it a free port, by and by that of an earlier
+    one; one time in 16 its first Message ID is that one's, too. Then the server takes its request for a copy, for
+    247 s, and answers as it did then, with the other token (RFC 7252, section 4.5; EMBEDDING, "What a restart
+    breaks")."""
 
     TRIES, WAIT_S = 30, 2
 

@@ -30,8 +30,10 @@ fresh new setup most start is = record {
 
 -- behind a datagram that is given out
 pub taken : (old new : Shown) (asked : Option Asked) (told : Option Ready) (deferred most : ℕ)
-    (answer : Option L.Packet) → IsHeld old asked told deferred most → Step old.state (Take answer) new.state → new.answerable ≡ old.answerable
-    → ((at : ℕ) (there : Endpoint) → MayNotify old at there → MayNotify new at there) → IsHeld new asked told deferred most
+    (answer : Option L.Packet) → IsHeld old asked told deferred most → Step old.state (Take answer) new.state
+    → new.answerable ≡ old.answerable
+    → ((at : ℕ) (there : Endpoint) → MayNotify old at there → MayNotify new at there)
+    → IsHeld new asked told deferred most
 taken old new asked told deferred most answer held step same kept = record {
   pending = held.pending ∙ ap (λ (o : Own). o.pending) (sym step.own_is);
   answerable = λ x is. same ∙ held.answerable x is;

@@ -20,12 +20,12 @@ pub record Shown : Type 0 where
 
 -- What is kept beside the exchanges: the request that may be answered is the one that they wait with, what was called
 -- ready may be responded to, so many are deferred, and so many messages are remembered at most.
-pub record IsHeld (a : below.Shown) (asked : Option Asked) (told : Option Ready) (deferred remembered : ℕ) : Type 0 where
+pub record IsHeld (a : below.Shown) (asked : Option Asked) (told : Option Ready) (deferred places : ℕ) : Type 0 where
   pub pending : asked ≡ a.state.own.pending
   pub answerable : (x : Asked) → asked ≡ Some x → a.answerable ≡ true
   pub ready : (r : Ready) → told ≡ Some r → MayRespond a r.at.0 r.asked
   pub count : deferred ≡ length a.state.own.deferred
-  pub most : remembered ≡ a.state.layer.most
+  pub most : places ≡ a.state.layer.most
 
 -- this request was called ready at this moment
 abbrev pub ready_at : Moment → Asked → Ready
@@ -38,8 +38,8 @@ called_ready at due.Idle = None
 called_ready at due.Copied = None
 called_ready at due.Expired = None
 
--- how many requests are deferred, of how many at most (RFC 7252, section 5.2.2), and how many messages are remembered at
--- most (section 4.5)
+-- how many requests are deferred, of how many at most (RFC 7252, section 5.2.2), and how many messages are remembered
+-- at most (section 4.5)
 pub record IsLoad (s : Shown) (load : Load) : Type 0 where
   pub deferred : load.deferred ≡ length s.state.own.deferred
   pub most_deferred : load.most_deferred ≡ max_deferred

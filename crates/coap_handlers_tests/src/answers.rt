@@ -167,7 +167,10 @@ fn a_server_says_how_many_are_deferred(rt: HostRuntime) -> Result<(), Fail> {
         matches!(&server.tick(Moment(0))?, Due::Ready(_)),
         "it is not ready",
     )?;
-    want(server.load().deferred == 1, "one that is ready waits no more")?;
+    want(
+        server.load().deferred == 1,
+        "one that is ready waits no more",
+    )?;
     want(
         server.respond(&asked, &hi(), 0).is_ok(),
         "the answer was refused",

@@ -70,12 +70,7 @@ fn options_are_written_in_rising_order(_: HostRuntime) -> Result<(), Fail> {
 }
 
 // The next option of a reading has this number and this value.
-fn goes_on(
-    cursor: &mut Cursor,
-    datagram: &[u8],
-    number: u16,
-    value: &[u8],
-) -> Result<(), Fail> {
+fn goes_on(cursor: &mut Cursor, datagram: &[u8], number: u16, value: &[u8]) -> Result<(), Fail> {
     match cursor.next(datagram) {
         Ok(Some(option)) => want(
             option.number == number && option.value == value,

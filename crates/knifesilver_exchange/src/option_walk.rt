@@ -105,7 +105,7 @@ pub extern "C" fn ks_options_next(
     // then; where there are none, the answer is 0.
     ensures order { (os : List CoapOption) → StandsAt datagram.now (cursor_of options.old) os
         → TellsFirst datagram.now result options.new option.new os }
-    // What a reading tells is the option that lies ahead of it, with the place of its value, and it is behind that then.
+    // What a reading tells is the option that lies ahead, with the place of its value, and it is behind that then.
     ensures told { result ≡ pos 1 → Tells datagram.now options.old options.new option.new }
     // A reading tells no option only at the end of the options.
     ensures nothing { result ≡ pos 0 → IsAtEnd datagram.now (cursor_of options.old) }
