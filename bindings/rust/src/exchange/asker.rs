@@ -46,7 +46,7 @@ impl Asker {
         Ok(Asker { raw, around, room: [0; MAX_DATAGRAM] })
     }
 
-    /// Sends a request: a GET, POST, PUT or DELETE. The token that it got.
+    /// Sends a request: a GET, POST, PUT or DELETE; FETCH is for servers alone. The token that it got.
     pub fn ask(&mut self, now: Instant, request: &Message) -> Result<Token, AskError> {
         self.send(now, &Token::default(), request)
     }
