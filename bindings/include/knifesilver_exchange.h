@@ -60,7 +60,7 @@ typedef struct {
     uint8_t token[8];
 } ks_asked;
 
-/* .. and what it asks. Its options are read from the datagram by ks_options_walk or ks_next_option; its payload is the
+/* .. and what it asks. Its options are read from the datagram by ks_options_begin or ks_next_option; its payload is the
  * datagram's last payload_len bytes. */
 typedef struct {
     size_t payload_len;
@@ -111,6 +111,11 @@ int32_t ks_answerer_ready(ks_answerer *handle, uint64_t now, const ks_address *t
 int32_t ks_answerer_notify(ks_answerer *handle, uint64_t now, const ks_address *to, const void *token, size_t token_len,
                            const void *message, size_t message_len, uint64_t word, uint16_t *id);
 
+/* The same in a Non-confirmable message (RFC 7641, section 4.5): nothing waits for an acknowledgement, and a Reset of it is
+ * what ks_answerer_unmatched tells, with the *id of this call. */
+int32_t ks_answerer_notify_plain(ks_answerer *handle, uint64_t now, const ks_address *to, const void *token,
+                                 size_t token_len, const void *message, size_t message_len, uint16_t *id);
+
 /* A token of at most 8 bytes. */
 typedef struct { uint8_t len; uint8_t bytes[8]; } ks_token;
 
@@ -124,6 +129,17 @@ int32_t ks_answerer_ended(ks_answerer *handle, ks_address *to, ks_token *token, 
  * whose Message ID is bytes 2 and 3 of its datagram. KS_DONE with where it came from, and that Message ID; KS_OK: it took
  * none; KS_NOT_LIVE. A tick leaves it. */
 int32_t ks_answerer_unmatched(ks_answerer *handle, ks_address *from, uint16_t *id);
+
+/* How many places of a server's tables are taken, as far as it tells, and how many there are. How many messages it remembers
+ * now, and how many of its messages are outstanding, it does not tell; ks_answerer_ready says of one address whether one is. */
+typedef struct {
+    size_t deferred;            /* so many requests are deferred */
+    size_t most_deferred;       /* of at most so many: 16 */
+    size_t most_remembered;     /* so many messages can be remembered */
+} ks_load;
+
+/* KS_OK with *load; KS_NOT_LIVE. Nothing changes. */
+int32_t ks_answerer_load(ks_answerer *handle, ks_load *load);
 
 /* ---- The asking side: a client of one server, for any request of one datagram ------------------------------------- */
 
@@ -179,7 +195,7 @@ enum ks_answer_kind {
     KS_NOTIFICATION = 17        /* a response with a token that is kept (RFC 7641, section 3.2) */
 };
 
-/* The options of an answer are read from the datagram that was fed, by ks_options_walk or ks_next_option; its payload is the
+/* The options of an answer are read from the datagram that was fed, by ks_options_begin or ks_next_option; its payload is the
  * datagram's last payload_len bytes. */
 typedef struct {
     size_t payload_len;
@@ -298,57 +314,35 @@ int32_t ks_assembly_body(ks_assembly *handle, void *room, size_t room_len, size_
 /* Tells the option at *place of a message, which is 0 at first: KS_DONE with its number and its value at the front of the
  * room, and *place behind it; KS_OK: there is none, or the datagram is no message; KS_SMALL_ROOM with *value_len. It needs no
  * server, takes no memory and changes nothing else. Each call reads the message from its first byte, and a datagram may have
- * thousands of options: where a stranger's are all to be read, use ks_options_walk. */
+ * thousands of options: where a stranger's are all to be read, use ks_options_begin. */
 int32_t ks_next_option(const void *datagram, size_t datagram_len, size_t *place, uint16_t *number, void *room,
                        size_t room_len, size_t *value_len);
 
-/* A walk over the options of a message, in one pass, in which nothing is copied. No proof covers it; it is tested to tell what
- * ks_next_option tells. It is of a datagram that was fed, and handed up a request or brought an answer; in any other it may
- * end early, and never reads outside.
- *
- *     ks_options_walk walk = ks_options_of(datagram, len);
- *     while (ks_options_next(&walk)) use(walk.number, walk.value, walk.value_len); */
+/* Where the reading of a message's options stands in its datagram; and an option, whose value lies in the datagram, so that
+ * nothing is copied. Keep a reading beside the datagram that it began with, and change no byte of either. */
 typedef struct {
-    const uint8_t *value;       /* of the option, value_len bytes of the datagram */
+    size_t at;                  /* where the next option begins */
+    size_t end;                 /* where the options end */
+    uint16_t number;            /* of the option before it; 0 where there is none */
+} ks_options;
+
+typedef struct {
+    size_t value_at;            /* its value is at datagram + value_at */
     size_t value_len;
-    const uint8_t *at;          /* what is not read yet, left bytes */
-    size_t left;
-    uint16_t number;            /* of the option */
-} ks_options_walk;
+    uint16_t number;
+} ks_option;
 
-static inline ks_options_walk ks_options_of(const void *datagram, size_t len) {
-    const uint8_t *bytes = (const uint8_t *)datagram;
-    size_t head = len < 4 ? len : 4 + (size_t)(bytes[0] & 0x0f);
-    ks_options_walk walk = {bytes, 0, bytes + (head < len ? head : len), head < len ? len - head : 0, 0};
-    return walk;
-}
+/* Begins a reading of all options of a message, in one pass: KS_OK. KS_BAD_ARGUMENT: the datagram is no message, and the
+ * reading has no options. Like ks_options_next it needs no server and takes no memory.
+ *
+ *     ks_options_begin(datagram, len, &options);
+ *     while (ks_options_next(datagram, len, &options, &option) == KS_DONE)
+ *         use(option.number, datagram + option.value_at, option.value_len); */
+int32_t ks_options_begin(const void *datagram, size_t datagram_len, ks_options *options);
 
-/* A delta or a length of 4 bits, with the bytes that it may have behind them (RFC 7252, section 3.1). */
-static inline bool ks_options_extended(ks_options_walk *walk, size_t *number) {
-    size_t more = *number == 13 ? 1 : *number == 14 ? 2 : 0;
-    if (*number == 15 || more > walk->left) return false;
-    if (more == 1) *number = 13 + (size_t)walk->at[0];
-    if (more == 2) *number = 269 + ((size_t)walk->at[0] << 8) + walk->at[1];
-    walk->at += more;
-    walk->left -= more;
-    return true;
-}
-
-/* Goes on to the next option: whether there is one. */
-static inline bool ks_options_next(ks_options_walk *walk) {
-    if (walk->left == 0 || walk->at[0] == 0xff) return false;
-    size_t delta = walk->at[0] >> 4, len = walk->at[0] & 0x0f;
-    walk->at++;
-    walk->left--;
-    if (!ks_options_extended(walk, &delta) || !ks_options_extended(walk, &len)) return false;
-    if (delta > 0xffffu - walk->number || len > walk->left) return false;
-    walk->number = (uint16_t)(walk->number + delta);
-    walk->value = walk->at;
-    walk->value_len = len;
-    walk->at += len;
-    walk->left -= len;
-    return true;
-}
+/* Tells the next option of a reading: KS_DONE with *option; KS_OK: there is none. KS_BAD_ARGUMENT: no option of the datagram
+ * is where the reading stands, as where another datagram is handed in, or a field was changed; nothing is read outside. */
+int32_t ks_options_next(const void *datagram, size_t datagram_len, ks_options *options, ks_option *option);
 
 /* Tells the first critical option of a message that is none of these: KS_DONE with its number; KS_OK: there is none, or the
  * datagram is no message. A Confirmable request with one is to be answered 4.02, and a Non-confirmable one is to be ignored

@@ -175,28 +175,6 @@ static int rejections(void) {
     return 0;
 }
 
-/* Options, by hand after RFC 7252, section 3.1. */
-static int options(void) {
-    static const uint16_t known[] = {11, 15};
-    static const uint8_t written[] = {0x40, 0x45, 0, 0, 0xc1, 40, 0x21, 5, 0xe0, 0x06, 0xe6};
-    uint8_t value[8];
-    ks_draft draft;
-    size_t place = 0, len;
-    uint16_t number;
-    ks_draft_begin(&draft, 0x45);
-    WANT(ks_draft_uint(&draft, 12, 40) == KS_OK && ks_draft_uint(&draft, 14, 5) == KS_OK);
-    WANT(ks_draft_uint(&draft, 12, 0) == KS_OPTION_ORDER);
-    WANT(ks_draft_option(&draft, 2049, "", 0) == KS_OK);
-    WANT(draft.len == sizeof written && memcmp(draft.bytes, written, sizeof written) == 0);
-    WANT(ks_unknown_critical(draft.bytes, draft.len, known, 2, &number) == KS_DONE && number == 2049);
-    WANT(ks_next_option(draft.bytes, draft.len, &place, &number, value, 0, &len) == KS_SMALL_ROOM && place == 0 && len == 1);
-    WANT(ks_next_option(draft.bytes, draft.len, &place, &number, value, sizeof value, &len) == KS_DONE && value[0] == 40);
-    WANT(ks_next_option(draft.bytes, draft.len, &place, &number, value, sizeof value, &len) == KS_DONE && number == 14);
-    WANT(ks_next_option(draft.bytes, draft.len, &place, &number, value, sizeof value, &len) == KS_DONE && number == 2049);
-    WANT(ks_next_option(draft.bytes, draft.len, &place, &number, value, sizeof value, &len) == KS_OK);
-    return 0;
-}
-
 static uint64_t drawn = 88172645463325252u;
 
 static uint64_t draw(uint64_t most) {
@@ -206,42 +184,117 @@ static uint64_t draw(uint64_t most) {
     return drawn % most;
 }
 
-/* Of 100,000 datagrams, most of them messages, the walk over the options tells what ks_next_option tells, and reads
- * nothing outside of any. */
-static int walks(void) {
-    unsigned messages = 0, told = 0;
-    for (int n = 0; n < 100000; n++) {
-        uint8_t *datagram = malloc(64), value[64], path[256];
-        size_t len = 4 + draw(60), place = 0, value_len;
-        uint16_t number;
-        ks_message shown;
-        for (size_t i = 0; i < len; i++) datagram[i] = (uint8_t)(draw(3) ? draw(256) & 0x33 : draw(256));
-        datagram[0] = (uint8_t)(0x40 | draw(4));
-        datagram[1] = KS_GET;
-        datagram = realloc(datagram, len);
-        bool is_message = ks_peek(datagram, len, &shown, (char *)path, sizeof path) == KS_OK;
-        ks_options_walk walk = ks_options_of(datagram, len);
-        while (is_message && ks_next_option(datagram, len, &place, &number, value, sizeof value, &value_len) == KS_DONE) {
-            WANT(ks_options_next(&walk) && walk.number == number && walk.value_len == value_len);
-            WANT(memcmp(walk.value, value, value_len) == 0);
-            told++;
-        }
-        WANT(!is_message || !ks_options_next(&walk));
-        while (!is_message && ks_options_next(&walk)) value[0] = walk.value_len > 0 ? walk.value[walk.value_len - 1] : 0;
-        messages += is_message;
-        free(datagram);
-    }
-    WANT(messages > 10000 && told > 50000);
+/* A notification in a Non-confirmable message: nothing is outstanding then, and its Reset is told by its Message ID. */
+static int plain(void) {
+    static const ks_address other = {{127, 0, 0, 2}, 7};
+    ks_answerer server = {0};
+    ks_address from = {{0}, 0};
+    ks_draft draft, wrong;
+    uint16_t id = 0, second = 0;
+    uint64_t at;
+    ks_draft_begin(&draft, 0x45);
+    ks_draft_uint(&draft, 6, 1);
+    ks_draft_begin(&wrong, 1);
+    WANT(ks_answerer_notify_plain(&server, 0, &client, "\x07", 1, draft.bytes, draft.len, &id) == KS_NOT_LIVE);
+    WANT(ks_answerer_new(&server, 0, &seed) == KS_OK);
+    WANT(ks_answerer_notify_plain(&server, 0, &client, "123456789", 9, draft.bytes, draft.len, &id) == KS_BAD_ARGUMENT);
+    WANT(ks_answerer_notify_plain(&server, 0, &client, "\x07", 1, draft.bytes, 3, &id) == KS_BAD_ARGUMENT);
+    WANT(ks_answerer_notify_plain(&server, 0, &client, "\x07", 1, wrong.bytes, wrong.len, &id) == KS_ANSWER_BAD_RESPONSE);
+    WANT(ks_answerer_notify_plain(&server, 0, &client, "\x07", 1, draft.bytes, draft.len, &id) == KS_OK);
+    WANT(id_out(&server, KS_NON) == id && ks_answerer_due(&server, 0, &at) == KS_OK);
+    WANT(ks_answerer_ready(&server, 0, &client) == KS_DONE);
+    WANT(ks_answerer_notify_plain(&server, 0, &client, "\x07", 1, draft.bytes, draft.len, &second) == KS_OK && second != id);
+    WANT(id_out(&server, KS_NON) == second);
+    WANT(reset(&server, 10, id) == KS_OK && nothing_ended(&server));
+    WANT(ks_answerer_unmatched(&server, &from, &second) == KS_DONE && second == id && from.port == client.port);
+    /* (one is outstanding there, and none elsewhere) */
+    WANT(ks_answerer_notify(&server, 20, &client, "\x07", 1, draft.bytes, draft.len, 0, &id) == KS_OK);
+    WANT(ks_answerer_notify_plain(&server, 20, &client, "\x07", 1, draft.bytes, draft.len, &id) == KS_ANSWER_NOT_READY);
+    WANT(ks_answerer_notify_plain(&server, 20, &other, "\x07", 1, draft.bytes, draft.len, &id) == KS_OK);
+    ks_answerer_free(&server);
     return 0;
 }
 
-/* 65,507 bytes of options, of which each has its one byte, are read in one pass. */
-static int longest(void) {
-    static uint8_t datagram[65507] = {0x40, KS_GET};
-    size_t told = 0;
-    ks_options_walk walk = ks_options_of(datagram, sizeof datagram);
-    while (ks_options_next(&walk)) told++;
-    WANT(told == sizeof datagram - 4);
+/* How many are deferred: one more by each deferral, one fewer by each late answer, at most 16. */
+static int loads(void) {
+    ks_answerer server = {0};
+    ks_load load = {0};
+    ks_request_told request;
+    ks_asked ready;
+    ks_draft draft;
+    ks_draft_begin(&draft, 0x45);
+    WANT(ks_answerer_load(&server, &load) == KS_NOT_LIVE);
+    WANT(ks_answerer_new(&server, 100, &seed) == KS_OK && ks_answerer_load(&server, &load) == KS_OK);
+    WANT(load.deferred == 0 && load.most_deferred == 16 && load.most_remembered == 100);
+    for (uint8_t n = 0; n < 17; n++) {
+        const uint8_t get[] = {0x40, 1, 0, n};
+        const ks_address there = {{127, 0, 1, n}, 7};
+        WANT(ks_answerer_feed(&server, 0, &there, get, sizeof get, &request) == KS_DONE);
+        WANT(ks_answerer_defer(&server, 0, &request.asked, 0) == (n < 16 ? KS_OK : KS_ANSWER_DEFERRALS_FULL));
+        WANT(ks_answerer_load(&server, &load) == KS_OK && load.deferred == (n < 16 ? n + 1u : 16u));
+    }
+    for (size_t n = 16; n > 0; n--) {
+        WANT(ks_answerer_tick(&server, 1, &ready) == KS_READY);
+        WANT(ks_answerer_load(&server, &load) == KS_OK && load.deferred == n);
+        WANT(ks_answerer_respond(&server, &ready, draft.bytes, draft.len, 0) == KS_OK);
+        WANT(ks_answerer_load(&server, &load) == KS_OK && load.deferred == n - 1 && load.most_remembered == 100);
+    }
+    ks_answerer_free(&server);
+    return 0;
+}
+
+/* What a datagram that came to a server is to be answered by the message layer alone: the Reset of a Confirmable message that
+ * is faulty behind its header or a ping (RFC 7252, sections 4.2 and 4.3), or nothing. */
+static bool is_reset_due(const uint8_t *bytes, size_t len, int32_t fault, const ks_message *shown) {
+    if (len < 4 || bytes[0] >> 6 != 1 || (bytes[0] >> 4 & 3) != KS_CON) return false;
+    return fault != KS_OK || shown->code == 0 || shown->code >= 0x20;
+}
+
+/* Datagrams of any bytes, and requests of which some bytes are changed: each is answered as its faults say. What is a request
+ * is handed up and answered; what is to be rejected gets the Reset of its Message ID; nothing else is sent. */
+static int any_bytes(long datagrams, bool mutated) {
+    ks_answerer server = {0};
+    ks_draft draft;
+    uint8_t path[2048], room[KS_DATAGRAM_ROOM];
+    unsigned handed = 0, rejected = 0, silent = 0;
+    ks_draft_begin(&draft, 0x45);
+    WANT(ks_answerer_new(&server, 64, &seed) == KS_OK);
+    for (long n = 0; n < datagrams; n++) {
+        uint8_t bytes[64] = {0x41, KS_GET, (uint8_t)(n >> 8), (uint8_t)n, 7, 0xb6, 't', 'a', 'r', 'g', 'e', 't', 0xff, '2', '1'};
+        size_t len = mutated ? 15 : draw(sizeof bytes), sent_len;
+        ks_request_told request;
+        ks_message shown = {0};
+        ks_address to;
+        for (size_t i = 0; !mutated && i < len; i++) bytes[i] = (uint8_t)draw(256);
+        for (uint64_t i = draw(4); mutated && i > 0; i--) bytes[draw(len)] = (uint8_t)draw(256);
+        if (!mutated && draw(2)) bytes[0] = (uint8_t)(0x40 | (bytes[0] & 0x33));
+        /* (so far apart that no two are copies, and 64 are remembered: 247 s, RFC 7252, section 4.8.2) */
+        const uint64_t now = (uint64_t)n * 300000;
+        const int32_t fault = ks_peek(bytes, len, &shown, (char *)path, sizeof path);
+        const int32_t answer = ks_answerer_feed(&server, now, &client, bytes, len, &request);
+        const bool is_request = fault == KS_OK && shown.code > 0 && shown.code < 0x20
+            && (bytes[0] >> 4 & 3) <= KS_NON;
+        WANT(answer == (is_request ? KS_DONE : KS_OK));
+        if (is_request) {
+            WANT(request.code == shown.code && request.payload_len == shown.payload_len);
+            WANT(ks_answerer_answer(&server, &request.asked, draft.bytes, draft.len) == KS_OK);
+            handed++;
+        }
+        const int32_t out = ks_answerer_next_out(&server, &to, room, sizeof room, &sent_len);
+        if (is_request) WANT(out == KS_DONE && room[1] == 0x45 && memcmp(room + 4, bytes + 4, bytes[0] & 15) == 0);
+        else if (is_reset_due(bytes, len, fault, &shown)) {
+            WANT(out == KS_DONE && sent_len == 4 && room[0] == 0x70 && room[1] == 0 && memcmp(room + 2, bytes + 2, 2) == 0);
+            rejected++;
+        } else if (out == KS_DONE) {
+            /* (a response that nobody asked for, in a Non-confirmable message) */
+            WANT(fault == KS_OK && shown.code >= 0x40 && (bytes[0] >> 4 & 3) == KS_NON && room[0] == 0x70);
+        } else silent++;
+        WANT(ks_answerer_next_out(&server, &to, room, sizeof room, &sent_len) == KS_OK);
+    }
+    ks_answerer_free(&server);
+    printf("%ld datagrams %s: %u requests, %u rejected, %u answered by nothing\n", datagrams,
+           mutated ? "with changed bytes" : "of any bytes", handed, rejected, silent);
+    WANT(handed > 1000 && rejected > 1000 && silent > 1000);
     return 0;
 }
 
@@ -262,6 +315,7 @@ static int any_order(long calls) {
         ks_address to;
         ks_token token;
         ks_draft draft;
+        ks_load load = {0};
         bool observe = false;
         uint16_t id;
         size_t len = draw(2) ? 4 : draw(sizeof bytes);
@@ -270,7 +324,7 @@ static int any_order(long calls) {
         if (len == 4) bytes[0] = draw(4) ? 0x40 : 0x50, bytes[1] = (uint8_t)(1 + draw(7)), bytes[2] = 0;
         ks_draft_begin(&draft, draw(16) ? 0x45 : (uint8_t)draw(256));
         now += draw(50);
-        switch (draw(10)) {
+        switch (draw(12)) {
         case 0:
         case 1: answer = ks_answerer_feed(&server, now, &client, bytes, len, &request);
             if (answer == KS_DONE) *one = request.asked;
@@ -282,6 +336,10 @@ static int any_order(long calls) {
         case 6: answer = ks_answerer_notify(&server, now, &client, bytes, draw(10), draft.bytes, draft.len, 0, &id); break;
         case 7: answer = ks_answerer_ended(&server, &to, &token, &observe); break;
         case 8: answer = ks_answerer_unmatched(&server, &to, &id); break;
+        case 9: answer = ks_answerer_notify_plain(&server, now, &client, bytes, draw(10), draft.bytes, draft.len, &id); break;
+        case 10: answer = ks_answerer_load(&server, &load);
+            WANT(load.deferred <= load.most_deferred);
+            break;
         default: while (ks_answerer_next_out(&server, &to, room, sizeof room, &len) == KS_DONE) {} break;
         }
         int i = 0;
@@ -297,5 +355,6 @@ static int any_order(long calls) {
 }
 
 int main(void) {
-    return answers() || deferrals() || endings() || rejections() || options() || walks() || longest() || any_order(100000);
+    return answers() || deferrals() || endings() || rejections() || plain() || loads() || any_order(100000)
+        || any_bytes(100000, false) || any_bytes(100000, true);
 }

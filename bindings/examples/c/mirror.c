@@ -95,7 +95,7 @@ int main(int argc, char **argv) {
     shown.server = &server;
     shown.path = argc > 3 ? argv[3] : "temperature";
     shown.fresh_ms = argc > 4 ? strtoull(argv[4], NULL, 10) : 60000;
-    udp[OF_DEVICE] = bound(0), udp[OWN] = bound(atoi(argv[1]));
+    udp[OWN] = bound(atoi(argv[1])), udp[OF_DEVICE] = bound(0);
     for (bool did_show = false;; did_show = shown.shows) {
         uint64_t now = now_ms();
         do {

@@ -45,7 +45,7 @@ mod observers;
 mod options;
 mod token;
 
-pub use answerer::{Answerer, Asked, Ended, Request};
+pub use answerer::{Answerer, Asked, Ended, Load, Request};
 pub use asker::{Answer, Asker};
 pub use errors::{AnswerError, AskError, DeferError, NotifyError, RespondError};
 pub use message::Message;

@@ -86,6 +86,30 @@ pub struct ks_block {
 }
 
 #[repr(C)]
+#[derive(Clone, Copy, Default)]
+pub struct ks_load {
+    pub deferred: usize,
+    pub most_deferred: usize,
+    pub most_remembered: usize,
+}
+
+#[repr(C)]
+#[derive(Clone, Copy, Default)]
+pub struct ks_options {
+    pub at: usize,
+    pub end: usize,
+    pub number: u16,
+}
+
+#[repr(C)]
+#[derive(Clone, Copy, Default)]
+pub struct ks_option {
+    pub value_at: usize,
+    pub value_len: usize,
+    pub number: u16,
+}
+
+#[repr(C)]
 pub struct ks_fetch {
     handle: ks_handle,
 }
@@ -113,8 +137,10 @@ extern "C" {
     fn ks_answerer_next_out(handle: *mut ks_answerer, to: *mut ks_address, room: *mut c_void, room_len: usize, len: *mut usize) -> i32;
     fn ks_answerer_ready(handle: *mut ks_answerer, now: u64, to: *const ks_address) -> i32;
     fn ks_answerer_notify(handle: *mut ks_answerer, now: u64, to: *const ks_address, token: *const c_void, token_len: usize, message: *const c_void, message_len: usize, word: u64, id: *mut u16) -> i32;
+    fn ks_answerer_notify_plain(handle: *mut ks_answerer, now: u64, to: *const ks_address, token: *const c_void, token_len: usize, message: *const c_void, message_len: usize, id: *mut u16) -> i32;
     fn ks_answerer_ended(handle: *mut ks_answerer, to: *mut ks_address, token: *mut ks_token, observe: *mut bool) -> i32;
     fn ks_answerer_unmatched(handle: *mut ks_answerer, from: *mut ks_address, id: *mut u16) -> i32;
+    fn ks_answerer_load(handle: *mut ks_answerer, load: *mut ks_load) -> i32;
     fn ks_asker_new(handle: *mut ks_asker, server: *const ks_address, remembered: u32, seed: *const ks_seed) -> i32;
     fn ks_asker_free(handle: *mut ks_asker);
     fn ks_asker_ask(handle: *mut ks_asker, now: u64, message: *const c_void, message_len: usize, word: u64, token: *mut ks_token) -> i32;
@@ -142,6 +168,8 @@ extern "C" {
     fn ks_assembly_body(handle: *mut ks_assembly, room: *mut c_void, room_len: usize, len: *mut usize) -> i32;
     #[cfg(test)]
     fn ks_next_option(datagram: *const c_void, datagram_len: usize, place: *mut usize, number: *mut u16, room: *mut c_void, room_len: usize, value_len: *mut usize) -> i32;
+    fn ks_options_begin(datagram: *const c_void, datagram_len: usize, options: *mut ks_options) -> i32;
+    fn ks_options_next(datagram: *const c_void, datagram_len: usize, options: *mut ks_options, option: *mut ks_option) -> i32;
     fn ks_unknown_critical(datagram: *const c_void, datagram_len: usize, known: *const u16, known_len: usize, number: *mut u16) -> i32;
     fn ks_options_add(room: *mut c_void, room_len: usize, len: *mut usize, last: *mut u16, number: u16, value: *const c_void, value_len: usize) -> i32;
 }
@@ -153,6 +181,16 @@ extern "C" {
 pub fn next_option(datagram: &[u8], place: &mut usize, number: &mut u16, room: &mut [u8], len: &mut usize) -> i32 {
     let (at, to) = (datagram.as_ptr().cast(), room.as_mut_ptr().cast());
     unsafe { ks_next_option(at, datagram.len(), place, number, to, room.len(), len) }
+}
+
+/// Begins a reading of the options of a message.
+pub fn options_begin(datagram: &[u8], options: &mut ks_options) -> i32 {
+    unsafe { ks_options_begin(datagram.as_ptr().cast(), datagram.len(), options) }
+}
+
+/// The next option of a reading.
+pub fn options_next(datagram: &[u8], options: &mut ks_options, option: &mut ks_option) -> i32 {
+    unsafe { ks_options_next(datagram.as_ptr().cast(), datagram.len(), options, option) }
 }
 
 /// The first critical option of a message that is none of these.
@@ -228,6 +266,15 @@ impl Answerer {
     pub fn notify(&mut self, now: u64, to: &ks_address, token: &[u8], message: &[u8], word: u64, id: &mut u16) -> i32 {
         let (name, text) = (token.as_ptr().cast(), message.as_ptr().cast());
         unsafe { ks_answerer_notify(self.0.get_mut(), now, to, name, token.len(), text, message.len(), word, id) }
+    }
+
+    pub fn notify_plain(&mut self, now: u64, to: &ks_address, token: &[u8], message: &[u8], id: &mut u16) -> i32 {
+        let (name, text) = (token.as_ptr().cast(), message.as_ptr().cast());
+        unsafe { ks_answerer_notify_plain(self.0.get_mut(), now, to, name, token.len(), text, message.len(), id) }
+    }
+
+    pub fn load(&self, load: &mut ks_load) -> i32 {
+        unsafe { ks_answerer_load(self.0.get(), load) }
     }
 
     pub fn ended(&self, to: &mut ks_address, token: &mut ks_token, observe: &mut bool) -> i32 {

@@ -99,6 +99,34 @@ fn a_deferred_request_is_answered_when_it_is_ready() {
 }
 
 #[test]
+fn a_plain_notification_waits_for_no_acknowledgement() {
+    let (mut server, now) = server();
+    let token = Token::new(b"\x07").unwrap();
+    let id = server.notify_plain(now, HERE, &token, &content("on")).unwrap();
+    let [high, low] = id.to_be_bytes();
+    assert_eq!(sent(&mut server).unwrap(), [&[0x51, 0x45, high, low, 7, 0xff][..], b"on"].concat());
+    assert_eq!((server.poll_timeout(now), server.may_notify(now, HERE)), (None, true));
+    assert!(server.handle(now, HERE, &[0x70, 0, high, low]).unwrap().is_none());
+    assert_eq!(server.unmatched(), Some((HERE, id)));
+    assert_eq!(server.notify_plain(now, HERE, &token, &Message::new(Code::PUT)), Err(NotifyError::BadResponse));
+    server.notify(now, HERE, &token, &content("on")).unwrap();
+    assert_eq!(server.notify_plain(now, HERE, &token, &content("off")), Err(NotifyError::NotReady));
+}
+
+#[test]
+fn it_says_how_many_are_deferred() {
+    let (mut server, now) = server();
+    let load = server.load();
+    assert_eq!((load.deferred, load.most_deferred, load.most_remembered), (0, 16, 4_096));
+    let asked = server.handle(now, HERE, b"\x40\x01\x00\x01").unwrap().unwrap().asked();
+    assert_eq!(server.defer(now, &asked, Duration::ZERO), Ok(()));
+    assert_eq!(server.load().deferred, 1);
+    assert_eq!(server.handle_timeout(now), Ok(Some(asked)));
+    assert_eq!(server.respond(&asked, &content("hi")), Ok(()));
+    assert_eq!(server.load(), load);
+}
+
+#[test]
 fn too_many_are_to_be_remembered() {
     let made = |remembered| Answerer::new(&config(1).with_remembered(remembered), Instant::now()).err();
     assert_eq!((made(1_048_576), made(1_048_577)), (None, Some(NewError::Remembered)));

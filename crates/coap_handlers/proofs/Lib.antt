@@ -1,3 +1,4 @@
+pub mod CountsDeferred
 pub mod IsAskableSo
 pub mod IsSendableSo
 pub mod StillHeld

@@ -2,12 +2,14 @@
 //! with a refusal that has a name in the place of each condition of a call (RFC 7252, section 5).
 #![tactic(auto)]
 
+mod load;
 mod refusal;
 mod request;
 mod responder;
 mod response;
 mod same;
 
+pub use load::{Load, MAX_DEFERRED};
 pub use refusal::{AnswerRefusal, NotifyRefusal};
 pub use request::is_request;
 pub use responder::{Ready, Responder};

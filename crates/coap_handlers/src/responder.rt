@@ -12,7 +12,9 @@ ghost use Rattle.coap_exchange.specs.AnswererLaw.{Step, fresh_state};
 ghost use Rattle.coap_exchange.specs.AnswererSteps.{asked_in};
 ghost use Rattle.coap_exchange.specs.AnswererTrace.{Incoming, Take};
 ghost use Rattle.coap_exchange.specs.Machine.AnswererShown.{sending_as};
+ghost use Rattle.coap_handlers.specs.Shown.{IsLoad};
 
+use crate::load::{Load, MAX_DEFERRED};
 use coap_codec::View;
 use coap_exchange::{Answerer, Asked, Ended};
 use coap_layer::{Datagram, Setup};
@@ -43,6 +45,10 @@ pub struct Responder<A: Allocator + Copy, S: BuildHasher = BuildHasherDefault<Fo
     given: Option<Asked>,
     // The deferred request that the last tick called ready.
     ready: Option<Ready>,
+    // How many requests are deferred.
+    deferred: usize,
+    // How many messages are remembered at most.
+    most_remembered: usize,
 }
 
 impl<A: Allocator + Copy, S: BuildHasher> Model for Responder<A, S> {
@@ -52,7 +58,7 @@ impl<A: Allocator + Copy, S: BuildHasher> Model for Responder<A, S> {
 
     ghost view = { λ r. record { state = r.answerer.state; given = r.given; ready = r.ready } };
 
-    ghost invariant = { λ r. IsHeld r.answerer r.asked r.ready };
+    ghost invariant = { λ r. IsHeld r.answerer r.asked r.ready r.deferred r.most_remembered };
 }
 
 impl<A: Allocator + Copy, S: BuildHasher> Responder<A, S> {
@@ -65,11 +71,14 @@ impl<A: Allocator + Copy, S: BuildHasher> Responder<A, S> {
         // No deferred request of a new responder is ready.
         ensures ready { result.ready ≡ None }
     {
+        let most_remembered = setup.remembered.get();
         Responder {
             answerer: Answerer::with_setup(alloc, setup, hasher),
             asked: None,
             given: None,
             ready: None,
+            deferred: 0,
+            most_remembered,
         }
     }
 
@@ -141,6 +150,18 @@ impl<A: Allocator + Copy, S: BuildHasher> Responder<A, S> {
         ensures { sending_as result ≡ self.now.state.own.unmatched }
     {
         self.answerer.unmatched()
+    }
+
+    /// How full its tables are, as far as the exchanges tell. It takes no memory.
+    pub fn load(&self) -> Load
+        // What is told of the tables is how many requests are deferred, and how many places there are.
+        ensures { IsLoad self.now result }
+    {
+        Load {
+            deferred: self.deferred,
+            most_deferred: MAX_DEFERRED,
+            most_remembered: self.most_remembered,
+        }
     }
 }
 

@@ -124,3 +124,56 @@ fn a_notification_waits_for_the_one_before(rt: HostRuntime) -> Result<(), Fail> 
     )?;
     want(server.may_notify(Moment(1), CLIENT), "none may be sent")
 }
+
+#[test]
+fn a_plain_notification_waits_for_nothing(rt: HostRuntime) -> Result<(), Fail> {
+    let mut server = server(rt.alloc());
+    let token = Token::empty();
+    want(
+        server.notify_plain(Moment(0), CLIENT, &token, &hi()) == Ok(Id(0)),
+        "it was refused",
+    )?;
+    sends(&mut server, &[0x50, 0x45, 0x00, 0x00, 0xff, 0x68, 0x69])?;
+    want(server.due(Moment(0)).is_none(), "it is to be sent again")?;
+    want(
+        server.notify_plain(Moment(0), CLIENT, &token, &hi()) == Ok(Id(1)),
+        "the second was refused",
+    )?;
+    want(
+        fed(&mut server, 1, &[0x70, 0x00, 0x00, 0x00])?.is_none(),
+        "a Reset is a request",
+    )?;
+    match server.unmatched() {
+        Some((from, id)) => want(from == CLIENT && id == Id(0), "another was rejected"),
+        None => Err(Fail::new("none was rejected")),
+    }
+}
+
+#[test]
+fn a_server_says_how_many_are_deferred(rt: HostRuntime) -> Result<(), Fail> {
+    let mut server = server(rt.alloc());
+    let load = server.load();
+    want(
+        load.deferred == 0 && load.most_deferred == 16 && load.most_remembered == 4_096,
+        "another load at first",
+    )?;
+    let asked = asked(&mut server, 0, GET)?;
+    want(
+        server.defer(Moment(0), &asked, 0).is_ok(),
+        "it was not deferred",
+    )?;
+    want(server.load().deferred == 1, "none is deferred")?;
+    want(
+        matches!(&server.tick(Moment(0))?, Due::Ready(_)),
+        "it is not ready",
+    )?;
+    want(
+        server.load().deferred == 1,
+        "one that is ready waits no more",
+    )?;
+    want(
+        server.respond(&asked, &hi(), 0).is_ok(),
+        "the answer was refused",
+    )?;
+    want(server.load() == load, "one is deferred still")
+}

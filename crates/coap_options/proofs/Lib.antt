@@ -1,1 +1,3 @@
+pub mod InFront
 pub mod OneBehind
+pub mod Onward

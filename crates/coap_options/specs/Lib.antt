@@ -1,3 +1,4 @@
 pub mod Critical
 pub mod Refusals
+pub mod Standing
 pub mod Written

@@ -9,6 +9,7 @@ pub mod Crossing
 pub mod Endings
 pub mod Fresh
 pub mod Held
+pub mod Loads
 pub mod Moves
 pub mod Notifying
 pub mod Numbers
@@ -17,3 +18,4 @@ pub mod Outgoing
 pub mod Owned
 pub mod Seeds
 pub mod ShortBytes
+pub mod Walks

@@ -3,7 +3,7 @@ use Rattle.std.specs.Prelude.{◌≡◌, ℕ, ℤ, true, List}
 use Rattle.coap_types.specs.declared.endpoint.Endpoint.{Endpoint}
 use Rattle.coap_codec.specs.Message.{Message, Spells}
 use Rattle.coap_exchange.specs.AnswererLaw.{State, Step}
-use Rattle.coap_exchange.specs.AnswererTrace.{Response, Ready, Notifies}
+use Rattle.coap_exchange.specs.AnswererTrace.{Response, Ready, Notifies, NotifiesPlain}
 use Rattle.coap_exchange.specs.Machine.WhatIsDue.{takes_con}
 use Rattle.coap_handlers.specs.Shown.{Shown}
 use Rattle.coap_handlers.specs.Refusals.{IsNotifyRefused}
@@ -25,6 +25,15 @@ IsSent now to token r word id s t = (between : State) × Step s.state (Ready now
 abbrev pub IsNotified : ℕ → Endpoint → List ℕ → List ℕ → (word id : ℕ) → Shown → Shown → Type 0
 IsNotified now to token message word id s t =
     (m : Message) × Spells message m × IsSent now to token (response_in m) word id s t
+
+-- .. and the notification in a NON (section 4.5)
+abbrev pub IsSentPlain : ℕ → Endpoint → List ℕ → Response → (id : ℕ) → Shown → Shown → Type 0
+IsSentPlain now to token r id s t = (between : State) × Step s.state (Ready now to true) between
+    × Step between (NotifiesPlain now to token r id) t.state
+
+abbrev pub IsNotifiedPlain : ℕ → Endpoint → List ℕ → List ℕ → (id : ℕ) → Shown → Shown → Type 0
+IsNotifiedPlain now to token message id s t =
+    (m : Message) × Spells message m × IsSentPlain now to token (response_in m) id s t
 
 -- why none was sent
 abbrev pub IsUnsent : ℤ → ℕ → Endpoint → List ℕ → Response → Shown → Type 0

@@ -12,6 +12,7 @@ mod crossing;
 mod handle;
 mod held;
 mod numbers;
+mod option_walk;
 mod options;
 mod outgoing;
 mod released;

@@ -135,12 +135,15 @@ struct question { bool here, fahrenheit; int observe; };
 static struct question read_options(const uint8_t *datagram, size_t len) {
     struct question q = {true, false, -1};
     int segments = 0;
-    ks_options_walk it = ks_options_of(datagram, len);
-    while (ks_options_next(&it)) {
-        bool is_target = it.value_len == 6 && memcmp(it.value, "target", 6) == 0;
+    ks_options reading;
+    ks_option it;
+    ks_options_begin(datagram, len, &reading);
+    while (ks_options_next(datagram, len, &reading, &it) == KS_DONE) {
+        const uint8_t *value = datagram + it.value_at;
+        bool is_target = it.value_len == 6 && memcmp(value, "target", 6) == 0;
         if (it.number == URI_PATH) q.here = q.here && segments++ == 0 && is_target;
-        if (it.number == URI_QUERY) q.fahrenheit = it.value_len == 6 && memcmp(it.value, "unit=f", 6) == 0;
-        if (it.number == OBSERVE) q.observe = it.value_len == 0 ? 0 : it.value[it.value_len - 1];
+        if (it.number == URI_QUERY) q.fahrenheit = it.value_len == 6 && memcmp(value, "unit=f", 6) == 0;
+        if (it.number == OBSERVE) q.observe = it.value_len == 0 ? 0 : value[it.value_len - 1];
     }
     q.here = q.here && segments == 1;
     return q;

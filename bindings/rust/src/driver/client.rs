@@ -8,7 +8,9 @@ use std::net::{Ipv4Addr, SocketAddrV4};
 use std::ops::ControlFlow;
 use std::time::{Duration, Instant};
 
-/// A client of one server, at a free port of its own. A call returns once its last report is there.
+/// A client of one server, at a free port of its own. A call returns once its last report is there. Keep it for all
+/// calls: who opens a client for each meets by and by a port that an earlier one had, and then a call may be answered as a
+/// copy of an old one, and end in a Timeout (`docs/EMBEDDING.md`, "What a restart breaks").
 ///
 /// An acknowledgement that does not come is awaited for up to 93 s; a response that was acknowledged, for longer.
 #[derive(Debug)]

@@ -172,6 +172,47 @@ impl Answerer {
         let answer = self.raw.notify(now, &address(to), token.as_slice(), &self.room[..len], word, &mut id);
         notified(answer).map(|()| id)
     }
+
+    /// The same in a Non-confirmable message (RFC 7641, section 4.5): nothing waits for an acknowledgement, and a Reset
+    /// of it is what [`Answerer::unmatched`] tells, with this Message ID.
+    pub fn notify_plain(
+        &mut self,
+        now: Instant,
+        to: SocketAddrV4,
+        token: &Token,
+        message: &Message,
+    ) -> Result<u16, NotifyError> {
+        let len = message.spell(&Token::default(), &mut self.room)?;
+        let (now, mut id) = (self.around.moment(now), 0);
+        let answer = self.raw.notify_plain(now, &address(to), token.as_slice(), &self.room[..len], &mut id);
+        notified(answer).map(|()| id)
+    }
+
+    /// How many places of its tables are taken, as far as it tells, and how many there are.
+    pub fn load(&self) -> Load {
+        let mut load = raw_exchange::ks_load::default();
+        let answer = self.raw.load(&mut load);
+        debug_assert_eq!(answer, raw::KS_OK);
+        Load {
+            deferred: load.deferred,
+            most_deferred: load.most_deferred,
+            most_remembered: load.most_remembered,
+        }
+    }
+}
+
+/// How many places of a server's tables are taken, as far as it tells, and how many there are. How many messages it
+/// remembers now, and how many of its messages are outstanding, it does not tell; [`Answerer::may_notify`] says of one
+/// address whether one is.
+#[derive(Clone, Copy, Debug, PartialEq, Eq)]
+#[non_exhaustive]
+pub struct Load {
+    /// So many requests are deferred.
+    pub deferred: usize,
+    /// So many can be deferred.
+    pub most_deferred: usize,
+    /// So many messages can be remembered (RFC 7252, section 4.5).
+    pub most_remembered: usize,
 }
 
 impl Answerer {
@@ -282,7 +323,7 @@ impl Request<'_> {
 
     /// All that it asks, to be kept.
     pub fn message(&self) -> Message {
-        Message::read_fed(self.datagram).unwrap_or_else(|| Message::new(self.code))
+        Message::read(self.datagram).unwrap_or_else(|| Message::new(self.code))
     }
 
     /// Its first critical option that is none of these. Then 4.02 is to be answered to a Confirmable request, and

@@ -46,7 +46,7 @@ impl Asker {
         Ok(Asker { raw, around, room: [0; MAX_DATAGRAM] })
     }
 
-    /// Sends a request: a GET, POST, PUT or DELETE. The token that it got.
+    /// Sends a request: a GET, POST, PUT or DELETE; FETCH is for servers alone. The token that it got.
     pub fn ask(&mut self, now: Instant, request: &Message) -> Result<Token, AskError> {
         self.send(now, &Token::default(), request)
     }
@@ -121,10 +121,10 @@ impl Asker {
             return None;
         }
         match told.kind {
-            raw_exchange::KS_RESPONSE => Message::read_fed(datagram).map(Answer::Response),
+            raw_exchange::KS_RESPONSE => Message::read(datagram).map(Answer::Response),
             raw_exchange::KS_NOTIFICATION => {
                 let token = Token::told(&told.token, told.token_len);
-                Message::read_fed(datagram).map(|message| Answer::Notification(token, message))
+                Message::read(datagram).map(|message| Answer::Notification(token, message))
             }
             raw::KS_TIMEOUT => Some(Answer::Timeout),
             raw::KS_RESET => Some(Answer::Reset),

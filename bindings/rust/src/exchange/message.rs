@@ -12,8 +12,6 @@ use std::str;
 const HEADER_LEN: usize = 4;
 /// Version 1, Confirmable, no token. (The library takes code, options and payload of what it is handed, and no more.)
 const FIRST_BYTE: u8 = 0x40;
-/// The bits of the first byte that tell the length of the token.
-const TOKEN_LEN_BITS: u8 = 15;
 
 /// A request or a response, but for its type, Message ID and token, which the exchange gives it.
 ///
@@ -206,16 +204,9 @@ impl Message {
 
     /// What a datagram says. None where it is no message (see [`crate::peek`] for why).
     pub fn read(datagram: &[u8]) -> Option<Message> {
-        crate::peek(datagram).ok()?;
-        Message::read_fed(datagram)
-    }
-
-    /// What a datagram says that the library has read already.
-    pub(super) fn read_fed(datagram: &[u8]) -> Option<Message> {
-        let [first, code, ..] = *datagram else { return None };
-        let from = HEADER_LEN + usize::from(first & TOKEN_LEN_BITS);
-        let (options, payload) = Options::read(datagram.get(from..)?)?;
-        Some(Message { code: Code(code), options, payload: payload.to_vec() })
+        let (options, payload) = Options::read(datagram)?;
+        let code = Code(*datagram.get(1)?);
+        Some(Message { code, options, payload: payload.to_vec() })
     }
 
     /// The message as the library is handed it, in a room of at least 12 bytes: its length in bytes.

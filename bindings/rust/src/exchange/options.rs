@@ -1,5 +1,7 @@
 //! The options of a message, by number.
 
+use crate::raw;
+use crate::raw_exchange::{ks_option, ks_options, options_begin, options_next};
 use std::fmt;
 
 /// The number of an option (RFC 7252, section 5.10). An odd one is critical (section 5.4.6).
@@ -170,36 +172,25 @@ impl Options {
         self.0.is_empty()
     }
 
-    /// Those of a message that the library has read already, from its first byte behind the token on, and the payload.
-    pub(super) fn read(mut bytes: &[u8]) -> Option<(Options, &[u8])> {
-        let (mut options, mut number) = (Vec::new(), 0);
-        while let Some((first, rest)) = bytes.split_first() {
-            if *first == PAYLOAD_MARKER {
-                return Some((Options(options), rest));
-            }
-            let (delta, rest) = extended(first >> 4, rest)?;
-            let (len, rest) = extended(first & 15, rest)?;
-            number += delta;
-            let value = rest.get(..len)?;
-            options.push((OptionNumber(u16::try_from(number).ok()?), value.to_vec()));
-            bytes = &rest[len..];
+    /// Those of a message, as the library reads them, and its payload. None where the datagram is no message.
+    pub(super) fn read(datagram: &[u8]) -> Option<(Options, &[u8])> {
+        let mut reading = ks_options::default();
+        if options_begin(datagram, &mut reading) != raw::KS_OK {
+            return None;
         }
-        Some((Options(options), &[]))
+        // (behind the marker, where there is a payload)
+        let payload = datagram.get(reading.end + 1..).unwrap_or_default();
+        let (mut options, mut option) = (Vec::new(), ks_option::default());
+        while options_next(datagram, &mut reading, &mut option) == raw::KS_DONE {
+            let value = datagram.get(option.value_at..)?.get(..option.value_len)?;
+            options.push((OptionNumber(option.number), value.to_vec()));
+        }
+        Some((Options(options), payload))
     }
 }
 
 /// What stands between the options and the payload (RFC 7252, section 3).
 pub(super) const PAYLOAD_MARKER: u8 = 0xff;
-
-/// A delta or a length, and what is behind its further bytes (RFC 7252, section 3.1).
-fn extended(nibble: u8, rest: &[u8]) -> Option<(usize, &[u8])> {
-    match (nibble, rest) {
-        (13, [more, rest @ ..]) => Some((13 + usize::from(*more), rest)),
-        (14, [high, low, rest @ ..]) => Some((269 + usize::from(u16::from_be_bytes([*high, *low])), rest)),
-        (0..=12, _) => Some((usize::from(nibble), rest)),
-        _ => None,
-    }
-}
 
 impl fmt::Debug for Options {
     fn fmt(&self, f: &mut fmt::Formatter<'_>) -> fmt::Result {
@@ -235,7 +226,7 @@ mod tests {
     use crate::raw::{KS_DONE, KS_OK};
     use crate::raw_exchange::next_option;
 
-    /// The options of a message, as the library tells them.
+    /// The options of a message, as the library tells them one by one.
     fn told(datagram: &[u8]) -> Options {
         let (mut place, mut number, mut len, mut room) = (0, 0, 0, vec![0; datagram.len()]);
         let mut options = Options::new();
@@ -267,8 +258,11 @@ mod tests {
                 datagram.push((draw(16) as u8) << 4 | len);
                 datagram.extend((0..draw(20)).map(|_| draw(256) as u8));
             }
-            let Ok(message) = crate::peek(&datagram) else { continue };
-            let (options, payload) = Options::read(&datagram[4..]).expect("a message");
+            let Ok(message) = crate::peek(&datagram) else {
+                assert!(Options::read(&datagram).is_none(), "{datagram:02x?} is no message");
+                continue;
+            };
+            let (options, payload) = Options::read(&datagram).expect("a message");
             assert_eq!((&options, payload.len()), (&told(&datagram), message.payload_len), "{datagram:02x?}");
             messages += 1;
             most = most.max(options.len());

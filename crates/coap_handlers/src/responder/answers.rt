@@ -98,6 +98,7 @@ impl<A: Allocator + Copy, S: BuildHasher> Responder<A, S> {
         }
         self.asked = None;
         self.given = Some(asked.copy());
+        self.deferred += 1;
         Ok(())
     }
 
@@ -133,6 +134,7 @@ impl<A: Allocator + Copy, S: BuildHasher> Responder<A, S> {
                 self.asked = None;
                 self.given = Some(asked.copy());
                 self.ready = None;
+                self.deferred -= 1;
                 Ok(id)
             }
         }
