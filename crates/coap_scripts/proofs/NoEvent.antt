@@ -1,6 +1,6 @@
 -- Lines that say no event.
-use Rattle.std.proofs.Common.{◌≡◌, ◌≢◌, ◌∙◌, ◌⊎◌, inl, inr, ap, sym, refl, subst, ◌<◌, ◌≤◌, ◌+◌, ◌^◌, ℕ, List, [], ◌∷◌}
-use Rattle.std.proofs.Common.{◌++◌, Ok, Err, arith, true≢false}
+use Rattle.std.proofs.Common.{◌≡◌, ◌≢◌, ◌∙◌, ◌⊎◌, inl, inr, ap, sym, refl, subst, ◌<◌, ◌^◌, ℕ, List, [], ◌∷◌}
+use Rattle.std.proofs.Common.{◌++◌, Result, Ok, Err, IfErr, true≢false}
 use Rattle.std.specs.Prelude.{nat_eq}
 use Rattle.std.specs.Cmp.Lexicographic.{pointwise}
 use Rattle.std.proofs.lemmas.List.Elements.{All-head, All-tail}
@@ -22,6 +22,7 @@ use Rattle.coap_scripts.specs.ScriptRefusals.{of_hex, of_line}
 use Rattle.coap_scripts.specs.ScriptWords.{IsCut, IsWord, Lacks, SaysNumber, kind_word, method_word, side_word}
 use Rattle.coap_scripts.specs.declared.script.refusal.LineRefusal.{LineRefusal}
 use Rattle.coap_scripts.specs.declared.script.refusal.LineRefusal.TheVariants as line
+use Rattle.coap_scripts.specs.declared.script.refusal.ScriptRefusal.{ScriptRefusal}
 use Rattle.coap_scripts.specs.declared.script.refusal.ScriptRefusal.TheVariants as script
 use Rattle.coap_scripts.specs.declared.script.words.Kind.{Kind}
 use Rattle.coap_scripts.specs.declared.script.words.Kind.TheVariants as kind
@@ -120,19 +121,20 @@ no_port text word digits cut none port bytes small says =
     let same = cut_once 32 text says.0 says.1 word digits says.2 cut in
     none port (subst (λ w. SaysNumber w port) same.0 says.3)
 
-pub large_port : (text word digits : List ℕ) (n : ℕ) → IsCut 32 text word digits → SaysNumber word n → 2 ^ 16 ≤ n
-    → (port : ℕ) (bytes : List ℕ) → port < 2 ^ 16 → SaysPortAndBytes port bytes text → ⊥
+pub large_port : (text word digits : List ℕ) (n : ℕ) → IsCut 32 text word digits → SaysNumber word n
+    → (n < 2 ^ 16 → ⊥) → (port : ℕ) (bytes : List ℕ) → port < 2 ^ 16 → SaysPortAndBytes port bytes text → ⊥
 large_port text word digits n cut is large port bytes small says =
     let same = cut_once 32 text says.0 says.1 word digits says.2 cut in
     let said : SaysNumber word port = subst (λ w. SaysNumber w port) same.0 says.3 in
     let one : n ≡ port = sym is.1 ∙ said.1 in
-    omega (arith, one)
+    large (subst (λ m. m < 2 ^ 16) (sym one) small)
 
 pub no_bytes : (text word digits : List ℕ) (e : FromHexError) → IsCut 32 text word digits
     → (e ≡ hex.OutOfMemory) ⊎ (decode_of digits ≡ Err e) → of_hex e ≡ line.Unreadable → (port : ℕ) (bytes : List ℕ)
     → port < 2 ^ 16 → SaysPortAndBytes port bytes text → ⊥
 no_bytes text word digits e cut (inl memory) is port bytes small says =
-    absurd (search (sym (ap of_hex memory) ∙ is))
+    let apart : line.Memory ≡ line.Unreadable = sym (ap of_hex memory) ∙ is in
+    absurd cc
 no_bytes text word digits e cut (inr none) is port bytes small says =
     let same = cut_once 32 text says.0 says.1 word digits says.2 cut in
     let both : Err e ≡ Ok bytes = sym none ∙ ap decode_of (sym same.1) ∙ says.4 in
@@ -268,7 +270,45 @@ nothing_happens text word rest cut none e says =
     none e.what (begins_at text _ word rest (SaysWhat e.what) says.3 cut).1
 
 -- the line that is named is the one that can't be read
-pub of_this_line : (number n : ℕ) (e : LineRefusal) → of_line number e ≡ script.Line n
+of_this_line : (number n : ℕ) (e : LineRefusal) → of_line number e ≡ script.Line n
     → (number ≡ n) × (e ≡ line.Unreadable)
 of_this_line number n line.Unreadable is = (cc, refl)
 of_this_line number n line.Memory is = absurd cc
+
+pub named_line : {T : Type 0} (r : ScriptRefusal) (number n : ℕ) (e : LineRefusal) → r ≡ of_line number e
+    → ◌≡◌ {A = Result T ScriptRefusal} (Err r) (Err (script.Line n)) → (number ≡ n) × (e ≡ line.Unreadable)
+named_line r number n e of is =
+    let one : r ≡ script.Line n = cc in
+    of_this_line number n e (sym of ∙ one)
+
+-- the parts of a request are those of its method
+pub of_method : {T : Type 0} (r : Result T LineRefusal) (method m : Method) (text : List ℕ) → method ≡ m
+    → IfErr r (λ e. e ≡ line.Unreadable → (path : List (List ℕ)) (body : List ℕ) → SaysParts m path body text → ⊥)
+    → IfErr r (λ e. e ≡ line.Unreadable → (path : List (List ℕ)) (body : List ℕ)
+    → SaysParts method path body text → ⊥)
+of_method r method m text is h =
+    subst (λ k. IfErr r (λ e. e ≡ line.Unreadable → (path : List (List ℕ)) (body : List ℕ)
+    → SaysParts k path body text → ⊥)) (sym is) h
+
+-- ---- paths
+
+-- a word that is refused so says no path
+pub only_unreadable : (e : LineRefusal) (word : List ℕ) → e ≡ line.Unreadable
+    → (e ≡ line.Memory) ⊎ ((e ≡ line.Unreadable) × IsNoPath word) → IsNoPath word
+only_unreadable e word is (inl memory) =
+    let apart : line.Memory ≡ line.Unreadable = sym memory ∙ is in
+    absurd cc
+only_unreadable e word is (inr h) = h.1
+
+pub no_path_word : (text : List ℕ) → IsWord text → (path : List (List ℕ)) (body : List ℕ)
+    → SaysPathAndBody text path body → ⊥
+no_path_word text lacks path body says = cut_has 32 text says.0 body says.1 lacks
+
+pub no_last_word : (text : List ℕ) → (IsWord text → ⊥) → (path : List (List ℕ)) → SaysPath text path → ⊥
+no_last_word text none path says = none says.0
+
+pub path_refused : {T : Type 0} (r : Result T LineRefusal) (text word : List ℕ) → word ≡ text
+    → IfErr r (λ e. (e ≡ line.Memory) ⊎ ((e ≡ line.Unreadable) × IsNoPath word))
+    → IfErr r (λ e. e ≡ line.Unreadable → (path : List (List ℕ)) → SaysPath text path → ⊥)
+path_refused (Ok x) text word same h = tt
+path_refused (Err e) text word same h = λ is. no_last_path text word same (only_unreadable e word is h)
