@@ -1,1 +1,2 @@
 pub mod NeverSmall
+pub mod TooMany

@@ -6,8 +6,9 @@ use Rattle.coap_page.specs.declared.ended.Ended.{Ended}
 use Rattle.coap_page.specs.declared.ended.Ended.TheVariants as ended
 
 -- nothing that comes of a script does
-pub told_never_small : (ends : Ended) (text : List ℕ) → IsTold ends text → ends ≡ ended.Small → ⊥
-told_never_small ends text h is = subst (λ (e : Ended). IsTold e text) is h
+pub told_never_small : (script plains : List ℕ) (ends : Ended) (text : List ℕ) → IsTold script plains ends text
+    → ends ≡ ended.Small → ⊥
+told_never_small script plains ends text h is = subst (λ (e : Ended). IsTold script plains e text) is h
 
 -- nor what a datagram says
 pub shown_never_small : (datagram : List ℕ) (ends : Ended) (text : List ℕ) → IsShown datagram ends text

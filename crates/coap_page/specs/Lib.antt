@@ -1,3 +1,4 @@
 pub mod Endings
+pub mod Plains
 pub mod Runs
 pub mod Shows

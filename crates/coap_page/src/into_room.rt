@@ -33,9 +33,9 @@ pub fn sim_into<A: Allocator + Copy>(
     room: &mut [u8],
     used: &mut usize,
 ) -> Ended
-    // The text in the room is whole: of some legal events that ran to their end, which nothing here ties to the
-    // script, or of the first event that is not legal, or of a line that can't be read.
-    ensures told { AnswersOne IsTold room.old room.new used.new result }
+    // The text in the room is whole: where the script's own events, with these plain paths, are legal they ran to their
+    // end, and else it names the first event that is not legal, or the first line that says none.
+    ensures told { AnswersOne (IsTold script.now plains.now) room.old room.new used.new result }
     // A run has too small a room exactly where its text is longer.
     ensures small { (result ≡ endings.Small) ↔ (length room.old < used.new) }
 {

@@ -4,11 +4,11 @@
 //! memory from the allocator that it is handed, and answers how it [`Ended`].
 #![tactic(auto)]
 
+mod configured;
 mod ended;
 mod into_room;
 mod played;
 mod room;
-mod script;
 mod shown;
 mod telling;
 

@@ -1,90 +1,19 @@
 //! What comes of a script, as a text.
-ghost use Rattle.std.specs.Prelude.{◌≡◌, [], IfOk};
-ghost use Rattle.coap_page.specs.Runs.{IsConfigured, IsTold, bad_line, not_legal, page_config};
+ghost use Rattle.std.specs.Prelude.{◌≡◌, ℕ, List, IfOk, map};
+ghost use Rattle.coap_run.specs.Run.Happening.{event_of};
+ghost use Rattle.coap_scripts.specs.Script.{EachSays, lines_of};
+ghost use Rattle.coap_page.specs.Runs.{IsTold, IsToldOf, bad_line, not_legal};
 
+use crate::configured::{NoConfig, config_of};
 use crate::ended::Ended;
 use crate::into_room::Printing;
 use crate::played::play_run;
 use crate::room::{NoMemory, Told};
-use crate::script::{LineRefusal, ScriptRefusal, events_of, path};
 use coap_print::{draw_run, tell_run};
-use coap_resource::MAX_CHANGES_PER_WINDOW;
-use coap_run::{Addresses, CLIENT_END, Event, Record, RunRefusal, SERVER_END, WorldConfig, run};
-use coap_types::{MAX_SZX, Path, Szx};
+use coap_run::{Event, Record, RunRefusal, WorldConfig, run};
+use coap_scripts::{ScriptRefusal, USUAL_ENDS, events_of};
 use std::alloc::Allocator;
 use std::io;
-
-// What stands between two paths.
-const LINE_END: u8 = b'\n';
-// The word that each end begins with.
-const WORD: u64 = 0;
-
-const _: () = prove!(WORD == 0);
-
-// Where the two ends stand.
-const ENDS: Addresses = Addresses {
-    client: CLIENT_END,
-    server: SERVER_END,
-};
-
-// With what a run begins, where no path is plain.
-fn usual_config<A: Allocator + Copy>(alloc: A) -> WorldConfig<A>
-    ensures { result ≡ page_config [] }
-{
-    let szx = match Szx::new(MAX_SZX) {
-        Some(szx) => szx,
-        None => unreachable!(),
-    };
-    match WorldConfig::new(alloc, WORD, WORD, szx, szx, MAX_CHANGES_PER_WINDOW) {
-        Some(config) => config,
-        None => unreachable!(),
-    }
-}
-
-// Makes a path plain.
-fn make_plain<A: Allocator + Copy>(
-    path: &Path<A>,
-    config: &mut WorldConfig<A>,
-) -> Result<(), LineRefusal>
-    ensures { IsConfigured config.old → IsConfigured config.new }
-{
-    config.plain(path)?;
-    Ok(())
-}
-
-// With what a run begins, where these paths are plain.
-fn config_with<A: Allocator + Copy>(
-    alloc: A,
-    plains: &[Path<A>],
-) -> Result<WorldConfig<A>, LineRefusal>
-    ensures { IfOk result IsConfigured }
-{
-    let mut config = usual_config(alloc);
-    for path in plains {
-        make_plain(path, &mut config)?;
-    }
-    Ok(config)
-}
-
-// The paths of a text, a line each; none of the empty text.
-fn paths_of<A: Allocator + Copy>(alloc: A, text: &[u8]) -> Result<Vec<Path<A>, A>, LineRefusal> {
-    let mut paths = Vec::new(alloc);
-    if text.is_empty() {
-        return Ok(paths);
-    }
-    for line in text.split(|byte| *byte == LINE_END) {
-        paths.push(path(alloc, line)?)?;
-    }
-    Ok(paths)
-}
-
-// With what a run begins, where the paths of a text are plain.
-fn config_of<A: Allocator + Copy>(alloc: A, plains: &[u8]) -> Result<WorldConfig<A>, LineRefusal>
-    ensures { IfOk result IsConfigured }
-{
-    let paths = paths_of(alloc, plains)?;
-    config_with(alloc, paths.as_slice())
-}
 
 // Prints what came of a run.
 fn print_run<A: Allocator + Copy>(
@@ -95,8 +24,8 @@ fn print_run<A: Allocator + Copy>(
     text: &mut Vec<u8, A>,
 ) -> io::Result<()> {
     match printing {
-        Printing::Lines => tell_run(alloc, ENDS, events, record, text),
-        Printing::Chart => draw_run(alloc, ENDS, events, record, text),
+        Printing::Lines => tell_run(alloc, USUAL_ENDS, events, record, text),
+        Printing::Chart => draw_run(alloc, USUAL_ENDS, events, record, text),
         Printing::All => play_run(alloc, events, record, text),
     }
 }
@@ -122,8 +51,7 @@ fn run_told<A: Allocator + Copy>(
     config: &WorldConfig<A>,
     printing: Printing,
 ) -> Result<Told<A>, NoMemory>
-    requires { IsConfigured config.now }
-    ensures { IfOk result (λ told. IsTold told.ended told.text.items) }
+    ensures { IfOk result (λ told. IsToldOf config.now (map event_of events.now) told.ended told.text.items) }
 {
     match run(events, config) {
         Ok(record) => {
@@ -148,15 +76,16 @@ fn events_told<A: Allocator + Copy>(
     plains: &[u8],
     printing: Printing,
 ) -> Result<Told<A>, NoMemory>
-    ensures { IfOk result (λ told. IsTold told.ended told.text.items) }
+    ensures { (script : List ℕ) → EachSays (lines_of script) (map event_of events.now)
+        → IfOk result (λ told. IsTold script plains.now told.ended told.text.items) }
 {
     match config_of(alloc, plains) {
         Ok(config) => run_told(alloc, events, &config, printing),
-        Err(LineRefusal::Unreadable) => Ok(Told {
+        Err(NoConfig::Plains) => Ok(Told {
             ended: Ended::Words,
             text: Vec::new(alloc),
         }),
-        Err(LineRefusal::Memory) => Err(NoMemory),
+        Err(NoConfig::Memory) => Err(NoMemory),
     }
 }
 
@@ -167,7 +96,7 @@ pub(crate) fn script_told<A: Allocator + Copy>(
     plains: &[u8],
     printing: Printing,
 ) -> Result<Told<A>, NoMemory>
-    ensures { IfOk result (λ told. IsTold told.ended told.text.items) }
+    ensures { IfOk result (λ told. IsTold script.now plains.now told.ended told.text.items) }
 {
     match events_of(alloc, script) {
         Ok(events) => events_told(alloc, events.as_slice(), plains, printing),

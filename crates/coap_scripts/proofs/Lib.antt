@@ -1,4 +1,5 @@
 pub mod Facts
+pub mod NoEvent
 pub mod PathWords
 pub mod RunEnds
 pub mod ScriptLines

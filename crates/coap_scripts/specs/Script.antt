@@ -1,10 +1,14 @@
 -- What a script says: an event a line.
-use Rattle.std.specs.Prelude.{◌≡◌, ◌≢◌, [], ◌∷◌, ◌==◌, ℕ, cond, false, List, None, Some, Ok}
+use Rattle.std.specs.Prelude.{◌≡◌, ◌≢◌, ◌<◌, ◌^◌, [], ◌∷◌, ◌==◌, ◌++◌, ◌+◌, ℕ, cond, false, length, List, None, Some}
+use Rattle.std.specs.Prelude.{Ok}
 use Rattle.std.specs.List.{onto_first}
 use Rattle.hex.specs.Hex.{decode_of}
 use Rattle.coap_types.specs.declared.endpoint.Endpoint.{Endpoint}
 use Rattle.coap_types.specs.declared.request.Method.{Method}
 use Rattle.coap_types.specs.declared.request.Method.TheVariants.{Get, Post, Put, Delete}
+use Rattle.coap_types.specs.Path.{HoldsAtMost}
+use Rattle.coap_types.specs.declared.path.TheConstants.{MAX_SEGMENT_LEN as max_segment_len}
+use Rattle.coap_types.specs.declared.path.TheConstants.{MAX_SEGMENTS as max_segments}
 use Rattle.coap_client.specs.Trace.{Request}
 use Rattle.coap_record.specs.Events.{Event, What, Calls, Observes, Cancels, Forgets, Sets, Removes, TickClient}
 use Rattle.coap_record.specs.Events.{TickServer, Deliver, StrangerToClient, StrangerToServer, localhost}
@@ -15,13 +19,17 @@ use Rattle.coap_scripts.specs.ScriptWords.{IsCut, IsWord, SaysNumber, kind_word,
 use Rattle.coap_scripts.specs.declared.script.words.Kind.TheVariants as kind
 use Rattle.coap_scripts.specs.declared.usual.TheConstants.{TEXT_PLAIN as text_plain}
 
+-- the word is a path, which holds no more than a path may
+abbrev pub NamesPath : List ℕ → List (List ℕ) → Type 0
+NamesPath word path = IsPathText word path × HoldsAtMost max_segments max_segment_len path
+
 -- a path that ends the line
 abbrev pub SaysPath : List ℕ → List (List ℕ) → Type 0
-SaysPath line path = IsWord line × IsPathText line path
+SaysPath line path = IsWord line × NamesPath line path
 
 -- a word, which is a path, and the bytes behind the space after it
 abbrev pub SaysPathAndBody : List ℕ → List (List ℕ) → List ℕ → Type 0
-SaysPathAndBody line path body = (word : List ℕ) × IsCut 32 line word body × (word ≢ []) × IsPathText word path
+SaysPathAndBody line path body = (word : List ℕ) × IsCut 32 line word body × (word ≢ []) × NamesPath word path
 
 -- a request whose only option is its path
 abbrev pub plain_request : Method → List (List ℕ) → List ℕ → Request
@@ -52,10 +60,15 @@ abbrev pub SaysRequest : Request → List ℕ → Type 0
 SaysRequest r line = (method : Method) × (path : List (List ℕ)) × (body : List ℕ) × (r ≡ plain_request method path body)
     × Begins (method_word method) (SaysParts method path body) line
 
+-- a number, and bytes in hex
+abbrev pub SaysPortAndBytes : ℕ → List ℕ → List ℕ → Type 0
+SaysPortAndBytes port bytes line = (word : List ℕ) × (digits : List ℕ) × IsCut 32 line word digits × SaysNumber word port
+    × (decode_of digits ≡ Ok bytes)
+
 -- the datagram of a stranger at 127.0.0.1: to which end it comes, from which port, and its bytes in hex
 abbrev pub SaysStranger : Side → Endpoint → List ℕ → List ℕ → Type 0
-SaysStranger side from bytes line = (from.ip ≡ localhost) × Begins (side_word side) (λ rest. (port : List ℕ)
-    × (digits : List ℕ) × IsCut 32 rest port digits × SaysNumber port from.port × (decode_of digits ≡ Ok bytes)) line
+SaysStranger side from bytes line = (from.ip ≡ localhost) × (from.port < 2 ^ 16)
+    × Begins (side_word side) (SaysPortAndBytes from.port bytes) line
 
 -- what happens: its word, and what that needs
 abbrev pub SaysWhat : What → List ℕ → Type 0
@@ -81,8 +94,27 @@ abbrev pub lines_of : List ℕ → List (List ℕ)
 lines_of [] = []
 lines_of (byte ∷ bytes) = cond (byte == 10) ([] ∷ lines_of bytes) (onto_first byte (lines_of bytes))
 
+-- each of these lines says the thing of its place
+abbrev pub EachOf : {X : Type 0} → (X → List ℕ → Type 0) → List (List ℕ) → List X → Type 0
+EachOf Says [] [] = Unit {0}
+EachOf Says (line ∷ lines) (x ∷ xs) = Says x line × EachOf Says lines xs
+EachOf _ _ _ = ⊥
+
+-- the line of this number, from 1, is the first that says no such thing
+pub record IsFirstBad {X : Type 0} (Says : X → List ℕ → Type 0) (lines : List (List ℕ)) (number : ℕ) : Type 0 where
+  pub before : List (List ℕ)
+  pub line : List ℕ
+  pub behind : List (List ℕ)
+  pub said : List X
+  pub are : lines ≡ before ++ line ∷ behind
+  pub counted : number ≡ length before + 1
+  pub read : EachOf Says before said
+  pub bad : (x : X) → Says x line → ⊥
+
 -- each of these lines says the event of its place
 abbrev pub EachSays : List (List ℕ) → List Event → Type 0
-EachSays [] [] = Unit {0}
-EachSays (line ∷ lines) (e ∷ events) = SaysEvent e line × EachSays lines events
-EachSays _ _ = ⊥
+EachSays lines events = EachOf SaysEvent lines events
+
+-- the lines of the text are these paths
+abbrev pub EachNames : List (List ℕ) → List (List (List ℕ)) → Type 0
+EachNames lines paths = EachOf (λ path line. NamesPath line path) lines paths

@@ -7,7 +7,7 @@ mod sim;
 mod status;
 mod usual;
 
-pub use script::{ScriptRefusal, events_of};
+pub use script::{ScriptRefusal, events_of, paths_of};
 pub use sim::{USUAL_ENDS, sim_file, sim_to, sim_with};
 pub use status::{Status, Stop, stop_of};
 pub use usual::{TEXT_PLAIN, largest_szx, plain};

@@ -1,17 +1,19 @@
 //! A script: the events of a run as text, one a line.
 mod fields;
 mod line;
+mod paths;
 mod refusal;
 mod words;
 
-ghost use Rattle.std.specs.Prelude.{◌≡◌, ◌⊎◌, ◌≢◌, [], IfOk, map};
+ghost use Rattle.std.specs.Prelude.{◌≡◌, ◌⊎◌, ◌≢◌, [], ℕ, Err, IfOk, map};
 ghost use Rattle.coap_run.specs.Run.Happening.{event_of};
-ghost use Rattle.coap_scripts.specs.Script.{EachSays, lines_of};
+ghost use Rattle.coap_scripts.specs.Script.{EachSays, IsFirstBad, SaysEvent, lines_of};
 ghost use Rattle.coap_scripts.specs.ScriptWords.{IsCut, Lacks};
 
 use crate::script::fields::cut_at;
 use crate::script::line::event_of_line;
 use coap_run::Event;
+pub use paths::paths_of;
 pub use refusal::ScriptRefusal;
 use std::alloc::Allocator;
 
@@ -37,13 +39,17 @@ pub fn events_of<A: Allocator + Copy>(
 ) -> Result<Vec<Event<A>, A>, ScriptRefusal>
     // A script is read as the events that its lines say, one a line, and no line is left out.
     ensures said { IfOk result (λ events. EachSays (lines_of script.now) (map event_of events.items)) }
+    // The line of a script whose number is answered is the first that says no event.
+    ensures no_event { (number : ℕ) → result ≡ Err (ScriptRefusal.Line number)
+        → IsFirstBad SaysEvent (lines_of script.now) number }
 {
+    let _len = script.len();
     let mut events = Vec::new(alloc);
     let mut number: usize = 0;
     let mut left = script;
     'lines: while !left.is_empty() {
         let (line, behind) = first_line(left);
-        number = number.saturating_add(1);
+        number += 1;
         match event_of_line(alloc, line) {
             Ok(event) => events.push(event)?,
             Err(refusal) => return Err(refusal.at(number)),

@@ -1,9 +1,13 @@
 //! The event that a line says.
-ghost use Rattle.std.specs.Prelude.{IfOk};
+ghost use Rattle.std.specs.Prelude.{◌≡◌, ℕ, List, IfErr, IfOk};
+ghost use Rattle.coap_types.specs.declared.endpoint.Endpoint.{Endpoint as EndpointSpec};
+ghost use Rattle.coap_client.specs.Trace.{Request as RequestSpec};
+ghost use Rattle.coap_record.specs.Events.{Event as EventSpec, What as WhatSpec};
 ghost use Rattle.coap_client.specs.Object.CallShown.{shown_request};
 ghost use Rattle.coap_run.specs.Run.Happening.{event_of, what_of};
 ghost use Rattle.coap_scripts.specs.Script.{SaysEvent, SaysParts, SaysPath, SaysPathAndBody, SaysRequest};
 ghost use Rattle.coap_scripts.specs.Script.{SaysStranger, SaysWhat};
+ghost use Rattle.coap_run.specs.declared.running.event.Side.{Side as SideSpec};
 
 use crate::script::fields::{cut, last_word, number, path, side};
 use crate::script::refusal::LineRefusal;
@@ -25,7 +29,9 @@ pub(super) fn event_of_line<A: Allocator + Copy>(
     alloc: A,
     line: &[u8],
 ) -> Result<Event<A>, LineRefusal>
-    ensures { IfOk result (λ event. SaysEvent (event_of event) line.now) }
+    ensures said { IfOk result (λ event. SaysEvent (event_of event) line.now) }
+    ensures none { IfErr result (λ e. e ≡ LineRefusal.Unreadable
+        → (event : EventSpec) → SaysEvent event line.now → ⊥) }
 {
     let (moment, rest) = cut(line)?;
     let at = Moment(number(moment)?);
@@ -39,7 +45,8 @@ pub(super) fn event_of_line<A: Allocator + Copy>(
 
 // What happens.
 fn what<A: Allocator + Copy>(alloc: A, line: &[u8]) -> Result<What<A>, LineRefusal>
-    ensures { IfOk result (λ what. SaysWhat (what_of what) line.now) }
+    ensures said { IfOk result (λ what. SaysWhat (what_of what) line.now) }
+    ensures none { IfErr result (λ e. e ≡ LineRefusal.Unreadable → (what : WhatSpec) → SaysWhat what line.now → ⊥) }
 {
     let (word, rest) = cut(line)?;
     match kind_named(word)? {
@@ -63,7 +70,9 @@ fn what<A: Allocator + Copy>(alloc: A, line: &[u8]) -> Result<What<A>, LineRefus
 
 // A request of a call: a method, a path, and a body where the method has one.
 fn request<A: Allocator + Copy>(alloc: A, line: &[u8]) -> Result<Request<A>, LineRefusal>
-    ensures { IfOk result (λ request. SaysRequest (shown_request request) line.now) }
+    ensures said { IfOk result (λ request. SaysRequest (shown_request request) line.now) }
+    ensures none { IfErr result (λ e. e ≡ LineRefusal.Unreadable
+        → (request : RequestSpec) → SaysRequest request line.now → ⊥) }
 {
     let (word, rest) = cut(line)?;
     let method = method_named(word)?;
@@ -77,7 +86,9 @@ fn request_parts<A: Allocator + Copy>(
     method: Method,
     line: &[u8],
 ) -> Result<(Path<A>, Bytes<A>), LineRefusal>
-    ensures { IfOk result (λ parts. SaysParts method parts.0 parts.1 line.now) }
+    ensures said { IfOk result (λ parts. SaysParts method parts.0 parts.1 line.now) }
+    ensures none { IfErr result (λ e. e ≡ LineRefusal.Unreadable
+        → (path : List (List ℕ)) (body : List ℕ) → SaysParts method path body line.now → ⊥) }
 {
     match method {
         Method::Get => Ok((last_path(alloc, line)?, Bytes::new())),
@@ -89,7 +100,9 @@ fn request_parts<A: Allocator + Copy>(
 
 // A path that ends a line.
 fn last_path<A: Allocator + Copy>(alloc: A, line: &[u8]) -> Result<Path<A>, LineRefusal>
-    ensures { IfOk result (λ path. SaysPath line.now path) }
+    ensures said { IfOk result (λ path. SaysPath line.now path) }
+    ensures none { IfErr result (λ e. e ≡ LineRefusal.Unreadable
+        → (path : List (List ℕ)) → SaysPath line.now path → ⊥) }
 {
     path(alloc, last_word(line)?)
 }
@@ -99,7 +112,9 @@ fn path_and_body<A: Allocator + Copy>(
     alloc: A,
     line: &[u8],
 ) -> Result<(Path<A>, Bytes<A>), LineRefusal>
-    ensures { IfOk result (λ parts. SaysPathAndBody line.now parts.0 parts.1) }
+    ensures said { IfOk result (λ parts. SaysPathAndBody line.now parts.0 parts.1) }
+    ensures none { IfErr result (λ e. e ≡ LineRefusal.Unreadable
+        → (path : List (List ℕ)) (body : List ℕ) → SaysPathAndBody line.now path body → ⊥) }
 {
     let (word, body) = cut(line)?;
     if word.is_empty() {
@@ -114,7 +129,9 @@ fn stranger<A: Allocator + Copy>(
     alloc: A,
     line: &[u8],
 ) -> Result<(Side, Endpoint, Bytes<A>), LineRefusal>
-    ensures { IfOk result (λ it. SaysStranger it.0 it.1 it.2 line.now) }
+    ensures said { IfOk result (λ it. SaysStranger it.0 it.1 it.2 line.now) }
+    ensures none { IfErr result (λ e. e ≡ LineRefusal.Unreadable
+        → (side : SideSpec) (from : EndpointSpec) (bytes : List ℕ) → SaysStranger side from bytes line.now → ⊥) }
 {
     let (end, rest) = cut(line)?;
     let side = side(end)?;

@@ -1,5 +1,4 @@
-use Rattle.std.proofs.Common.{rules, arith, map}
-use Rattle.coap_run.specs.Run.Happening.{event_of}
+use Rattle.std.proofs.Common.{rules, arith}
 use Rattle.coap_page.proofs.telling.run_told.Goals as goal
 
 pub returns-in_ok-text-in-Err-NotLegal : goal.returns-in_ok-text-in-Err-NotLegal
@@ -7,10 +6,5 @@ returns-in_ok-text-in-Err-NotLegal g c =
     let e = c.in-Err-NotLegal in (
       e.number,
       search rules,
-      (
-        c.args.config.now,
-        c.requires,
-        map event_of c.args.events.now,
-        first_of (search (rules, e.ensures.wrong, c.run.ensures.wrong), grind (arith, c.run.ensures.wrong)),
-      ),
+      first_of (search (rules, e.ensures.wrong, c.run.ensures.wrong), grind (arith, c.run.ensures.wrong)),
     )
