@@ -1,12 +1,16 @@
 pub mod Asked
 pub mod Asks
 pub mod Bearing
+pub mod Captured
+pub mod Capturing
 pub mod Dumps
 pub mod Ends
+pub mod JsonLines
 pub mod Observes
 pub mod Pairs
 pub mod Polls
 pub mod Progress
+pub mod ScriptSettings
 pub mod Served
 pub mod Serves
 pub mod SettingUp
