@@ -6,6 +6,7 @@ pub mod Capturing
 pub mod Dumps
 pub mod Ends
 pub mod JsonLines
+pub mod JsonValues
 pub mod Observes
 pub mod Pairs
 pub mod Polls

@@ -1,8 +1,7 @@
 //! `dump --pcap`: the datagrams of a capture in words.
-ghost use Rattle.std.specs.Prelude.{◌≡◌, ◌↔◌, ℕ, List, true, false, IfOk, map, Ok, Err};
+ghost use Rattle.std.specs.Prelude.{◌≡◌, ℕ, List, true, false, IfOk, map};
 ghost use Rattle.coap_pcap.specs.Files.{seen};
-ghost use Rattle.coap_commands.specs.Captured.{AllSpell, IsCaptureStatus, IsSpelled};
-ghost use Rattle.coap_commands.specs.Statuses.{IsOfScript};
+ghost use Rattle.coap_commands.specs.Captured.{IsCaptureStatus, IsPacketsStatus, IsSpelled};
 ghost use Rattle.coap_scripts.specs.declared.status.Status.TheVariants as statuses;
 
 use crate::captured_chart::draw_packets;
@@ -118,7 +117,7 @@ pub(crate) fn dump_capture<R: AllocGlobal + Files, W: Write>(
     chart: bool,
     out: &mut W,
 ) -> Result<Status, Stop>
-    ensures { IfOk result IsOfScript }
+    ensures { IfOk result (λ status. (bytes : List ℕ) × IsCaptureStatus bytes status) }
 {
     let mut bytes = Vec::new(rt.alloc());
     match fs::open(rt, name) {

@@ -3,12 +3,13 @@
 //! How a run of the program ends stands here too, for all subcommands.
 #![tactic(auto)]
 
+mod capture;
 mod script;
 mod sim;
 mod status;
 mod usual;
 
 pub use script::{ScriptRefusal, Setting, events_of, settings_of};
-pub use sim::{USUAL_ENDS, sim_file, sim_to, sim_with};
+pub use sim::{USUAL_ENDS, sim_captured, sim_file, sim_to, sim_with};
 pub use status::{Status, Stop, stop_of};
 pub use usual::{TEXT_PLAIN, largest_szx, plain};
