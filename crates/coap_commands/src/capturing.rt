@@ -155,7 +155,10 @@ impl<P: Standing, A: Allocator + Copy, T: Timekeeper, W: Write> CaptureTeller<P,
         let Some(addresses) = self.standing.addresses(way, peer) else {
             return Err(io::Error::from(ErrorKind::AddrNotAvailable));
         };
-        record_bytes(self.alloc, at, &addresses, bytes).map_err(error_of)
+        match record_bytes(self.alloc, at, &addresses, bytes) {
+            Ok(record) => Ok(record),
+            Err(error) => Err(error_of(error)),
+        }
     }
 }
 
