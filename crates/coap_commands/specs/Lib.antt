@@ -2,9 +2,11 @@ pub mod Asked
 pub mod Asks
 pub mod Bearing
 pub mod Dumps
+pub mod Discovers
 pub mod Ends
 pub mod Observes
 pub mod Pairs
+pub mod Pinged
 pub mod Polls
 pub mod Progress
 pub mod Served
@@ -15,3 +17,4 @@ pub mod Tasks
 pub mod Terms
 pub mod ToldChanges
 pub mod Waiting
+pub mod Watches
