@@ -10,6 +10,7 @@ ghost use Rattle.coap_arguments.specs.declared.orders.Wrong.TheVariants as wrong
 
 use crate::answer::answer;
 use crate::asking::ask;
+use crate::captured::dump_capture;
 use crate::dump::dump;
 use crate::pair::pair;
 use crate::put_away::put_away;
@@ -40,6 +41,7 @@ fn perform<R: AllocGlobal + Files + Net + Clock + RandomSource, O: Write, E: Wri
         Order::Version => version(out),
         Order::Show { datagram } => show(alloc, datagram.as_slice(), out),
         Order::Dump => dump(rt, out),
+        Order::DumpCapture { file, chart } => dump_capture(rt, file, *chart, out),
         Order::Answer {
             path,
             body,
@@ -56,7 +58,9 @@ fn perform<R: AllocGlobal + Files + Net + Clock + RandomSource, O: Write, E: Wri
             port,
             count,
             options,
-        } => serve(rt, *port, *count, options, out, err),
+            script,
+            pcap,
+        } => serve(rt, *port, *count, options, *script, *pcap, out, err),
         Order::Ask {
             port,
             path,
@@ -71,13 +75,24 @@ fn perform<R: AllocGlobal + Files + Net + Clock + RandomSource, O: Write, E: Wri
             chart,
             client,
             server,
+            pcap,
         } => {
             let ends = Addresses {
                 client: *client,
                 server: *server,
             };
             let plains = plains.as_slice();
-            sim_file(rt, file, *store, plains, *remembered, ends, *chart, out)
+            sim_file(
+                rt,
+                file,
+                *store,
+                plains,
+                *remembered,
+                ends,
+                *chart,
+                *pcap,
+                out,
+            )
         }
     }
 }

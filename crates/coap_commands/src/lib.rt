@@ -10,12 +10,16 @@ mod ask;
 mod asking;
 mod bearing;
 mod calling;
+mod captured;
+mod captured_chart;
+mod capturing;
 mod changes;
 mod closed_port;
 mod connection;
 mod driver;
 mod dump;
 mod ends;
+mod json_lines;
 mod observe;
 mod pair;
 mod patience;
@@ -25,6 +29,7 @@ mod put_away;
 mod request;
 mod screen;
 mod serve;
+mod serve_script;
 mod setting_up;
 mod show;
 mod side;
@@ -36,6 +41,8 @@ mod word;
 
 pub use ask::ask_over;
 pub use calling::{Outcome, call, get_request, put_request};
+pub use captured::show_capture;
+pub use capturing::{CaptureTeller, FourStanding, SixStanding, Standing, write_head};
 pub use changes::{
     Applies, ChangeLines, ChangeTeller, ChangeWords, MAX_TOLD_LEN, TellingEnd, changes_on,
 };
@@ -48,6 +55,7 @@ pub use connection::{Connection, Terms};
 pub use driver::{close, command, command_on, refuse, without_words};
 pub use dump::{dump_line, dump_to};
 pub use ends::{fresh_client, fresh_server, hold};
+pub use json_lines::{write_outcome, write_report};
 pub use observe::observe_over;
 pub use pair::pair_over;
 pub use patience::{
@@ -58,6 +66,7 @@ pub use progress::{Progress, ProgressTeller, SHOWN_MS, progress_of, progress_on}
 pub use request::{body_of, request_of};
 pub use screen::{BesideScreen, Screen, erase};
 pub use serve::serve_over;
+pub use serve_script::{BadLine, limit_by, make_all, script_in};
 pub use setting_up::{hold_resource, server_by, set_up};
 pub use timekeeper::{ProgramTime, Timekeeper};
 pub use tracing::{LineTeller, SharedWriter, teller_on};

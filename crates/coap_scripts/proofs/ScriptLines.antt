@@ -1,12 +1,11 @@
--- The lines of a script, and the events that they say.
+-- The lines of a script, and what they say.
 use Rattle.std.proofs.Common.{◌≡◌, ◌≢◌, ◌⊎◌, inl, inr, ◌∙◌, ap, sym, refl, subst, ℕ, Bool, true, false}
-use Rattle.std.proofs.Common.{cond, List, [], ◌∷◌, ◌++◌, length, map, arith, eqb}
+use Rattle.std.proofs.Common.{cond, List, [], ◌∷◌, ◌++◌, length, map, arith, eqb, suc}
 use Rattle.std.specs.List.{onto_first}
 use Rattle.std.proofs.lemmas.List.Elements.{All-head, All-tail}
 use Rattle.std.proofs.lemmas.Bool.Decides.{nat_tests}
 use Rattle.std.proofs.lemmas.List.{append-nil, append_assoc, map-append}
-use Rattle.coap_record.specs.Events.{Event}
-use Rattle.coap_scripts.specs.Script.{EachSays, SaysEvent, lines_of}
+use Rattle.coap_scripts.specs.Script.{EachOf, lines_of}
 use Rattle.coap_scripts.specs.ScriptWords.{IsCut, Lacks}
 
 no_end : (b : ℕ) → b ≢ 10 → eqb b 10 ≡ false
@@ -48,34 +47,43 @@ none_left [] b is e = refl
 none_left (x ∷ xs) b is e = let z : length (x ∷ xs) ≡ 0 = zero_is (length (x ∷ xs)) (sym is ∙ e) in
     absurd (omega (arith, z))
 
--- a line more, and its event
-pub one_more : (lines : List (List ℕ)) (events : List Event) (line : List ℕ) (e : Event) → EachSays lines events
-    → SaysEvent e line → EachSays (lines ++ line ∷ []) (events ++ e ∷ [])
-one_more [] [] line e h says = (says, tt)
-one_more (l ∷ lines) (x ∷ events) line e h says = (h.0, one_more lines events line e h.1 says)
-one_more [] (x ∷ events) line e h says = absurd h
-one_more (l ∷ lines) [] line e h says = absurd h
+-- What is read so far is what the lines before it say, where each line says such a thing.
+module _ {Y : Type 0} (Says : Y → List ℕ → Type 0) where
+  -- a line more, and what it says
+  pub one_more : (lines : List (List ℕ)) (ys : List Y) (line : List ℕ) (y : Y) → EachOf Says lines ys → Says y line
+      → EachOf Says (lines ++ line ∷ []) (ys ++ y ∷ [])
+  one_more [] [] line y h says = (says, tt)
+  one_more (l ∷ lines) (x ∷ ys) line y h says = (h.0, one_more lines ys line y h.1 says)
+  one_more [] (x ∷ ys) line y h says = absurd h
+  one_more (l ∷ lines) [] line y h says = absurd h
 
--- What is read so far is what the lines before it say.
+  -- as many lines as things
+  pub as_many : (lines : List (List ℕ)) (ys : List Y) → EachOf Says lines ys → length lines ≡ length ys
+  as_many [] [] h = refl
+  as_many (l ∷ lines) (y ∷ ys) h = ap suc (as_many lines ys h.1)
+  as_many [] (y ∷ ys) h = absurd h
+  as_many (l ∷ lines) [] h = absurd h
 
-abbrev pub Reads : {X : Type 0} → (X → Event) → (script left : List ℕ) → List X → Type 0
-Reads event script left xs = (done : List (List ℕ)) × (done ++ lines_of left ≡ lines_of script)
-    × EachSays done (map event xs)
+module _ {X Y : Type 0} (Says : Y → List ℕ → Type 0) (view : X → Y) (script : List ℕ) where
+  pub record Reads (left : List ℕ) (xs : List X) : Type 0 where
+    pub done : List (List ℕ)
+    pub joined : done ++ lines_of left ≡ lines_of script
+    pub says : EachOf Says done (map view xs)
 
-module _ {X : Type 0} (event : X → Event) (script : List ℕ) where
   pub reads_on :
       (left line behind : List ℕ) (xs ys : List X) (x : X) → left ≢ [] → IsFirst left line behind
-      → SaysEvent (event x) line → ys ≡ xs ++ x ∷ [] → Reads event script left xs → Reads event script behind ys
-  reads_on left line behind xs ys x some first says are so = (
-    so.0 ++ line ∷ [],
-    append_assoc so.0 (line ∷ []) (lines_of behind)
-        ∙ ap (λ ls. so.0 ++ ls) (sym (first_line left line behind some first)) ∙ so.1,
-    subst (EachSays (so.0 ++ line ∷ [])) (sym (ap (map event) are ∙ map-append event xs (x ∷ [])))
-        (one_more so.0 (map event xs) line (event x) so.2 says),
-  )
+      → Says (view x) line → ys ≡ xs ++ x ∷ [] → Reads left xs → Reads behind ys
+  reads_on left line behind xs ys x some first says are so = record {
+    done = so.done ++ line ∷ [];
+    joined = append_assoc so.done (line ∷ []) (lines_of behind)
+        ∙ ap (λ ls. so.done ++ ls) (sym (first_line left line behind some first)) ∙ so.joined;
+    says = subst (EachOf Says (so.done ++ line ∷ [])) (sym (ap (map view) are ∙ map-append view xs (x ∷ [])))
+        (one_more Says so.done (map view xs) line (view x) so.says says);
+  }
 
-  pub reads_all : (left : List ℕ) (xs : List X) → left ≡ [] → Reads event script left xs
-      → EachSays (lines_of script) (map event xs)
+  pub reads_all : (left : List ℕ) (xs : List X) → left ≡ [] → Reads left xs
+      → EachOf Says (lines_of script) (map view xs)
   reads_all left xs none so =
-      subst (λ ls. EachSays ls (map event xs)) (sym (append-nil so.0) ∙ ap (λ t. so.0 ++ lines_of t) (sym none) ∙ so.1)
-      so.2
+      subst (λ ls. EachOf Says ls (map view xs))
+      (sym (append-nil so.done) ∙ ap (λ t. so.done ++ lines_of t) (sym none) ∙ so.joined)
+      so.says

@@ -81,8 +81,12 @@ abbrev pub lines_of : List ℕ → List (List ℕ)
 lines_of [] = []
 lines_of (byte ∷ bytes) = cond (byte == 10) ([] ∷ lines_of bytes) (onto_first byte (lines_of bytes))
 
+-- each of these lines says the thing of its place
+abbrev pub EachOf : {X : Type 0} → (X → List ℕ → Type 0) → List (List ℕ) → List X → Type 0
+EachOf Says [] [] = Unit {0}
+EachOf Says (line ∷ lines) (x ∷ xs) = Says x line × EachOf Says lines xs
+EachOf _ _ _ = ⊥
+
 -- each of these lines says the event of its place
 abbrev pub EachSays : List (List ℕ) → List Event → Type 0
-EachSays [] [] = Unit {0}
-EachSays (line ∷ lines) (e ∷ events) = SaysEvent e line × EachSays lines events
-EachSays _ _ = ⊥
+EachSays lines events = EachOf SaysEvent lines events

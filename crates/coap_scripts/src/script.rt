@@ -1,7 +1,10 @@
-//! A script: the events of a run as text, one a line.
+//! Scripts: the events of a run, or how a server is set up, as text, one a line.
 mod fields;
 mod line;
 mod refusal;
+mod setting_line;
+mod setting_words;
+mod settings;
 mod words;
 
 ghost use Rattle.std.specs.Prelude.{◌≡◌, ◌⊎◌, ◌≢◌, [], IfOk, map};
@@ -13,6 +16,7 @@ use crate::script::fields::cut_at;
 use crate::script::line::event_of_line;
 use coap_run::Event;
 pub use refusal::ScriptRefusal;
+pub use settings::{Setting, settings_of};
 use std::alloc::Allocator;
 
 // What ends a line.
