@@ -20,9 +20,11 @@ mod driver;
 mod dump;
 mod ends;
 mod json_lines;
+mod link_source;
 mod observe;
 mod pair;
 mod patience;
+mod pinging;
 mod polling;
 mod progress;
 mod put_away;
@@ -37,6 +39,7 @@ mod timekeeper;
 mod tracing;
 mod version;
 mod waiting;
+mod watching;
 mod word;
 
 pub use ask::ask_over;
@@ -56,11 +59,13 @@ pub use driver::{close, command, command_on, refuse, without_words};
 pub use dump::{dump_line, dump_to};
 pub use ends::{fresh_client, fresh_server, hold};
 pub use json_lines::{write_outcome, write_report};
+pub use link_source::LinkSource;
 pub use observe::observe_over;
 pub use pair::pair_over;
 pub use patience::{
     LONG_WAIT, MAX_TRANSMIT_WAIT, Patience, PatientLink, latest_end, patience_on, patient_link_law,
 };
+pub use pinging::{PING_PERIOD_MS, Pinging, ping_over};
 pub use polling::{Polling, poll_over};
 pub use progress::{Progress, ProgressTeller, SHOWN_MS, progress_of, progress_on};
 pub use request::{body_of, request_of};
@@ -70,3 +75,4 @@ pub use serve_script::{BadLine, limit_by, make_all, script_in};
 pub use setting_up::{hold_resource, server_by, set_up};
 pub use timekeeper::{ProgramTime, Timekeeper};
 pub use tracing::{LineTeller, SharedWriter, teller_on};
+pub use watching::{Watching, watch_over};

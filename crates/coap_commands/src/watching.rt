@@ -22,7 +22,8 @@ use crate::calling::{Outcome, outcome_text};
 use crate::connection::{Connection, Terms};
 use crate::ends::fresh_client;
 use crate::link_source::LinkSource;
-use crate::observe::{is_over, print_value, register};
+use crate::json_lines::write_outcome;
+use crate::observe::{Form, is_over, print_value, register};
 use crate::put_away::put_away;
 use crate::timekeeper::Timekeeper;
 use crate::waiting::passed;
@@ -98,7 +99,7 @@ fn last_report<H: BuildHasher, W: Write>(
         return Ok(None);
     };
     let is_over = is_over(options, heard.since, heard.values, now);
-    if print_value(alloc, &report, is_over, options.hex, out)? {
+    if print_value(alloc, &report, is_over, Form::of(options, now), out)? {
         count(heard, now)?;
         return Ok(None);
     }
@@ -305,20 +306,41 @@ fn verdict_of(outcome: &Outcome, is_over: bool) -> Option<Status>
     }
 }
 
-// Says how a registration was left, and whether the path is observed anew.
-fn tell<E: Write>(
+// Says how a registration was left, and that the path is observed anew.
+fn say_anew<E: Write>(
     alloc: Global,
     left: &Left,
     again: u64,
-    is_last: bool,
     err: &mut E,
 ) -> Result<(), Stop> {
     let text = match left {
         Left::Silent => format!(in alloc; "no value in {again} s")?,
         Left::Ended(outcome) => outcome_text(alloc, outcome)?,
     };
-    let more = if is_last { "" } else { "; observing anew" };
-    let _ = writeln!(err, "{text}{more}");
+    let _ = writeln!(err, "{text}; observing anew");
+    Ok(())
+}
+
+// Tells how the last registration was left: in JSON where that is wanted.
+fn tell_last<T: Timekeeper, O: Write, E: Write>(
+    alloc: Global,
+    left: &Left,
+    is_json: bool,
+    time: &mut T,
+    out: &mut O,
+    err: &mut E,
+) -> Result<(), Stop> {
+    match left {
+        Left::Silent => {}
+        Left::Ended(outcome) if is_json => {
+            let at = time.now()?;
+            write_outcome(alloc, at, outcome, out)?;
+        }
+        Left::Ended(outcome) => {
+            let text = outcome_text(alloc, outcome)?;
+            let _ = writeln!(err, "{text}");
+        }
+    }
     Ok(())
 }
 
@@ -371,8 +393,19 @@ fn observed_and_told<H: BuildHasher + Drop, L: Link, T: Timekeeper, E: Write, W:
     let now = connection.time.now()?;
     let is_over = is_over(watching.options, heard.since, heard.values, now);
     let verdict = verdict(&left, is_over);
-    tell(alloc, &left, watching.again, verdict.is_some(), connection.err)?;
+    let told = match verdict {
+        Some(_) => tell_last(
+            alloc,
+            &left,
+            watching.options.json,
+            connection.time,
+            out,
+            connection.err,
+        ),
+        None => say_anew(alloc, &left, watching.again, connection.err),
+    };
     put_away(left);
+    told?;
     if verdict.is_none() {
         let next = pause(connection.link, connection.time, begin, watching.again)?;
         heard.last = next;
