@@ -1,27 +1,28 @@
 -- What the words of a subcommand ask of a server.
-use Rattle.std.specs.Prelude.{ℕ, Bool, ◌↔◌, IsTrue, List, ◌≡◌, ◌⊎◌, ◌<◌, ◌≤◌, Option, Some, None, Ok}
+use Rattle.std.specs.Prelude.{ℕ, Bool, ◌↔◌, IsTrue, List, [], ◌≡◌, ◌≢◌, ◌⊎◌, ◌<◌, ◌≤◌, Option, Some, None, Ok}
 use Rattle.std.specs.Prelude.{codes, length}
-use Rattle.std.specs.declared.net.ipv4_addr.Ipv4Addr.{Ipv4Addr}
+use Rattle.std.specs.Borrow.{Bor}
 use Rattle.clap.specs.Words.{Row, Text, first_of}
+use Rattle.coap_paths.specs.Uris.{named}
 use Rattle.coap_types.specs.declared.tag.TheConstants.{MAX_TAG_LEN as max_tag_len, MAX_TAGS as max_tags}
 use Rattle.hex.specs.Hex.{decode_of}
 use Rattle.coap_arguments.specs.Numbers.{argument_of}
 use Rattle.coap_arguments.specs.Sizes.{HasSize}
 use Rattle.coap_arguments.specs.Texts.{AreTexts, SomeSaysNone, texts_of}
-use Rattle.coap_arguments.specs.Uris.{IsUri}
+use Rattle.coap_arguments.specs.Together.{GoObserved, GoTogether}
+use Rattle.coap_arguments.specs.Uris.{IsUri, path_text}
 use Rattle.coap_arguments.specs.Values.{HasLimit, HasNumber, HasRemembered, HasWord, IsValue}
 use Rattle.coap_arguments.specs.declared.refusals.BesideRefusal.{BesideRefusal}
 use Rattle.coap_arguments.specs.declared.refusals.BesideRefusal.TheVariants as beside
 use Rattle.coap_arguments.specs.declared.orders.AskOptions.{AskOptions}
 use Rattle.coap_arguments.specs.declared.orders.Content.{Content}
 use Rattle.coap_arguments.specs.declared.orders.Content.TheVariants as content
+use Rattle.coap_arguments.specs.declared.orders.PingOptions.{PingOptions}
 use Rattle.coap_arguments.specs.declared.refusals.NumberRefusal.{NumberRefusal}
 use Rattle.coap_arguments.specs.declared.refusals.NumberRefusal.TheVariants.{Format, Accept, Times, Seconds, GiveUp}
-use Rattle.coap_arguments.specs.declared.refusals.NumberRefusal.TheVariants.{Every}
+use Rattle.coap_arguments.specs.declared.refusals.NumberRefusal.TheVariants.{Every, Again}
 use Rattle.coap_arguments.specs.declared.refusals.TagsRefusal.{TagsRefusal}
 use Rattle.coap_arguments.specs.declared.refusals.TagsRefusal.TheVariants.{Etag, IfMatch}
-use Rattle.coap_arguments.specs.declared.refusals.TogetherRefusal.{TogetherRefusal}
-use Rattle.coap_arguments.specs.declared.refusals.TogetherRefusal.TheVariants as together
 use Rattle.coap_arguments.specs.declared.orders.What.{What}
 use Rattle.coap_arguments.specs.declared.orders.What.TheVariants.{Get, Put, Post, Delete, Observe}
 use Rattle.coap_arguments.specs.declared.orders.WordChoice.TheVariants.{Random}
@@ -39,6 +40,18 @@ AsksChange subcommand = (subcommand ≡ codes "delete") ⊎ SendsBody subcommand
 -- it asks something of a server
 abbrev pub IsAsk : Text → Type 0
 IsAsk subcommand = (subcommand ≡ codes "get") ⊎ ((subcommand ≡ codes "observe") ⊎ AsksChange subcommand)
+
+-- it makes a client
+abbrev pub MakesClient : Text → Type 0
+MakesClient subcommand = (subcommand ≡ codes "discover") ⊎ IsAsk subcommand
+
+-- it names a server
+abbrev pub NamesServer : Text → Type 0
+NamesServer subcommand = (subcommand ≡ codes "ping") ⊎ MakesClient subcommand
+
+-- it asks the server itself, and not for a resource that the words name
+abbrev pub AsksServer : Text → Type 0
+AsksServer subcommand = (subcommand ≡ codes "ping") ⊎ (subcommand ≡ codes "discover")
 
 -- ---- of which server: by PORT and PATH, or by a URI in the place of both
 
@@ -64,6 +77,8 @@ abbrev pub IsWrongBeside : BesideRefusal → Text → List Row → Type 0
 IsWrongBeside beside.Word subcommand values =
     (word : Text) × IsSpareWord subcommand word × (text : Text) × IsValue word values text
 IsWrongBeside beside.Host subcommand values = (text : Text) × IsValue (codes "host") values text
+IsWrongBeside beside.Path subcommand values = AsksServer subcommand × (text rest : Text) × HasUri values text rest
+    × (named (path_text rest) ≢ [])
 
 -- ---- the body: a word, or what the file of this name holds, where the other is left out
 
@@ -81,19 +96,7 @@ abbrev pub HasNoContent : Text → List Row → Type 0
 HasNoContent word values = ((first_of word values ≡ None) × (first_of (codes "file") values ≡ None))
     ⊎ ((body : Text) × (name : Text) × IsValue word values body × IsValue (codes "file") values name)
 
--- ---- a body that is asked for again and again
-
--- `--count` goes with `--every`, and `--etag` does not
-abbrev pub GoTogether : List Row → Type 0
-GoTogether values = ((first_of (codes "every") values ≡ None) × (first_of (codes "count") values ≡ None))
-    ⊎ ((every : Text) × IsValue (codes "every") values every × (first_of (codes "etag") values ≡ None))
-
--- this is there which does not go with what else is there, or is not
-abbrev pub AreApart : TogetherRefusal → List Row → Type 0
-AreApart together.Count values = (first_of (codes "every") values ≡ None)
-    × (count : Text) × IsValue (codes "count") values count
-AreApart together.Etag values = (every : Text) × (etag : Text) × IsValue (codes "every") values every
-    × IsValue (codes "etag") values etag
+-- ---- what is asked for
 
 -- what the subcommand with these values asks for, where the body may be this word
 abbrev pub IsWhat : Text → Text → List Row → What → Type 0
@@ -101,7 +104,7 @@ IsWhat word subcommand values Get = (subcommand ≡ codes "get") × GoTogether v
 IsWhat word subcommand values (Put content) = (subcommand ≡ codes "put") × HasContent word values content
 IsWhat word subcommand values (Post content) = (subcommand ≡ codes "post") × HasContent word values content
 IsWhat word subcommand values Delete = subcommand ≡ codes "delete"
-IsWhat word subcommand values Observe = subcommand ≡ codes "observe"
+IsWhat word subcommand values Observe = (subcommand ≡ codes "observe") × GoObserved values
 
 -- ---- entity-tags (RFC 7252, section 5.10.6)
 
@@ -137,9 +140,13 @@ HasOptionalNumber argument values (Some n) = HasNumber argument values n
 abbrev pub HasFlag : Text → List Row → Bool → Type 0
 HasFlag name values set = IsTrue set ↔ IsValue name values (codes "true")
 
--- the server is at this address; the word where none is given is a random one
-pub record HasOptions (host : Ipv4Addr) (values : List Row) (options : AskOptions) : Type 0 where
-  pub server : options.host ≡ host
+-- a file is named, or none is
+abbrev pub HasFile : Text → List Row → Option (Bor Text) → Type 0
+HasFile name values None = first_of name values ≡ None
+HasFile name values (Some file) = IsValue name values file.now
+
+-- the word where none is given is a random one
+pub record HasOptions (values : List Row) (options : AskOptions) : Type 0 where
   pub size : HasSize values options.size
   pub trace : HasFlag (codes "trace") values options.trace
   pub format : HasOptionalNumber Format values options.format
@@ -150,8 +157,16 @@ pub record HasOptions (host : Ipv4Addr) (values : List Row) (options : AskOption
   pub every : HasOptionalNumber Every values options.every
   pub times : HasOptionalNumber Times values options.times
   pub seconds : HasOptionalNumber Seconds values options.seconds
+  pub again : HasOptionalNumber Again values options.again
   pub hex : HasFlag (codes "hex") values options.hex
+  pub json : HasFlag (codes "json") values options.json
   pub give_up : HasOptionalNumber GiveUp values options.give_up
   pub word : HasWord Random values options.word
   pub limit : HasLimit values options.limit
   pub remembered : HasRemembered values options.remembered
+
+pub record HasPingOptions (values : List Row) (options : PingOptions) : Type 0 where
+  pub times : HasOptionalNumber Times values options.times
+  pub give_up : HasOptionalNumber GiveUp values options.give_up
+  pub trace : HasFlag (codes "trace") values options.trace
+  pub json : HasFlag (codes "json") values options.json

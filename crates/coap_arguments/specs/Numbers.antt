@@ -10,8 +10,8 @@ use Rattle.coap_arguments.specs.declared.orders.TheConstants.{FOREVER as forever
 use Rattle.coap_arguments.specs.declared.refusals.NumberRefusal.{NumberRefusal}
 use Rattle.coap_arguments.specs.declared.refusals.NumberRefusal.TheVariants.{Port, Count, Limit, Remember, Format}
 use Rattle.coap_arguments.specs.declared.refusals.NumberRefusal.TheVariants.{Accept, Times, Seconds, GiveUp, Every}
-use Rattle.coap_arguments.specs.declared.refusals.NumberRefusal.TheVariants.{ServerPort}
-use Rattle.coap_arguments.specs.Uris.{IsPortText, IsUri, port_text}
+use Rattle.coap_arguments.specs.declared.refusals.NumberRefusal.TheVariants.{Again, ServerPort}
+use Rattle.coap_arguments.specs.Uris.{IsPortText, IsUri, authority_of, port_text}
 
 -- the text says this number
 abbrev pub IsNumber : Text → ℕ → Type 0
@@ -30,7 +30,8 @@ IsWordFor Times text n = ⊥
 IsWordFor Seconds text n = ⊥
 IsWordFor GiveUp text n = ⊥
 IsWordFor Every text n = ⊥
-IsWordFor ServerPort text n = (rest : Text) × IsUri text rest × IsPortText (port_text rest) n
+IsWordFor Again text n = ⊥
+IsWordFor ServerPort text n = (rest : Text) × IsUri text rest × IsPortText (port_text (authority_of rest)) n
 
 -- the text says this number of the argument
 abbrev pub SaysNumber : NumberRefusal → Text → ℕ → Type 0
@@ -48,6 +49,7 @@ argument_of Times = codes "count"
 argument_of Seconds = codes "seconds"
 argument_of GiveUp = codes "give-up"
 argument_of Every = codes "every"
+argument_of Again = codes "again"
 argument_of ServerPort = codes "PORT|URI"
 
 abbrev pub least_of : NumberRefusal → ℕ
@@ -61,6 +63,7 @@ least_of Times = 0
 least_of Seconds = 0
 least_of GiveUp = 0
 least_of Every = 1
+least_of Again = 1
 least_of ServerPort = 0
 
 abbrev pub most_of : NumberRefusal → ℕ
@@ -74,6 +77,7 @@ most_of Times = 2 ^ 64 - 1
 most_of Seconds = 2 ^ 64 - 1
 most_of GiveUp = 2 ^ 64 - 1
 most_of Every = 2 ^ 64 - 1
+most_of Again = 2 ^ 64 - 1
 most_of ServerPort = 2 ^ 16 - 1
 
 -- the text says a number in range

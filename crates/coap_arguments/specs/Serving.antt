@@ -1,4 +1,4 @@
--- How a server is set up: `--address A.B.C.D`, and `--hold PATH=BODY`, `--delay PATH=MS` and `--plain PATH`, each again
+-- How a server is set up: `--address ADDRESS`, and `--hold PATH=BODY`, `--delay PATH=MS` and `--plain PATH`, each again
 -- and again.
 use Rattle.std.specs.Prelude.{ℕ, Bool, List, ◌≡◌, ◌<◌, ◌≤◌, ◌^◌, ◌==◌, ◌⊎◌, codes, length, if◌then◌else◌}
 use Rattle.std.specs.List.{after_first, before_first, position_or_len}
@@ -13,7 +13,6 @@ use Rattle.coap_arguments.specs.PathText.{IsPathText}
 use Rattle.coap_arguments.specs.Plains.{HasPlains}
 use Rattle.coap_arguments.specs.Texts.{AreTexts, SomeSaysNone, texts_of}
 use Rattle.coap_arguments.specs.Values.{HasLimit, HasRemembered, HasWord}
-use Rattle.coap_arguments.specs.declared.refusals.AddressRefusal.TheVariants as address
 use Rattle.coap_arguments.specs.declared.orders.Delay.{Delay}
 use Rattle.coap_arguments.specs.declared.orders.Hold.{Hold}
 use Rattle.coap_arguments.specs.declared.orders.ServeOptions.{ServeOptions}
@@ -67,12 +66,13 @@ abbrev pub serving_word : ℕ → WordChoice
 serving_word count = if count == forever then Random else Given default_word
 
 pub record HasServeOptions (usual : WordChoice) (values : List Row) (options : ServeOptions) : Type 0 where
-  pub address : HasAddress address.Address values options.address
+  pub address : HasAddress values options.address
   pub holds : HasHolds values options.holds.items
   pub delays : HasDelays values options.delays.items
   pub plains : HasPlains values options.plains.items
   pub trace : HasFlag (codes "trace") values options.trace
   pub changes : HasFlag (codes "changes") values options.changes
+  pub json : HasFlag (codes "json") values options.json
   pub word : HasWord usual values options.word
   pub limit : HasLimit values options.limit
   pub remembered : HasRemembered values options.remembered

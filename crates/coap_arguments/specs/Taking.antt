@@ -2,7 +2,8 @@
 use Rattle.std.specs.Prelude.{List, ◌≡◌, ◌⊎◌, ⊤, None, codes}
 use Rattle.clap.specs.Words.{Row, Text, all_of}
 use Rattle.coap_arguments.specs.Addresses.{HasNoAddress, address_argument_of}
-use Rattle.coap_arguments.specs.Asking.{AsksChange, HasNoTags, HasNoUri, IsAsk, SendsBody, tags_argument_of}
+use Rattle.coap_arguments.specs.Asking.{AsksChange, HasNoTags, HasNoUri, IsAsk, MakesClient, NamesServer, SendsBody}
+use Rattle.coap_arguments.specs.Asking.{tags_argument_of}
 use Rattle.coap_arguments.specs.Numbers.{argument_of}
 use Rattle.coap_arguments.specs.Plains.{IsWrongPlain}
 use Rattle.coap_arguments.specs.Sizes.{HasNoSize}
@@ -13,7 +14,7 @@ use Rattle.coap_arguments.specs.declared.refusals.AddressRefusal.TheVariants.{Ho
 use Rattle.coap_arguments.specs.declared.refusals.NumberRefusal.{NumberRefusal}
 use Rattle.coap_arguments.specs.declared.refusals.NumberRefusal.TheVariants.{Port, Count, Limit, Remember, Format}
 use Rattle.coap_arguments.specs.declared.refusals.NumberRefusal.TheVariants.{Accept, Times, Seconds, GiveUp, Every}
-use Rattle.coap_arguments.specs.declared.refusals.NumberRefusal.TheVariants.{ServerPort}
+use Rattle.coap_arguments.specs.declared.refusals.NumberRefusal.TheVariants.{Again, ServerPort}
 use Rattle.coap_arguments.specs.declared.refusals.SettingRefusal.{SettingRefusal}
 use Rattle.coap_arguments.specs.declared.refusals.TagsRefusal.{TagsRefusal}
 use Rattle.coap_arguments.specs.declared.refusals.TagsRefusal.TheVariants.{Etag, IfMatch}
@@ -30,7 +31,7 @@ TakesPath subcommand values = (subcommand ≡ codes "answer")
 
 -- the subcommand makes an end, and so takes the options of one
 abbrev pub MakesEnd : Text → Type 0
-MakesEnd subcommand = (subcommand ≡ codes "pair") ⊎ ((subcommand ≡ codes "serve") ⊎ IsAsk subcommand)
+MakesEnd subcommand = (subcommand ≡ codes "pair") ⊎ ((subcommand ≡ codes "serve") ⊎ MakesClient subcommand)
 
 -- the subcommand takes this argument, a number
 abbrev pub TakesNumber : NumberRefusal → Text → Type 0
@@ -40,15 +41,17 @@ TakesNumber Limit subcommand = MakesEnd subcommand
 TakesNumber Remember subcommand = (subcommand ≡ codes "sim") ⊎ MakesEnd subcommand
 TakesNumber Format subcommand = SendsBody subcommand
 TakesNumber Accept subcommand = subcommand ≡ codes "get"
-TakesNumber Times subcommand = (subcommand ≡ codes "get") ⊎ (subcommand ≡ codes "observe")
+TakesNumber Times subcommand = (subcommand ≡ codes "ping")
+    ⊎ ((subcommand ≡ codes "get") ⊎ (subcommand ≡ codes "observe"))
 TakesNumber Seconds subcommand = subcommand ≡ codes "observe"
-TakesNumber GiveUp subcommand = IsAsk subcommand
+TakesNumber GiveUp subcommand = NamesServer subcommand
 TakesNumber Every subcommand = subcommand ≡ codes "get"
-TakesNumber ServerPort subcommand = IsAsk subcommand
+TakesNumber Again subcommand = subcommand ≡ codes "observe"
+TakesNumber ServerPort subcommand = NamesServer subcommand
 
 -- the subcommand takes this argument, an address
 abbrev pub TakesAddress : AddressRefusal → Text → Type 0
-TakesAddress Host subcommand = IsAsk subcommand
+TakesAddress Host subcommand = NamesServer subcommand
 TakesAddress Own subcommand = subcommand ≡ codes "serve"
 
 -- the subcommand takes this argument, entity-tags
@@ -67,7 +70,7 @@ pub record TakesItsOwn (subcommand : Text) (values : List Row) : Type 0 where
   pub word : (all_of (codes "word") values ≡ None) ⊎ MakesEnd subcommand
   pub addresses : (refusal : AddressRefusal)
       → (all_of (address_argument_of refusal) values ≡ None) ⊎ TakesAddress refusal subcommand
-  pub size : (all_of (codes "size") values ≡ None) ⊎ IsAsk subcommand
+  pub size : (all_of (codes "size") values ≡ None) ⊎ MakesClient subcommand
   pub settings : (refusal : SettingRefusal)
       → (all_of (setting_argument_of refusal) values ≡ None) ⊎ (subcommand ≡ codes "serve")
   pub tags : (refusal : TagsRefusal) → (all_of (tags_argument_of refusal) values ≡ None) ⊎ TakesTags refusal subcommand

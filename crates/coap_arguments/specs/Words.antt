@@ -1,28 +1,31 @@
 -- What the words of the program say, as clap reads them.
-use Rattle.std.specs.Prelude.{ℕ, List, [], ◌∷◌, ◌≡◌, ◌⊎◌, ⊤, None, codes}
-use Rattle.std.specs.declared.net.ipv4_addr.Ipv4Addr.{Ipv4Addr}
+use Rattle.std.specs.Prelude.{ℕ, List, [], ◌∷◌, ◌≡◌, ◌⊎◌, ⊤, None, codes, false}
 use Rattle.clap.specs.Words.{IsAmong, Row, Text, fault_of, first_of, kind_of}
 use Rattle.clap.specs.declared.error.Error.{Error}
 use Rattle.coap_types.specs.Path.{HoldsAtMost}
 use Rattle.coap_types.specs.declared.path.TheConstants.{MAX_SEGMENT_LEN as max_segment_len}
 use Rattle.coap_types.specs.declared.path.TheConstants.{MAX_SEGMENTS as max_segments}
-use Rattle.coap_arguments.specs.Addresses.{HasAddress, HasNoAddress}
-use Rattle.coap_arguments.specs.Asking.{AreApart, HasFlag, HasNoContent, HasNoTags, HasNoUri, HasNothingBeside}
-use Rattle.coap_arguments.specs.Asking.{HasOptions, HasUri, IsAsk, IsBodyWord, IsWhat, IsWrongBeside, SendsBody}
+use Rattle.coap_arguments.specs.Addresses.{HasHost, HasNoAddress}
+use Rattle.coap_arguments.specs.Asking.{HasFile, HasFlag, HasNoContent, HasNoTags, HasNoUri, HasNothingBeside}
+use Rattle.coap_arguments.specs.Asking.{HasOptions, HasPingOptions, HasUri, IsAsk, IsBodyWord, IsWhat, IsWrongBeside}
+use Rattle.coap_arguments.specs.Asking.{MakesClient, NamesServer, SendsBody}
 use Rattle.coap_arguments.specs.CommandLine.{coap_app}
 use Rattle.coap_arguments.specs.Ends.{AreNoEnds, HasEnds}
 use Rattle.coap_arguments.specs.Plains.{HasNoPlain, HasPlains, HasTooManyPlains}
 use Rattle.coap_arguments.specs.Serving.{HasNoSetting, HasServeOptions, serving_word}
 use Rattle.coap_arguments.specs.Sizes.{HasNoSize}
 use Rattle.coap_arguments.specs.Taking.{MakesEnd, TakesAddress, TakesNumber, TakesPath, TakesPlains, TakesTags}
+use Rattle.coap_arguments.specs.Together.{AreApart, GoServed}
 use Rattle.coap_arguments.specs.Uris.{IsPlace, IsWrongUri}
 use Rattle.coap_arguments.specs.Values.{Enters, HasBytes, HasCount, HasLimit, HasNoBytes, HasNoNumber, HasNoPath}
 use Rattle.coap_arguments.specs.Values.{HasNoStore}
 use Rattle.coap_arguments.specs.Values.{HasNoWord, HasNumber, HasPath, HasRemembered, HasStore, HasWord, IsValue}
 use Rattle.coap_arguments.specs.declared.orders.Order.{Order}
-use Rattle.coap_arguments.specs.declared.orders.Order.TheVariants.{Version, Show, Dump, Answer, Pair, Serve, Ask, Sim}
+use Rattle.coap_arguments.specs.declared.hosts.Host.{Host}
+use Rattle.coap_arguments.specs.declared.hosts.Server.{Server}
+use Rattle.coap_arguments.specs.declared.orders.Order.TheVariants.{Version, Show, Dump, DumpCapture, Answer, Pair, Serve}
+use Rattle.coap_arguments.specs.declared.orders.Order.TheVariants.{Ask, Discover, Ping, Sim}
 use Rattle.coap_arguments.specs.declared.orders.What.{What}
-use Rattle.coap_arguments.specs.declared.refusals.AddressRefusal.TheVariants.{Host}
 use Rattle.coap_arguments.specs.declared.refusals.NumberRefusal.TheVariants.{Port, ServerPort}
 use Rattle.coap_arguments.specs.declared.orders.TheConstants.{DEFAULT_WORD as default_word}
 use Rattle.coap_arguments.specs.declared.orders.WordChoice.TheVariants.{Given}
@@ -32,23 +35,32 @@ use Rattle.coap_arguments.specs.declared.orders.Wrong.TheVariants.{Setting, Body
 use Rattle.coap_arguments.specs.declared.orders.Wrong.TheVariants.{NoPath, Uri, Beside}
 use Rattle.coap_arguments.specs.declared.orders.Wrong.TheVariants.{Hex, Memory}
 
--- by PORT and PATH this is asked of a server at this address
-abbrev pub AsksByPort : Text → List Row → Ipv4Addr → List (List ℕ) → What → Type 0
+-- by PORT and PATH this is asked of a server at this host
+abbrev pub AsksByPort : Text → List Row → Host → List (List ℕ) → What → Type 0
 AsksByPort subcommand values host path what = HasNoUri values × HasPath values path
-    × HoldsAtMost max_segments max_segment_len path × HasAddress Host values host
+    × HoldsAtMost max_segments max_segment_len path × HasHost values host
     × IsWhat (codes "BODY") subcommand values what
 
 -- by a URI
-abbrev pub AsksByUri : Text → List Row → Ipv4Addr → ℕ → List (List ℕ) → What → Type 0
-AsksByUri subcommand values host port path what = (text rest : Text) × HasUri values text rest
-    × IsPlace text rest host port path × HasNothingBeside subcommand values
+abbrev pub AsksByUri : Text → List Row → Server → List (List ℕ) → What → Type 0
+AsksByUri subcommand values server path what = (text rest : Text) × HasUri values text rest
+    × IsPlace text rest server path × HasNothingBeside subcommand values
     × IsWhat (codes "PATH") subcommand values what
+
+-- the server itself, by PORT, or by a URI that has no path
+abbrev pub IsServer : Text → List Row → Server → Type 0
+IsServer subcommand values server = HasNumber ServerPort values server.port
+    × ((HasNoUri values × HasHost values server.host)
+    ⊎ ((text rest : Text) × HasUri values text rest × IsPlace text rest server [] × HasNothingBeside subcommand values))
 
 -- the subcommand with these values says this order
 abbrev pub AsksForIn : Text → List Row → Order → Type 0
 AsksForIn subcommand values Version = ⊥
 AsksForIn subcommand values (Show datagram) = (subcommand ≡ codes "show") × HasBytes values datagram.items
-AsksForIn subcommand values Dump = subcommand ≡ codes "dump"
+AsksForIn subcommand values Dump = (subcommand ≡ codes "dump") × (first_of (codes "pcap") values ≡ None)
+    × HasFlag (codes "chart") values false
+AsksForIn subcommand values (DumpCapture file chart) = (subcommand ≡ codes "dump")
+    × IsValue (codes "pcap") values file.now × HasFlag (codes "chart") values chart
 AsksForIn subcommand values (Answer path body datagram) =
     (subcommand ≡ codes "answer") × HasPath values path × HoldsAtMost max_segments max_segment_len path
     × IsValue (codes "BODY") values body.now × HasBytes values datagram.items
@@ -56,16 +68,23 @@ AsksForIn subcommand values (Pair path body word limit remembered) =
     (subcommand ≡ codes "pair") × HasPath values path × HoldsAtMost max_segments max_segment_len path
     × IsValue (codes "BODY") values body.now × HasWord (Given default_word) values word × HasLimit values limit
     × HasRemembered values remembered
-AsksForIn subcommand values (Serve port count options) =
-    (subcommand ≡ codes "serve") × HasNumber Port values port × HasCount values count
-    × HasServeOptions (serving_word count) values options
-AsksForIn subcommand values (Ask port path what options) =
-    HasNumber ServerPort values port × (AsksByPort subcommand values options.host path what
-    ⊎ AsksByUri subcommand values options.host port path what) × HasOptions options.host values options
-AsksForIn subcommand values (Sim file store plains remembered chart client server) =
+AsksForIn subcommand values (Serve port count options script pcap) =
+    (subcommand ≡ codes "serve") × HasNumber Port values port × HasCount values count × GoServed values
+    × HasServeOptions (serving_word count) values options × HasFile (codes "script") values script
+    × HasFile (codes "pcap") values pcap
+AsksForIn subcommand values (Ask server path what options pcap) =
+    HasNumber ServerPort values server.port × (AsksByPort subcommand values server.host path what
+    ⊎ AsksByUri subcommand values server path what) × HasOptions values options × HasFile (codes "pcap") values pcap
+AsksForIn subcommand values (Discover server options pcap) =
+    (subcommand ≡ codes "discover") × IsServer subcommand values server × HasOptions values options
+    × HasFile (codes "pcap") values pcap
+AsksForIn subcommand values (Ping server options pcap) =
+    (subcommand ≡ codes "ping") × IsServer subcommand values server × HasPingOptions values options
+    × HasFile (codes "pcap") values pcap
+AsksForIn subcommand values (Sim file store plains remembered chart client server pcap) =
     (subcommand ≡ codes "sim") × IsValue (codes "FILE") values file.now × HasStore values store
     × HasPlains values plains.items × HasRemembered values remembered × HasFlag (codes "chart") values chart
-    × HasEnds values client server
+    × HasEnds values client server × HasFile (codes "pcap") values pcap
 
 -- the words are the program's name and `--version`
 abbrev pub IsVersion : List Text → Type 0
@@ -97,10 +116,10 @@ IsWrongIn subcommand values (Path refusal) = (TakesPath subcommand values × Has
 IsWrongIn subcommand values (Number refusal) = TakesNumber refusal subcommand × HasNoNumber refusal values
 -- `--word` is no choice of a word
 IsWrongIn subcommand values Word = MakesEnd subcommand × HasNoWord values
--- this argument is no address of IPv4
+-- this argument is no address, and no name where it may be one
 IsWrongIn subcommand values (Address refusal) = TakesAddress refusal subcommand × HasNoAddress refusal values
 -- `--size` is no size of a block
-IsWrongIn subcommand values Size = IsAsk subcommand × HasNoSize values
+IsWrongIn subcommand values Size = MakesClient subcommand × HasNoSize values
 -- this argument is no entity-tag, or is given too often
 IsWrongIn subcommand values (Tags refusal) = TakesTags refusal subcommand × HasNoTags refusal values
 -- this argument says nothing of how a server is set up, or is given too often
@@ -114,15 +133,15 @@ IsWrongIn subcommand values Store = (subcommand ≡ codes "sim") × HasNoStore v
 IsWrongIn subcommand values Plains = TakesPlains subcommand × HasTooManyPlains values
 -- the ends of the run have no place to stand at, or one for both
 IsWrongIn subcommand values (Ends refusal) = (subcommand ≡ codes "sim") × AreNoEnds refusal values
--- `--count` of a body that is read once, or `--etag` of one that is read again and again
-IsWrongIn subcommand values (Together refusal) = (subcommand ≡ codes "get") × AreApart refusal values
+-- options don't go together
+IsWrongIn subcommand values (Together refusal) = AreApart refusal subcommand values
 -- behind a PORT there is no PATH
 IsWrongIn subcommand values NoPath = IsAsk subcommand × HasNoUri values × (first_of (codes "PATH") values ≡ None)
 -- the URI says no resource that is asked for, for this reason
-IsWrongIn subcommand values (Uri refusal) = IsAsk subcommand × (text rest : Text) × HasUri values text rest
+IsWrongIn subcommand values (Uri refusal) = NamesServer subcommand × (text rest : Text) × HasUri values text rest
     × IsWrongUri refusal text rest
 -- beside a URI stands what it says itself
-IsWrongIn subcommand values (Beside refusal) = IsAsk subcommand × (text rest : Text) × HasUri values text rest
+IsWrongIn subcommand values (Beside refusal) = NamesServer subcommand × (text rest : Text) × HasUri values text rest
     × IsWrongBeside refusal subcommand values
 -- a PATH is a text of a path, and HEX is the hex of no list of bytes
 IsWrongIn subcommand values Hex = IsPathFine subcommand values × HasNoBytes values

@@ -18,6 +18,11 @@ pub(crate) enum Form {
     },
     /// `--NAME`, which may be left out.
     Flag,
+    /// `--NAME`, or a hyphen and this letter, which may be left out.
+    ShortFlag {
+        /// The letter.
+        letter: char,
+    },
 }
 
 /// An argument of a subcommand.

@@ -1,17 +1,20 @@
 //! What is asked of which server, read from the words.
-ghost use Rattle.std.specs.Prelude.{codes, MatchOption, MatchResult};
+ghost use Rattle.std.specs.Prelude.{MatchResult};
+ghost use Rattle.std.specs.Prelude.{codes};
 ghost use Rattle.clap.specs.Words.{found_of, rows_of};
-ghost use Rattle.coap_arguments.specs.Asking.{HasNoUri, HasUri, IsAsk, IsBodyWord, IsSpareWord, IsWhat};
-ghost use Rattle.coap_arguments.specs.Asking.{HasNothingBeside, IsWrongBeside};
+ghost use Rattle.coap_arguments.specs.Asking.{HasNoUri, HasUri, IsAsk, IsBodyWord, IsWhat};
 ghost use Rattle.coap_arguments.specs.Taking.{TakesItsOwn};
 ghost use Rattle.coap_arguments.specs.Values.{IsGiven, IsValue};
 ghost use Rattle.coap_arguments.specs.Words.{AsksForIn, IsWrongIn};
 
-use crate::asking::{address_of, content_of, options_of};
+use crate::asking::{content_of, options_of};
+use crate::hosts::{Server, host_of};
 use crate::orders::{Order, What, Wrong};
 use crate::path_text::path_of_text;
-use crate::refusals::{AddressRefusal, BesideRefusal, NumberRefusal};
+use crate::refusals::NumberRefusal;
 use crate::repeating::apart;
+use crate::servers::beside;
+use crate::together::observed_apart;
 use crate::uris::{place_of, uri_in};
 use crate::words::{optional, small_number, value};
 use clap::ArgMatches;
@@ -60,13 +63,14 @@ fn ask_at_port<'a>(
     };
     let path = path_of_text(alloc, text)?;
     let what = what_of(subcommand, given, "BODY")?;
-    let host = address_of(given, AddressRefusal::Host)?;
-    let options = options_of(alloc, given, host)?;
+    let host = host_of(given)?;
+    let options = options_of(alloc, given)?;
     Ok(Order::Ask {
-        port,
+        server: Server { host, port },
         path,
         what,
         options,
+        pcap: optional(given, "pcap"),
     })
 }
 
@@ -77,7 +81,7 @@ fn ask_at_uri<'a>(
     subcommand: &str,
     given: &ArgMatches<'a>,
     text: &str,
-    rest: &str,
+    rest: &'a str,
 ) -> Result<Order<'a>, Wrong>
     requires name { IsAsk subcommand.now }
     requires uri { HasUri (rows_of (found_of given.now)) text.now rest.now }
@@ -91,39 +95,16 @@ fn ask_at_uri<'a>(
     let what = what_of(subcommand, given, "PATH")?;
     match place_of(alloc, text, rest)? {
         Ok(place) => {
-            let options = options_of(alloc, given, place.host)?;
+            let options = options_of(alloc, given)?;
             Ok(Order::Ask {
-                port: place.port,
+                server: place.server,
                 path: place.path,
                 what,
                 options,
+                pcap: optional(given, "pcap"),
             })
         }
         Err(refusal) => Err(Wrong::Uri(refusal)),
-    }
-}
-
-// What stands beside a URI that says it itself, if anything.
-fn beside(subcommand: &str, given: &ArgMatches<'_>) -> Option<BesideRefusal>
-    ensures { MatchOption result (HasNothingBeside subcommand.now (rows_of (found_of given.now)))
-        (λ refusal. IsWrongBeside refusal subcommand.now (rows_of (found_of given.now))) }
-{
-    let spare = optional(given, spare_word(subcommand));
-    let host = optional(given, "host");
-    match (spare, host) {
-        (Some(_), _) => Some(BesideRefusal::Word),
-        (_, Some(_)) => Some(BesideRefusal::Host),
-        _ => None,
-    }
-}
-
-// The last word of a subcommand, which is one too many behind a URI.
-fn spare_word(subcommand: &str) -> &'static str
-    ensures { IsSpareWord subcommand.now result.now }
-{
-    match subcommand {
-        "put" | "post" => "BODY",
-        _ => "PATH",
     }
 }
 
@@ -148,7 +129,10 @@ fn what_of<'a>(subcommand: &str, given: &ArgMatches<'a>, word: &str) -> Result<W
             None => Err(Wrong::Body),
         },
         "delete" => Ok(What::Delete),
-        "observe" => Ok(What::Observe),
+        "observe" => match observed_apart(given) {
+            Some(refusal) => Err(Wrong::Together(refusal)),
+            None => Ok(What::Observe),
+        },
         _ => unreachable!(),
     }
 }

@@ -4,22 +4,20 @@ ghost use Rattle.clap.specs.Words.{found_of, rows_of};
 ghost use Rattle.coap_arguments.specs.Asking.{HasContent, HasFlag, HasNoContent, HasOptionalNumber, HasOptions};
 ghost use Rattle.coap_arguments.specs.Asking.{HasTags};
 ghost use Rattle.coap_arguments.specs.Asking.{IsTagText};
-ghost use Rattle.coap_arguments.specs.Addresses.{HasAddress};
 ghost use Rattle.coap_arguments.specs.Formats.{IsFormatName};
 ghost use Rattle.coap_arguments.specs.Numbers.{IsWordFor, least_of, most_of};
 ghost use Rattle.coap_arguments.specs.Taking.{IsWrongOption};
 
 use crate::formats::format_in;
 use crate::orders::{AskOptions, Content, WordChoice, Wrong};
-use crate::refusals::{AddressRefusal, NumberRefusal, TagsRefusal};
-use crate::repeating::every_of;
+use crate::refusals::{NumberRefusal, TagsRefusal};
+use crate::repeating::seconds_of;
 use crate::sizes::size_of;
 use crate::words::{limit, number, optional, remembered, word};
 use clap::ArgMatches;
 use coap_types::{Tag, Tags};
 use hex::FromHexError;
 use std::alloc::{AllocError, Global};
-use std::net::Ipv4Addr;
 
 /// The body that is sent, where there is just one: this word, or what is in a file.
 pub(crate) fn content_of<'a>(given: &ArgMatches<'a>, word: &str) -> Option<Content<'a>>
@@ -35,15 +33,11 @@ pub(crate) fn content_of<'a>(given: &ArgMatches<'a>, word: &str) -> Option<Conte
     }
 }
 
-/// How it is asked for, of a server at this address. Where no word is given, the client begins with a random one: with
+/// How it is asked for. Where no word is given, the client begins with a random one: with
 /// the same word two runs have the same Message IDs and tokens, and the second may be answered with what the server
 /// stored for the first (RFC 7252, sections 4.4, 4.5 and 5.3.1).
-pub(crate) fn options_of(
-    alloc: Global,
-    given: &ArgMatches<'_>,
-    host: Ipv4Addr,
-) -> Result<AskOptions, Wrong>
-    ensures { MatchResult result (HasOptions host (rows_of (found_of given.now)))
+pub(crate) fn options_of(alloc: Global, given: &ArgMatches<'_>) -> Result<AskOptions, Wrong>
+    ensures { MatchResult result (HasOptions (rows_of (found_of given.now)))
         (IsWrongOption (rows_of (found_of given.now))) }
 {
     let Some(size) = size_of(given) else {
@@ -55,10 +49,12 @@ pub(crate) fn options_of(
     let etags = tags_of(alloc, given, TagsRefusal::Etag)?;
     let if_match = tags_of(alloc, given, TagsRefusal::IfMatch)?;
     let if_none_match = is_set(given, "if-none-match");
-    let every = every_of(given)?;
+    let every = seconds_of(given, NumberRefusal::Every)?;
     let times = number_of(given, NumberRefusal::Times)?;
     let seconds = number_of(given, NumberRefusal::Seconds)?;
+    let again = seconds_of(given, NumberRefusal::Again)?;
     let hex = is_set(given, "hex");
+    let json = is_set(given, "json");
     let give_up = number_of(given, NumberRefusal::GiveUp)?;
     let Some(word) = word(given, WordChoice::Random) else {
         return Err(Wrong::Word);
@@ -70,7 +66,6 @@ pub(crate) fn options_of(
         return Err(Wrong::Number(NumberRefusal::Remember));
     };
     Ok(AskOptions {
-        host,
         size,
         trace,
         format,
@@ -81,29 +76,14 @@ pub(crate) fn options_of(
         every,
         times,
         seconds,
+        again,
         hex,
+        json,
         give_up,
         word,
         limit,
         remembered,
     })
-}
-
-/// An address: that of this machine to itself where it is left out.
-pub(crate) fn address_of(
-    given: &ArgMatches<'_>,
-    argument: AddressRefusal,
-) -> Result<Ipv4Addr, Wrong>
-    ensures { MatchResult result (HasAddress argument (rows_of (found_of given.now)))
-        (IsWrongOption (rows_of (found_of given.now))) }
-{
-    let Some(text) = optional(given, argument.name()) else {
-        return Ok(Ipv4Addr::new(127, 0, 0, 1));
-    };
-    match text.parse::<Ipv4Addr>() {
-        Ok(address) => Ok(address),
-        Err(_) => Err(Wrong::Address(argument)),
-    }
 }
 
 // A format, by its name or its number, where it is there.
@@ -123,8 +103,11 @@ fn format_of(given: &ArgMatches<'_>, argument: NumberRefusal) -> Result<Option<u
     }
 }
 
-// A number of 64 bits, where it is there.
-fn number_of(given: &ArgMatches<'_>, argument: NumberRefusal) -> Result<Option<u64>, Wrong>
+/// A number of 64 bits, where it is there.
+pub(crate) fn number_of(
+    given: &ArgMatches<'_>,
+    argument: NumberRefusal,
+) -> Result<Option<u64>, Wrong>
     requires least { least_of argument ≡ 0 }
     requires most { most_of argument ≡ 2 ^ 64 - 1 }
     requires digits { (text : List ℕ) (n : ℕ) → IsWordFor argument text n → ⊥ }
@@ -140,7 +123,7 @@ fn number_of(given: &ArgMatches<'_>, argument: NumberRefusal) -> Result<Option<u
     }
 }
 
-// Whether a flag is given.
+/// Whether a flag is given.
 pub(crate) fn is_set(given: &ArgMatches<'_>, name: &str) -> bool
     ensures { HasFlag name.now (rows_of (found_of given.now)) result }
 {

@@ -3,8 +3,8 @@ ghost use Rattle.std.specs.Prelude.{◌≡◌, IfOk, false};
 ghost use Rattle.clap.specs.Words.{app_of, rule_of, with_rule, with_subcommand};
 ghost use Rattle.clap.specs.declared.builder.command.Command.TheViews.{out-Command};
 ghost use Rattle.coap_arguments.specs.CommandLine.{coap_app, flag_of, option_of, optional_word, repeated_of};
-ghost use Rattle.coap_arguments.specs.CommandLine.{required_word};
-ghost use Rattle.coap_arguments.specs.Tables.{app_in, rule_in, with_subcommands};
+ghost use Rattle.coap_arguments.specs.CommandLine.{required_word, short_flag_of};
+ghost use Rattle.coap_arguments.specs.Tables.{app_in, begins_required, rule_in, with_subcommands};
 
 use crate::arguments::{Argument, Form, Subcommand};
 use crate::put_away::put_away;
@@ -66,6 +66,14 @@ fn flag<'a>(alloc: Global, name: &'a str, help: &'a str) -> Arg<'a>
         .action(ArgAction::SetTrue)
 }
 
+// An option without a value, which a letter stands for, too.
+fn short_flag<'a>(alloc: Global, name: &'a str, letter: char, help: &'a str) -> Arg<'a>
+    ensures rule { rule_of result ≡ short_flag_of letter name.entry.now }
+    ensures own { result.global ≡ false }
+{
+    flag(alloc, name, help).short(letter)
+}
+
 // What an argument of the table is to clap.
 fn argument_of<'a>(alloc: Global, argument: &Argument) -> Arg<'a>
     ensures rule { rule_of result ≡ rule_in argument.now }
@@ -78,6 +86,7 @@ fn argument_of<'a>(alloc: Global, argument: &Argument) -> Arg<'a>
         Form::Single { value_name } => option(alloc, name, value_name, help),
         Form::Repeated { value_name } => repeated(alloc, name, value_name, help),
         Form::Flag => flag(alloc, name, help),
+        Form::ShortFlag { letter } => short_flag(alloc, name, letter, help),
     }
 }
 
@@ -91,15 +100,32 @@ fn with_argument<'a>(command: Command<'a>, argument: Arg<'a>) -> Result<Command<
     command.arg(argument)
 }
 
-// What a subcommand of the table is to clap.
+// Whether the first of these arguments has to be there.
+fn begins_required(arguments: &[Argument]) -> bool
+    ensures { result ≡ begins_required arguments.now }
+{
+    match arguments {
+        [
+            Argument {
+                form: Form::Required,
+                ..
+            },
+            ..
+        ] => true,
+        _ => false,
+    }
+}
+
+// What a subcommand of the table is to clap: one that needs words answers with its help where it has none.
 fn subcommand_of<'a>(alloc: Global, subcommand: &Subcommand) -> Result<Command<'a>, AllocError>
     ensures app { IfOk result (λ c. app_of c ≡ app_in subcommand.now) }
     ensures own { IfOk result (λ c. (out-Command c).has_globals ≡ false) }
 {
+    let arguments = subcommand.arguments;
     let mut command = Command::new(alloc, subcommand.name)
         .about(subcommand.about)
-        .after_help(subcommand.example);
-    let arguments = subcommand.arguments;
+        .after_help(subcommand.example)
+        .arg_required_else_help(begins_required(arguments));
     for argument in arguments {
         command = with_argument(command, argument_of(alloc, argument))?;
     }

@@ -8,22 +8,28 @@ mod asking;
 mod command_line;
 mod ends;
 mod formats;
+mod hosts;
+mod marks;
 mod orders;
 mod path_text;
 mod plains;
 mod put_away;
 mod refusals;
 mod repeating;
+mod servers;
 mod serving;
 mod sizes;
 mod tables;
+mod together;
 mod uris;
 mod words;
+mod wrongs;
 
 pub use command_line::coap_command;
+pub use hosts::{Address, Host, Server};
 pub use orders::{
     AskOptions, Content, DEFAULT_PORT, DEFAULT_WORD, Delay, FOREVER, Hold, MAX_DELAYS, MAX_PLAINS,
-    Order, ServeOptions, StoreKind, What, WordChoice, Wrong,
+    Order, PingOptions, ServeOptions, StoreKind, What, WordChoice, Wrong,
 };
 pub use path_text::path_of_text;
 pub use refusals::{

@@ -2,15 +2,12 @@
 ghost use Rattle.std.specs.Prelude.{◌≡◌};
 ghost use Rattle.coap_arguments.specs.Wrongs.{wrong_number};
 
+use crate::hosts::{Address, Server};
 use crate::refusals::{
     AddressRefusal, BesideRefusal, EndsRefusal, NumberRefusal, SettingRefusal, TagsRefusal,
     TogetherRefusal, UriRefusal,
 };
-use clap::error::ErrorKind;
 use coap_types::{BodyLimit, Endpoint, Path, PathRefusal, Remembered, Szx, Tags};
-use hex::FromHexError;
-use std::alloc::AllocError;
-use std::net::Ipv4Addr;
 use thiserror::Error;
 
 /// What the program is asked to do.
@@ -25,6 +22,13 @@ pub enum Order<'a> {
     },
     /// Show what the datagrams say that standard input has in hex, one a line.
     Dump,
+    /// Show what the datagrams say that a capture has.
+    DumpCapture {
+        /// The file of the capture.
+        file: &'a str,
+        /// Whether they are drawn as a chart, in place of lines.
+        chart: bool,
+    },
     /// Answer a datagram as a server with one resource does.
     Answer {
         /// Where the resource is.
@@ -55,17 +59,41 @@ pub enum Order<'a> {
         count: u64,
         /// How it is served, and what.
         options: ServeOptions,
+        /// The file that says what else the server is handed before it serves.
+        script: Option<&'a str>,
+        /// The file that takes each datagram, as a capture.
+        pcap: Option<&'a str>,
     },
     /// Ask something of a server.
     Ask {
-        /// The server's UDP port.
-        port: u16,
+        /// The server.
+        server: Server<'a>,
         /// Where the resource is.
         path: Path,
         /// What is asked for.
         what: What<'a>,
         /// How it is asked for.
         options: AskOptions,
+        /// The file that takes each datagram, as a capture.
+        pcap: Option<&'a str>,
+    },
+    /// Ask a server for the links of its resources (RFC 6690).
+    Discover {
+        /// The server.
+        server: Server<'a>,
+        /// How they are asked for.
+        options: AskOptions,
+        /// The file that takes each datagram, as a capture.
+        pcap: Option<&'a str>,
+    },
+    /// Ask a server whether it is there, by an Empty message (RFC 7252, section 4.3).
+    Ping {
+        /// The server.
+        server: Server<'a>,
+        /// How it is asked.
+        options: PingOptions,
+        /// The file that takes each datagram, as a capture.
+        pcap: Option<&'a str>,
     },
     /// Run a script.
     Sim {
@@ -84,6 +112,8 @@ pub enum Order<'a> {
         client: Endpoint,
         /// Where its server stands, which is another address or another port.
         server: Endpoint,
+        /// The file that takes each datagram, as a capture.
+        pcap: Option<&'a str>,
     },
 }
 
@@ -114,8 +144,6 @@ pub enum Content<'a> {
 /// How something is asked for. What a subcommand does not take is left out.
 #[derive(Drop)]
 pub struct AskOptions {
-    /// The server's address.
-    pub host: Ipv4Addr,
     /// The size of the client's blocks.
     pub size: Szx,
     /// Whether each datagram is told of.
@@ -136,8 +164,12 @@ pub struct AskOptions {
     pub times: Option<u64>,
     /// After how many seconds an observation is cancelled.
     pub seconds: Option<u64>,
+    /// After how many seconds without a value, at least 1, an observation is begun anew; None: it is begun once.
+    pub again: Option<u64>,
     /// Whether values are printed in hex.
     pub hex: bool,
+    /// Whether each report is an object of JSON.
+    pub json: bool,
     /// After how many seconds the client gives up.
     pub give_up: Option<u64>,
     /// The word that the client begins with.
@@ -148,11 +180,24 @@ pub struct AskOptions {
     pub remembered: Remembered,
 }
 
+/// How a server is asked whether it is there.
+#[derive(Clone, Copy, Debug)]
+pub struct PingOptions {
+    /// How often, one after the other; None: once.
+    pub times: Option<u64>,
+    /// After how many seconds the program gives one up.
+    pub give_up: Option<u64>,
+    /// Whether each datagram is told of.
+    pub trace: bool,
+    /// Whether each report is an object of JSON.
+    pub json: bool,
+}
+
 /// How something is served, and what.
 #[derive(Drop)]
 pub struct ServeOptions {
     /// The address that is served at.
-    pub address: Ipv4Addr,
+    pub address: Address,
     /// What the server holds besides its own resource, in order.
     pub holds: Vec<Hold>,
     /// The paths whose requests wait, in order: at most `MAX_DELAYS`.
@@ -164,6 +209,8 @@ pub struct ServeOptions {
     pub trace: bool,
     /// Whether each request that is applied is told of.
     pub changes: bool,
+    /// Whether that is told as an object of JSON.
+    pub json: bool,
     /// The word that the server begins with.
     pub word: WordChoice,
     /// The longest body that the server takes.
@@ -321,56 +368,6 @@ impl Wrong {
             | Wrong::Beside(_) => 1,
             Wrong::Hex => 2,
             Wrong::Memory => 3,
-        }
-    }
-}
-
-impl From<AllocError> for Wrong {
-    ghost use Rattle.coap_arguments.specs.declared.orders.Wrong.{Wrong};
-
-    ghost from_gives = { λ _ wrong. wrong ≡ Wrong.Memory };
-
-    fn from(_error: AllocError) -> Wrong {
-        Wrong::Memory
-    }
-}
-
-impl From<clap::Error> for Wrong {
-    ghost use Rattle.coap_arguments.specs.Wrongs.{IsWrongOfClap};
-
-    ghost from_gives = { IsWrongOfClap };
-
-    fn from(error: clap::Error) -> Wrong {
-        if error.kind() == ErrorKind::OutOfMemory {
-            Wrong::Memory
-        } else {
-            Wrong::Words(error)
-        }
-    }
-}
-
-impl From<PathRefusal> for Wrong {
-    ghost use Rattle.coap_arguments.specs.Wrongs.{wrong_path};
-
-    ghost from_gives = { λ refusal wrong. wrong ≡ wrong_path refusal };
-
-    fn from(refusal: PathRefusal) -> Wrong {
-        match refusal {
-            PathRefusal::Memory => Wrong::Memory,
-            refusal => Wrong::Path(refusal),
-        }
-    }
-}
-
-impl From<FromHexError> for Wrong {
-    ghost use Rattle.coap_arguments.specs.Wrongs.{wrong_hex};
-
-    ghost from_gives = { λ error wrong. wrong ≡ wrong_hex error };
-
-    fn from(error: FromHexError) -> Wrong {
-        match error {
-            FromHexError::OutOfMemory => Wrong::Memory,
-            _ => Wrong::Hex,
         }
     }
 }

@@ -40,6 +40,9 @@ pub enum NumberRefusal {
     /// After how many seconds a body is asked for again.
     #[error("--every is no number from 1 to 18446744073709551615")]
     Every,
+    /// After how many seconds without a value an observation is begun anew.
+    #[error("--again is no number from 1 to 18446744073709551615")]
+    Again,
     /// The UDP port of a server that is asked.
     #[error("PORT is no number from 0 to 65535")]
     ServerPort,
@@ -61,6 +64,7 @@ impl NumberRefusal {
             NumberRefusal::Seconds => "seconds",
             NumberRefusal::GiveUp => "give-up",
             NumberRefusal::Every => "every",
+            NumberRefusal::Again => "again",
             NumberRefusal::ServerPort => "PORT|URI",
         }
     }
@@ -89,14 +93,14 @@ impl TagsRefusal {
     }
 }
 
-/// Which argument is no address of IPv4. A name of a host is none.
+/// Which argument is no address.
 #[derive(Clone, Copy, Debug, PartialEq, Eq, Error)]
 pub enum AddressRefusal {
     /// That of the server that is asked.
-    #[error("--host is no IPv4 address, as 192.0.2.1; a name is none")]
+    #[error("--host is no IP address, as 192.0.2.1 or ::1, and no name of a host")]
     Host,
     /// The one that is served at.
-    #[error("--address is no IPv4 address, as 192.0.2.1; a name is none")]
+    #[error("--address is no IP address, as 192.0.2.1 or ::; a name is none")]
     Address,
 }
 
@@ -149,7 +153,7 @@ pub enum EndsRefusal {
     Same,
 }
 
-/// Which options of `get` don't go together.
+/// Which options don't go together.
 #[derive(Clone, Copy, Debug, PartialEq, Eq, Error)]
 pub enum TogetherRefusal {
     /// A number of readings, where there is one reading.
@@ -158,6 +162,18 @@ pub enum TogetherRefusal {
     /// Readings again and again, and a body that is there already.
     #[error("--etag does not go with --every")]
     Etag,
+    /// Values in hex, and objects of JSON.
+    #[error("--hex does not go with --json, which says in hex what is no text")]
+    Hex,
+    /// Objects of JSON, where no change is told of.
+    #[error("error: unexpected argument '--json' found\n\n  tip: serve takes --json where it takes --changes")]
+    Json,
+    /// Objects of JSON, and words beside them.
+    #[error("--trace does not go with --json: both go to standard error")]
+    Trace,
+    /// A chart of datagrams that have no address.
+    #[error("error: unexpected argument '--chart' found\n\n  tip: dump takes --chart where it takes --pcap")]
+    Chart,
 }
 
 /// Why a URI says no resource that the program asks for (RFC 7252, sections 6.1 and 6.4).
@@ -175,11 +191,11 @@ pub enum UriRefusal {
     /// It has a user.
     #[error("the URI has a user before its host, which a URI of coap has not")]
     User,
-    /// Its host is an address of IPv6.
-    #[error("the host of the URI is an IPv6 address, which is not asked")]
+    /// Its host has a bracket and is no address of IPv6 in brackets.
+    #[error("the brackets of the URI hold no IPv6 address, as [::1] and [fe80::1%2] do")]
     Six,
-    /// Its host is no address of IPv4.
-    #[error("the host of the URI is no IPv4 address, as 192.0.2.1; a name is none")]
+    /// Its host is no address of IPv4, and no name.
+    #[error("the host of the URI is no IPv4 address, as 192.0.2.1, no IPv6 address in brackets, and no name of a host")]
     Host,
     /// Its port is none.
     #[error("the port of the URI is no number from 0 to 65535")]
@@ -204,4 +220,7 @@ pub enum BesideRefusal {
     /// The server's address.
     #[error("--host does not go with a URI, which says the host")]
     Host,
+    /// A path, where the server itself is asked.
+    #[error("the URI has a path, and the server itself is asked, as coap://192.0.2.1")]
+    Path,
 }

@@ -12,13 +12,14 @@ ghost use Rattle.coap_arguments.specs.Taking.{IsWrongOption, IsWrongServing};
 ghost use Rattle.coap_arguments.specs.declared.orders.Delay.{Delay as DelaySpec};
 ghost use Rattle.coap_arguments.specs.declared.orders.Hold.{Hold as HoldSpec};
 
-use crate::asking::{address_of, is_set};
+use crate::asking::is_set;
+use crate::hosts::address_of;
 use crate::orders::{
     DEFAULT_WORD, Delay, FOREVER, Hold, MAX_DELAYS, ServeOptions, WordChoice, Wrong,
 };
 use crate::path_text::path_of_text;
 use crate::plains::plains_of;
-use crate::refusals::{AddressRefusal, NumberRefusal, SettingRefusal};
+use crate::refusals::{NumberRefusal, SettingRefusal};
 use crate::words::{limit, number, remembered, word};
 use clap::ArgMatches;
 use coap_types::{Path, PathRefusal};
@@ -44,12 +45,13 @@ pub(crate) fn serve_options_of(
     ensures { MatchResult result (HasServeOptions usual (rows_of (found_of given.now)))
         (IsWrongServing (rows_of (found_of given.now))) }
 {
-    let address = address_of(given, AddressRefusal::Address)?;
+    let address = address_of(given)?;
     let holds = holds_of(alloc, given)?;
     let delays = delays_of(alloc, given)?;
     let plains = plains_of(alloc, given)?;
     let trace = is_set(given, "trace");
     let changes = is_set(given, "changes");
+    let json = is_set(given, "json");
     let Some(word) = word(given, usual) else {
         return Err(Wrong::Word);
     };
@@ -66,6 +68,7 @@ pub(crate) fn serve_options_of(
         plains,
         trace,
         changes,
+        json,
         word,
         limit,
         remembered,

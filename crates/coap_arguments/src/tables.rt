@@ -46,7 +46,16 @@ const SERVER_PORT: Argument = Argument {
     form: Form::Required,
     name: "PORT|URI",
     help: "the server's UDP port, as 5683; or a URI in the place of PORT and PATH, as coap://192.0.2.1/sensors/t, with \
-        :PORT behind the address where it is another than 5683",
+        :PORT behind the host where it is another than 5683. The host is an IPv4 address, an IPv6 address in brackets, \
+        as [::1], or a name",
+};
+
+// PORT of a server that is asked, and no path of it.
+const SERVER_ALONE: Argument = Argument {
+    form: Form::Required,
+    name: "PORT|URI",
+    help: "the server's UDP port, as 5683; or a URI without a path, as coap://192.0.2.1, with :PORT behind the host \
+        where it is another than 5683. The host is an IPv4 address, an IPv6 address in brackets, as [::1], or a name",
 };
 
 // PATH at a server that is asked.
@@ -133,6 +142,22 @@ const EVERY: Argument = Argument {
         standard error. Not with --etag",
 };
 
+const AGAIN: Argument = Argument {
+    form: Form::Single {
+        value_name: "SECONDS",
+    },
+    name: "again",
+    help: "begins anew where no value came for so many seconds, at least 1, or the server ended it, and says so on \
+        standard error; --count counts all values",
+};
+
+// --count of pings.
+const PINGS: Argument = Argument {
+    form: Form::Single { value_name: "N" },
+    name: "count",
+    help: "asks so often, one after the other; once where it is left out",
+};
+
 const SECONDS: Argument = Argument {
     form: Form::Single { value_name: "N" },
     name: "seconds",
@@ -147,21 +172,21 @@ const SIZE: Argument = Argument {
 };
 
 const HOST: Argument = Argument {
-    form: Form::Single {
-        value_name: "A.B.C.D",
-    },
+    form: Form::Single { value_name: "HOST" },
     name: "host",
-    help: "the server's IPv4 address, as 192.0.2.1; 127.0.0.1 where it is left out",
+    help: "the server's address, as 192.0.2.1, ::1 or [fe80::1%2], of which 2 is the number of the interface, or its \
+        name; 127.0.0.1 where it is left out",
 };
 
 const ADDRESS: Argument = Argument {
     form: Form::Single {
-        value_name: "A.B.C.D",
+        value_name: "ADDRESS",
     },
     name: "address",
-    help: "the IPv4 address of this machine that is served at, 127.0.0.1 where it is left out; 0.0.0.0 is each of \
-           them, and an answer may leave from another one than was asked, which the client then doesn't take. On an \
-           address other than 127.0.0.1 whoever reaches the port may write, make and delete every path",
+    help: "the address of this machine that is served at, as 192.0.2.1 or ::1, 127.0.0.1 where it is left out; 0.0.0.0 \
+           and :: are each of them, and an answer may leave from another one than was asked, which the client then \
+           doesn't take. On an address other than 127.0.0.1 and ::1 whoever reaches the port may write, make and \
+           delete every path",
 };
 
 const HOLD: Argument = Argument {
@@ -182,7 +207,7 @@ const DELAY: Argument = Argument {
 };
 
 const TRACE: Argument = Argument {
-    form: Form::Flag,
+    form: Form::ShortFlag { letter: 'v' },
     name: "trace",
     help: "tells on standard error of each datagram as it goes and comes: the moment in milliseconds, > or <, the \
         address, \
@@ -213,6 +238,56 @@ const GIVE_UP_OBSERVING: Argument = Argument {
     },
     name: "give-up",
     help: "gives up where no first value came in so many seconds",
+};
+
+// --give-up of a ping.
+const GIVE_UP_PINGING: Argument = Argument {
+    form: Form::Single {
+        value_name: "SECONDS",
+    },
+    name: "give-up",
+    help: "gives up after so many seconds, and so each time",
+};
+
+const JSON: Argument = Argument {
+    form: Form::Flag,
+    name: "json",
+    help: "prints each report as an object of JSON, one a line",
+};
+
+// --json of a server.
+const CHANGES_IN_JSON: Argument = Argument {
+    form: Form::Flag,
+    name: "json",
+    help: "with --changes, tells of each as an object of JSON, one a line. Not with --trace",
+};
+
+const PCAP: Argument = Argument {
+    form: Form::Single { value_name: "FILE" },
+    name: "pcap",
+    help: "writes each datagram that goes and comes to this file, which tshark and coap dump --pcap read",
+};
+
+// --pcap of what is read.
+const READ_PCAP: Argument = Argument {
+    form: Form::Single { value_name: "FILE" },
+    name: "pcap",
+    help: "reads the datagrams of UDP in this file, a capture of pcap, in place of standard input",
+};
+
+// --chart of what is read.
+const READ_CHART: Argument = Argument {
+    form: Form::Flag,
+    name: "chart",
+    help: "with --pcap, draws the datagrams for reading, in place of lines",
+};
+
+// --script of a server.
+const SCRIPT: Argument = Argument {
+    form: Form::Single { value_name: "FILE" },
+    name: "script",
+    help: "sets the server up by the lines of this file: hold PATH FORMAT BODY, delay PATH MS, plain PATH and limit N; \
+        a line that begins with # says nothing",
 };
 
 const IN_HEX: Argument = Argument {
@@ -304,7 +379,7 @@ const PLAIN: Argument = Argument {
 };
 
 /// What help of the program says at its end: its subcommands by what they are for.
-pub(crate) const GROUPS: &str = "Ask a server: get, put, post, delete, observe\n\
+pub(crate) const GROUPS: &str = "Ask a server: get, put, post, delete, observe, discover, ping\n\
     Serve: serve, answer\n\
     Look: show, dump, pair, sim\n\n\
     coap COMMAND --help has an example of each, and coap --version says which version it is.";
@@ -320,9 +395,9 @@ pub(crate) static OTHERS: [Subcommand; 6] = [
     Subcommand {
         name: "dump",
         about: "Prints the messages in the datagrams that standard input has in hex, one a line, behind the line's \
-            number",
+            number, or those of a capture",
         example: "Example: echo 40010001 | coap dump",
-        arguments: &[],
+        arguments: &[READ_PCAP, READ_CHART],
     },
     Subcommand {
         name: "answer",
@@ -341,19 +416,34 @@ pub(crate) static OTHERS: [Subcommand; 6] = [
         about: "Serves the resource temperature, and what --hold names, until COUNT datagrams came",
         example: "Example: coap serve 5683 forever --hold lamp=off",
         arguments: &[
-            OWN_PORT, COUNT, ADDRESS, HOLD, DELAY, PLAIN, TRACE, CHANGES, OWN_WORD, LIMIT, REMEMBER,
+            OWN_PORT,
+            COUNT,
+            ADDRESS,
+            HOLD,
+            DELAY,
+            PLAIN,
+            TRACE,
+            CHANGES,
+            CHANGES_IN_JSON,
+            SCRIPT,
+            PCAP,
+            OWN_WORD,
+            LIMIT,
+            REMEMBER,
         ],
     },
     Subcommand {
         name: "sim",
         about: "Runs a script over a client and a server, and prints what comes of it",
         example: "Example: coap sim examples/get.sim --chart",
-        arguments: &[FILE, STORE, PLAIN, REMEMBER, CHART, CLIENT_END, SERVER_END],
+        arguments: &[
+            FILE, STORE, PLAIN, REMEMBER, CHART, CLIENT_END, SERVER_END, PCAP,
+        ],
     },
 ];
 
 /// The subcommands that ask something of a server, in the order in which help lists them behind the others.
-pub(crate) static ASKING: [Subcommand; 5] = [
+pub(crate) static ASKING: [Subcommand; 7] = [
     Subcommand {
         name: "get",
         about: "Prints what a server holds at PATH",
@@ -368,6 +458,8 @@ pub(crate) static ASKING: [Subcommand; 5] = [
             HOST,
             SIZE,
             TRACE,
+            JSON,
+            PCAP,
             GIVE_UP,
             DRAWN_WORD,
             LIMIT,
@@ -389,6 +481,8 @@ pub(crate) static ASKING: [Subcommand; 5] = [
             HOST,
             SIZE,
             TRACE,
+            JSON,
+            PCAP,
             GIVE_UP,
             DRAWN_WORD,
             LIMIT,
@@ -410,6 +504,8 @@ pub(crate) static ASKING: [Subcommand; 5] = [
             HOST,
             SIZE,
             TRACE,
+            JSON,
+            PCAP,
             GIVE_UP,
             DRAWN_WORD,
             LIMIT,
@@ -428,6 +524,8 @@ pub(crate) static ASKING: [Subcommand; 5] = [
             HOST,
             SIZE,
             TRACE,
+            JSON,
+            PCAP,
             GIVE_UP,
             DRAWN_WORD,
             LIMIT,
@@ -443,14 +541,48 @@ pub(crate) static ASKING: [Subcommand; 5] = [
             SERVER_PATH,
             TIMES,
             SECONDS,
+            AGAIN,
             IN_HEX,
             HOST,
             SIZE,
             TRACE,
+            JSON,
+            PCAP,
             GIVE_UP_OBSERVING,
             DRAWN_WORD,
             LIMIT,
             REMEMBER,
+        ],
+    },
+    Subcommand {
+        name: "discover",
+        about: "Prints the links that a server has at /.well-known/core, one a line",
+        example: "Example: coap discover coap://127.0.0.1",
+        arguments: &[
+            SERVER_ALONE,
+            HOST,
+            SIZE,
+            TRACE,
+            JSON,
+            PCAP,
+            GIVE_UP,
+            DRAWN_WORD,
+            LIMIT,
+            REMEMBER,
+        ],
+    },
+    Subcommand {
+        name: "ping",
+        about: "Asks a server whether it is there, and prints how long its answer took",
+        example: "Example: coap ping coap://127.0.0.1 --count 3",
+        arguments: &[
+            SERVER_ALONE,
+            PINGS,
+            HOST,
+            TRACE,
+            JSON,
+            PCAP,
+            GIVE_UP_PINGING,
         ],
     },
 ];

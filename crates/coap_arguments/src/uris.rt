@@ -1,17 +1,17 @@
 //! A URI in the place of PORT and PATH (RFC 7252, sections 6.1 and 6.4; RFC 3986, section 3).
 ghost use Rattle.std.specs.Prelude.{◌≡◌, ◌≢◌, ◌<◌, ◌≤◌, ◌-◌, ◌^◌, ◌∷◌, ◌↔◌, ℕ, List, IsTrue, IfOk, MatchOption};
 ghost use Rattle.std.specs.Prelude.{MatchResult};
-ghost use Rattle.std.specs.Net.Grammar.{IsIpv4Text};
-ghost use Rattle.std.specs.declared.net.ipv4_addr.Ipv4Addr.{Ipv4Addr as Ipv4AddrSpec};
-ghost use Rattle.coap_arguments.specs.Uris.{IsOfCoap, IsPlace, IsPortText, IsUri, IsWrongUri, before, behind, has};
+ghost use Rattle.coap_arguments.specs.Uris.{IsOfCoap, IsPlace, IsPortText, IsServerText, IsUri, IsWrongServer};
+ghost use Rattle.coap_arguments.specs.Uris.{IsWrongUri, host_text, is_bracketed, is_closed, port_text};
 
+use crate::hosts::{Server, uri_host_in};
+use crate::marks::{has, parted};
 use crate::orders::DEFAULT_PORT;
 use crate::refusals::UriRefusal;
 use crate::words::small_number;
 use coap_paths::{UriPathRefusal, path_of_uri};
 use coap_types::Path;
 use std::alloc::{AllocError, Global};
-use std::net::Ipv4Addr;
 
 // The scheme of CoAP without DTLS (RFC 7252, section 6.1).
 const SCHEME: &str = "coap";
@@ -25,22 +25,24 @@ const SLASH: char = '/';
 // What may stand before a number in the words, and not in a URI.
 const PLUS: char = '+';
 
-// What begins a fragment, and a query; what ends a user; and what begins an address of IPv6.
+// What begins a fragment, and a query; what ends a user; and what an address of IPv6 stands between.
 const HASH: u8 = b'#';
 
 const QUESTION: u8 = b'?';
 
 const AT: u8 = b'@';
 
-const BRACKET: u8 = b'[';
+const OPENING: u8 = b'[';
+
+const CLOSING: char = ']';
+
+const CLOSING_BYTE: u8 = b']';
 
 /// Where a resource is.
 #[derive(Drop)]
-pub(crate) struct Place {
-    /// The server's address.
-    pub(crate) host: Ipv4Addr,
-    /// Its UDP port.
-    pub(crate) port: u16,
+pub(crate) struct Place<'a> {
+    /// The server.
+    pub(crate) server: Server<'a>,
     /// The path there.
     pub(crate) path: Path,
 }
@@ -54,12 +56,12 @@ pub(crate) fn uri_in(text: &str) -> Option<&str>
 }
 
 /// Where the resource of a URI is, of which this stands behind `://`; or why it is nowhere that the program asks.
-pub(crate) fn place_of(
+pub(crate) fn place_of<'a>(
     alloc: Global,
     text: &str,
-    rest: &str,
-) -> Result<Result<Place, UriRefusal>, AllocError>
-    ensures { IfOk result (λ place. MatchResult place (λ p. IsPlace text.now rest.now p.host p.port p.path)
+    rest: &'a str,
+) -> Result<Result<Place<'a>, UriRefusal>, AllocError>
+    ensures { IfOk result (λ place. MatchResult place (λ p. IsPlace text.now rest.now p.server p.path)
         (λ refusal. IsWrongUri refusal text.now rest.now)) }
 {
     if !is_of_coap(text) {
@@ -75,18 +77,12 @@ pub(crate) fn place_of(
     if has(authority, AT) {
         return Ok(Err(UriRefusal::User));
     }
-    let (host, port) = parted(authority, COLON);
-    let Some(host) = host_in(host) else {
-        if has(authority, BRACKET) {
-            return Ok(Err(UriRefusal::Six));
-        }
-        return Ok(Err(UriRefusal::Host));
-    };
-    let Some(port) = port_in(port) else {
-        return Ok(Err(UriRefusal::Port));
+    let server = match server_in(authority) {
+        Ok(server) => server,
+        Err(refusal) => return Ok(Err(refusal)),
     };
     match path_of_uri(alloc, path) {
-        Ok(path) => Ok(Ok(Place { host, port, path })),
+        Ok(path) => Ok(Ok(Place { server, path })),
         Err(UriPathRefusal::Percent) => Ok(Err(UriRefusal::Percent)),
         Err(UriPathRefusal::SegmentTooLong) => Ok(Err(UriRefusal::SegmentTooLong)),
         Err(UriPathRefusal::TooManySegments) => Ok(Err(UriRefusal::TooManySegments)),
@@ -94,16 +90,59 @@ pub(crate) fn place_of(
     }
 }
 
-// What stands before the first such character of a text, and what behind it; all and nothing, where there is none.
-fn parted(text: &str, mark: char) -> (&str, &str)
-    requires { mark < 128 }
-    ensures before { result.0.now ≡ before mark text.now }
-    ensures behind { result.1.now ≡ behind mark text.now }
+// The server of an authority without a user.
+fn server_in(authority: &str) -> Result<Server<'_>, UriRefusal>
+    ensures { MatchResult result (IsServerText authority.now) (λ refusal. IsWrongServer refusal authority.now) }
 {
-    match text.split_once(mark) {
-        Some(parts) => parts,
-        None => (text, ""),
+    if !is_closed(authority) {
+        return Err(UriRefusal::Six);
     }
+    let (host, port) = host_and_port(authority);
+    let Some(host) = uri_host_in(host) else {
+        if is_bracketed(authority) {
+            return Err(UriRefusal::Six);
+        }
+        return Err(UriRefusal::Host);
+    };
+    let Some(port) = port_in(port) else {
+        return Err(UriRefusal::Port);
+    };
+    Ok(Server { host, port })
+}
+
+// Whether an authority begins with a bracket.
+fn is_bracketed(authority: &str) -> bool
+    ensures { result ≡ is_bracketed authority.now }
+{
+    match authority.as_bytes() {
+        [OPENING, ..] => true,
+        _ => false,
+    }
+}
+
+// Whether the bracket that an authority begins with is closed, and nothing but a port stands behind it.
+fn is_closed(authority: &str) -> bool
+    ensures { result ≡ is_closed authority.now }
+{
+    if !is_bracketed(authority) {
+        return true;
+    }
+    let (_, rest) = parted(authority, CLOSING);
+    let (between, _) = parted(rest, COLON);
+    has(authority, CLOSING_BYTE) && between.is_empty()
+}
+
+// The host and the port of an authority; in front of an address of IPv6 its bracket stands.
+fn host_and_port(authority: &str) -> (&str, &str)
+    ensures host { result.0.now ≡ host_text authority.now }
+    ensures port { result.1.now ≡ port_text authority.now }
+{
+    if !is_bracketed(authority) {
+        return parted(authority, COLON);
+    }
+    let (host, rest) = parted(authority, CLOSING);
+    let (_, port) = parted(rest, COLON);
+    (host, port)
 }
 
 // A text without the slash that it begins with.
@@ -113,29 +152,12 @@ fn without_slash(text: &str) -> Option<&str>
     text.strip_prefix(SLASH)
 }
 
-// Whether such a byte stands in a text.
-fn has(text: &str, mark: u8) -> bool
-    ensures { result ≡ has mark text.now }
-{
-    text.as_bytes().iter().any(|byte| *byte == mark)
-}
-
 // Whether the scheme of a URI is that of CoAP.
 fn is_of_coap(text: &str) -> bool
     ensures { IsTrue result ↔ IsOfCoap text.now }
 {
     let (scheme, _) = parted(text, COLON);
     scheme.eq_ignore_ascii_case(SCHEME)
-}
-
-// The address that a text says.
-fn host_in(text: &str) -> Option<Ipv4Addr>
-    ensures { MatchOption result ((host : Ipv4AddrSpec) → IsIpv4Text text.now host → ⊥) (IsIpv4Text text.now) }
-{
-    match text.parse::<Ipv4Addr>() {
-        Ok(host) => Some(host),
-        Err(_) => None,
-    }
 }
 
 // The port that the digits of a URI say.

@@ -20,7 +20,9 @@ use crate::orders::{DEFAULT_WORD, FOREVER, Order, StoreKind, WordChoice, Wrong};
 use crate::path_text::path_of_text;
 use crate::plains::plains_of;
 use crate::refusals::NumberRefusal;
+use crate::servers::{discover_order, ping_order};
 use crate::serving::{serve_options_of, serving_word};
+use crate::together::{dump_order, served_apart};
 use clap::ArgMatches;
 use coap_types::{BodyLimit, Remembered};
 use std::alloc::Global;
@@ -75,11 +77,13 @@ fn order_of<'a>(alloc: Global, words: &'a [String]) -> Result<Order<'a>, Wrong>
     };
     match subcommand {
         "show" => show_order(alloc, given),
-        "dump" => Ok(Order::Dump),
+        "dump" => dump_order(given),
         "answer" => answer_order(alloc, given),
         "pair" => pair_order(alloc, given),
         "serve" => serve_order(alloc, given),
         "sim" => sim_order(alloc, given),
+        "discover" => discover_order(alloc, given),
+        "ping" => ping_order(alloc, given),
         _ => ask_order(alloc, subcommand, given),
     }
 }
@@ -153,11 +157,16 @@ fn serve_order<'a>(alloc: Global, given: &ArgMatches<'a>) -> Result<Order<'a>, W
     let Some(count) = count(given) else {
         return Err(Wrong::Number(NumberRefusal::Count));
     };
+    if let Some(refusal) = served_apart(given) {
+        return Err(Wrong::Together(refusal));
+    }
     let options = serve_options_of(alloc, given, serving_word(count))?;
     Ok(Order::Serve {
         port,
         count,
         options,
+        script: optional(given, "script"),
+        pcap: optional(given, "pcap"),
     })
 }
 
@@ -188,6 +197,7 @@ fn sim_order<'a>(alloc: Global, given: &ArgMatches<'a>) -> Result<Order<'a>, Wro
         chart,
         client,
         server,
+        pcap: optional(given, "pcap"),
     })
 }
 
