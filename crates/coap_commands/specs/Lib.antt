@@ -3,9 +3,10 @@ pub mod Asks
 pub mod Bearing
 pub mod Captured
 pub mod Capturing
-pub mod Dumps
 pub mod Discovers
+pub mod Dumps
 pub mod Ends
+pub mod Hosts
 pub mod JsonLines
 pub mod JsonValues
 pub mod Observes
@@ -21,5 +22,6 @@ pub mod Statuses
 pub mod Tasks
 pub mod Terms
 pub mod ToldChanges
+pub mod Tracings
 pub mod Waiting
 pub mod Watches

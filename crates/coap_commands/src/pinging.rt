@@ -3,12 +3,15 @@ ghost use Rattle.std.specs.Prelude.{◌≡◌, ◌≤◌, ◌+◌, true, IfOk};
 ghost use Rattle.coap_commands.specs.Pinged.{Comes, Drops, Hears, IsGivenUp, IsNext, IsPing, MaySend, Pings};
 
 use crate::bearing::bear_in_all;
+use crate::json_lines::write_line;
 use crate::timekeeper::Timekeeper;
 use crate::waiting::has_lasted;
+use coap_json::{PingEnd, ping_line};
 use coap_links::{Link, MAX_DATAGRAM_LEN, fresh_tally};
 use coap_ping::Ping;
 use coap_scripts::{Status, Stop};
 use coap_types::{Endpoint, Moment};
+use std::alloc::Global;
 use std::io::Write;
 
 /// How long after one ping the next one begins at the earliest, in milliseconds.
@@ -27,6 +30,8 @@ pub struct Pinging {
     pub give_up: Option<u64>,
     /// The word that picks the Message ID of the first; that of each further one is one more.
     pub word: u64,
+    /// Whether it is told in JSON how each ended.
+    pub json: bool,
 }
 
 // Receives a datagram, if one came; whether it answers the ping.
@@ -133,8 +138,24 @@ fn tell<O: Write>(answer: Option<u64>, out: &mut O) -> Result<(), Stop> {
     Ok(())
 }
 
+// Says in JSON at this moment how a ping ended that began at that one.
+fn tell_in_json<O: Write>(
+    alloc: Global,
+    answer: Option<u64>,
+    begin: Moment,
+    now: Moment,
+    out: &mut O,
+) -> Result<(), Stop> {
+    let line = match answer {
+        Some(ms) => ping_line(alloc, now, PingEnd::Reset, ms)?,
+        None => ping_line(alloc, now, PingEnd::Timeout, now.since(begin))?,
+    };
+    write_line(line.as_slice(), out)
+}
+
 // Sends the ping of this number, from 0, at this moment, and says how it ended.
 fn ping_and_tell<L: Link, T: Timekeeper, O: Write>(
+    alloc: Global,
     link: &mut L,
     time: &mut T,
     pinging: &Pinging,
@@ -147,13 +168,18 @@ fn ping_and_tell<L: Link, T: Timekeeper, O: Write>(
 {
     let word = pinging.word.wrapping_add(number);
     let answer = ping_at(link, time, pinging, word, begin)?;
-    tell(answer, out)?;
+    if pinging.json {
+        tell_in_json(alloc, answer, begin, time.now()?, out)?;
+    } else {
+        tell(answer, out)?;
+    }
     Ok(answer.is_some())
 }
 
 /// Sends pings, each of which begins a second after the one before, and says of each how soon it was answered. It ends
 /// once as many were as are wanted, or with the first that is not.
 pub fn ping_over<L: Link, T: Timekeeper, O: Write>(
+    alloc: Global,
     link: &mut L,
     time: &mut T,
     pinging: &Pinging,
@@ -170,7 +196,7 @@ pub fn ping_over<L: Link, T: Timekeeper, O: Write>(
     }
     let mut begin = time.now()?;
     for number in 0..pinging.count {
-        if !ping_and_tell(link, time, pinging, number, begin, out)? {
+        if !ping_and_tell(alloc, link, time, pinging, number, begin, out)? {
             return Ok(Status::Refused);
         }
         if number + 1 == pinging.count {
