@@ -3,12 +3,15 @@ pub mod Asks
 pub mod Bearing
 pub mod Captured
 pub mod Capturing
+pub mod Discovers
 pub mod Dumps
 pub mod Ends
+pub mod Hosts
 pub mod JsonLines
 pub mod JsonValues
 pub mod Observes
 pub mod Pairs
+pub mod Pinged
 pub mod Polls
 pub mod Progress
 pub mod ScriptSettings
@@ -19,4 +22,6 @@ pub mod Statuses
 pub mod Tasks
 pub mod Terms
 pub mod ToldChanges
+pub mod Tracings
 pub mod Waiting
+pub mod Watches

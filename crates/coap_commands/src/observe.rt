@@ -1,5 +1,5 @@
 //! Observing a resource, and printing its values (RFC 7641).
-ghost use Rattle.std.specs.Prelude.{◌≡◌, ◌+◌, ◌≤◌, ◌∷◌, ℕ, List, [], true, false, Some, IfNone, IfOk, IfSome, OnOk};
+ghost use Rattle.std.specs.Prelude.{◌≡◌, ◌↔◌, ◌+◌, ◌≤◌, ◌∷◌, ℕ, List, [], true, false, Some, IfNone, IfOk, IfSome, OnOk};
 ghost use Rattle.coap_types.specs.declared.endpoint.Endpoint.{Endpoint as EndpointSpec};
 ghost use Rattle.coap_block.specs.Sizes.{Sizes};
 ghost use Rattle.coap_layer.specs.declared.setup.Setup.{Setup as SetupSpec};
@@ -37,7 +37,7 @@ use std::io::Write;
 
 // Whether so many values are as many as are wanted.
 fn has_all(times: Option<u64>, values: u64) -> bool
-    ensures { result ≡ true → HasAll times values }
+    ensures { (result ≡ true) ↔ HasAll times values }
 {
     match times {
         Some(times) => times <= values,
@@ -47,7 +47,7 @@ fn has_all(times: Option<u64>, values: u64) -> bool
 
 /// Whether so many seconds have passed.
 pub(crate) fn is_late(seconds: Option<u64>, begin: Moment, now: Moment) -> bool
-    ensures { result ≡ true → IsLate seconds begin.0 now.0 }
+    ensures { (result ≡ true) ↔ IsLate seconds begin.0 now.0 }
 {
     match seconds {
         Some(seconds) => seconds <= now.since(begin) / MS_PER_SECOND,
@@ -55,9 +55,9 @@ pub(crate) fn is_late(seconds: Option<u64>, begin: Moment, now: Moment) -> bool
     }
 }
 
-// Whether an observation that began at this moment is over, after so many values.
-fn is_over(options: &AskOptions, begin: Moment, values: u64, now: Moment) -> bool
-    ensures { result ≡ true → IsOver options.now begin.0 values now.0 }
+/// Whether an observation that began at this moment is over, after so many values.
+pub(crate) fn is_over(options: &AskOptions, begin: Moment, values: u64, now: Moment) -> bool
+    ensures { (result ≡ true) ↔ IsOver options.now begin.0 values now.0 }
 {
     has_all(options.times, values) || is_late(options.seconds, begin, now)
 }
@@ -88,9 +88,9 @@ impl Form {
     }
 }
 
-// Prints a value on a line, at once; whether the report is one. One that comes when the observation is
-// over isn't printed.
-fn print_value<W: Write>(
+/// Prints a value on a line, at once; whether the report is one. One that comes when the observation is
+/// over isn't printed.
+pub(crate) fn print_value<W: Write>(
     alloc: Global,
     report: &Report,
     is_over: bool,
@@ -229,13 +229,14 @@ fn awaited<H: BuildHasher, L: Link, T: Timekeeper, E: Write, W: Write>(
     Err(Stop::Failed)
 }
 
-// Hands a client the observation of a path: its number, or the refusal where the client does not take it.
-fn register<H: BuildHasher>(
+/// Hands a client the observation of a path: its number, or the refusal where the client does not take it.
+pub(crate) fn register<H: BuildHasher>(
     client: &mut Client<Global, H>,
     now: Moment,
     path: &Path,
 ) -> Result<Result<CallId, CallRefusal>, Stop>
-    ensures { IfOk result (λ answer. (server : EndpointSpec) (sizes : Sizes) (w : SetupSpec) (t : List Call)
+    ensures step { IfOk result (λ answer. Step client.old (observes now.0 path.now (number_of answer)) client.new) }
+    ensures led { IfOk result (λ answer. (server : EndpointSpec) (sizes : Sizes) (w : SetupSpec) (t : List Call)
         → Led server sizes w t client.old
         → Led server sizes w (observes now.0 path.now (number_of answer) ∷ t) client.new) }
 {
