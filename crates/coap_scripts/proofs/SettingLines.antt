@@ -184,3 +184,21 @@ no_format line digits left cut none format body says =
 -- a word says one number
 pub one_number : (word : List ℕ) (n m : ℕ) → SaysNumber word n → SaysNumber word m → n ≡ m
 one_number word n m a b = sym a.1 ∙ b.1
+
+-- ---- why a line is refused
+
+-- for want of memory, or since what is said is none
+abbrev pub Refuses : Type 0 → LineRefusal → Type 0
+Refuses None e = (e ≡ refusal.Memory) ⊎ ((e ≡ refusal.Unreadable) × None)
+
+pub refuses_on : (P Q : Type 0) (e : LineRefusal) → (P → Q) → Refuses P e → Refuses Q e
+refuses_on P Q e on (inl memory) = inl memory
+refuses_on P Q e on (inr h) = inr (h.0, on h.1)
+
+pub no_front_delay : (line : List ℕ) → ((path : List (List ℕ)) (rest : List ℕ) → SaysFront path rest line → ⊥)
+    → (path : List (List ℕ)) (ms : ℕ) → SaysDelay path ms line → ⊥
+no_front_delay line none path ms says = none path says.0 says.1
+
+pub no_front_hold : (line : List ℕ) → ((path : List (List ℕ)) (rest : List ℕ) → SaysFront path rest line → ⊥)
+    → (path : List (List ℕ)) (format : ℕ) (body : List ℕ) → SaysHold path format body line → ⊥
+no_front_hold line none path format body says = none path says.0 says.1
