@@ -9,5 +9,6 @@ pub mod ServedCalls
 pub mod SettingUpCalls
 pub mod Statuses
 pub mod TurnCalls
+pub mod WatchedCalls
 pub mod WhatBecomes
 pub mod WhoTakes

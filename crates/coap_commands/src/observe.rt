@@ -97,7 +97,7 @@ pub(crate) fn print_value<W: Write>(
     form: Form,
     out: &mut W,
 ) -> Result<bool, Stop>
-    ensures { IfOk result (λ is. is ≡ is_value (shown_report report.now)) }
+    ensures value { IfOk result (λ is. is ≡ is_value (shown_report report.now)) }
     ensures written { OnOk result (WritesValue form is_over (W.contents out.old) (W.contents out.new)
         (shown_report report.now)) }
 {

@@ -164,7 +164,7 @@ pub(crate) fn script_of<R: AllocGlobal + Files>(
     rt: &R,
     name: Option<&str>,
 ) -> Result<Result<Vec<Setting>, BadLine>, Stop>
-    ensures { IfOk result (λ read. IfOk read (λ settings. AreOfScript name.entry (map setting_of settings.items))) }
+    ensures said { IfOk result (λ read. IfOk read (λ settings. AreOfScript name.entry (map setting_of settings.items))) }
     ensures named { IfOk result (λ read. IfErr read (λ _. IsSome name)) }
 {
     let Some(name) = name else {
