@@ -8,4 +8,5 @@ pub mod ServedCalls
 pub mod SettingUpCalls
 pub mod Statuses
 pub mod TurnCalls
+pub mod WatchedCalls
 pub mod WhatBecomes

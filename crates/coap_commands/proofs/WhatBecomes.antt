@@ -9,11 +9,7 @@ use Rattle.coap_client.specs.Trace.{Call, Calls, Request}
 use Rattle.coap_client.specs.declared.client.report.CallId.{CallId}
 use Rattle.coap_client.specs.declared.refusals.CallRefusal.{CallRefusal}
 use Rattle.coap_client.proofs.Facts.EachCall.{led_client}
-use Rattle.coap_arguments.specs.declared.orders.AskOptions.{AskOptions}
-use Rattle.coap_arguments.specs.declared.orders.What.{What}
-use Rattle.coap_commands.specs.Asked.{IsBody, IsRequested, IsWord, asked_request, asked_setup, asked_server}
 use Rattle.coap_commands.specs.Asks.{Asks, AsksNothing, Becomes, Chain, Comes, status_after, takes_report}
-use Rattle.coap_commands.specs.Ends.{client_sizes}
 use Rattle.coap_commands.specs.JsonLines.{Tells, WritesOutcome}
 use Rattle.coap_commands.specs.declared.calling.Outcome.{Outcome}
 use Rattle.coap_commands.specs.declared.calling.Outcome.TheVariants.{GaveUp, Refused, Reported}
@@ -110,23 +106,3 @@ pub began : (Leads : Endpoint → Sizes → Setup → Type 0) (Is : Endpoint →
     → IfOk ended (Is server sizes setup)
 began Leads Is (Ok s) server sizes setup led is = is server sizes setup led
 began Leads Is (Err stop) server sizes setup led is = tt
-
--- of the request that the words say
-pub asked_by : (port : ℕ) (server : Endpoint) (word : ℕ) (path : List (List ℕ)) (what : What) (options : AskOptions)
-    (body : List ℕ) (request : Request) (ended : Result Status Stop)
-    → server ≡ asked_server port options → IsWord options.word word → IsBody what body
-    → request ≡ asked_request what path options body
-    → IfOk ended (Asks server (client_sizes options.size options.limit) (asked_setup word options) options.give_up
-    request)
-    → IfOk ended (IsRequested port path what options)
-asked_by port server word path what options body request (Ok s) there is_word is_body same asks = (
-  word,
-  is_word,
-  body,
-  is_body,
-  subst (λ (e : Endpoint). Asks e (client_sizes options.size options.limit) (asked_setup word options) options.give_up
-      (asked_request what path options body) s)
-      there (subst (λ (r : Request). Asks server (client_sizes options.size options.limit) (asked_setup word options)
-      options.give_up r s) same asks),
-)
-asked_by port server word path what options body request (Err stop) there is_word is_body same asks = tt

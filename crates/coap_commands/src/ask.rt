@@ -71,8 +71,8 @@ fn awaited<H: BuildHasher, L: Link, T: Timekeeper, E: Write>(
     Err(Stop::Failed)
 }
 
-// What becomes of a request, where the client was asked for nothing before.
-fn outcome_of<H: BuildHasher, L: Link, T: Timekeeper, E: Write>(
+/// What becomes of a request, where the client was asked for nothing before.
+pub(crate) fn outcome_of<H: BuildHasher, L: Link, T: Timekeeper, E: Write>(
     client: &mut Client<Global, H>,
     connection: &mut Connection<'_, '_, '_, L, T, E>,
     request: Request,

@@ -41,6 +41,7 @@ mod setting_up;
 mod show;
 mod side;
 mod silence;
+mod sources;
 mod timekeeper;
 mod told_source;
 mod tracing;

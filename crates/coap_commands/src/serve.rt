@@ -17,11 +17,11 @@ use crate::capturing::{FourStanding, SixStanding, Standing, begin_of, capture_in
 use crate::changes::{ChangeTeller, TellingEnd, changes_on};
 use crate::ends::tell_refusal;
 use crate::hosts::{Peer, peer_at};
-use crate::link_source::own_six;
 use crate::peers::{FourPeers, Peers, SixPeers};
 use crate::put_away::put_away;
 use crate::serve_script::{script_of, tell_bad_line};
 use crate::setting_up::{NotSetUp, server_by};
+use crate::sources::own_six;
 use crate::timekeeper::{ProgramTime, Timekeeper};
 use crate::tracing::{Tracing, teller_on};
 use crate::word::word_of;

@@ -3,8 +3,9 @@ ghost use Rattle.coap_types.specs.declared.endpoint.Endpoint.{Endpoint as Endpoi
 
 use crate::capturing::{CaptureTeller, capture_on};
 use crate::closed_port::{ClosedPort, ClosedPortLink};
-use crate::link_source::{Ends, LinkSource};
+use crate::link_source::LinkSource;
 use crate::screen::Screen;
+use crate::sources::Ends;
 use crate::timekeeper::ProgramTime;
 use crate::tracing::{LineTeller, SharedWriter, Tracing, teller_on};
 use coap_links::{Link, Trace};
