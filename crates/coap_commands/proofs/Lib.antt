@@ -1,9 +1,12 @@
 pub mod AskedTasks
+pub mod CapturedPackets
 pub mod ObservedCalls
 pub mod PairCalls
 pub mod PolledCalls
+pub mod ScriptCalls
 pub mod ServedCalls
 pub mod SettingUpCalls
 pub mod Statuses
 pub mod TurnCalls
+pub mod WatchedCalls
 pub mod WhatBecomes

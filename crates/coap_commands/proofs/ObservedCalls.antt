@@ -14,9 +14,7 @@ use Rattle.coap_client.specs.declared.refusals.CallRefusal.{CallRefusal}
 use Rattle.coap_client.specs.declared.refusals.CancelRefusal.{CancelRefusal}
 use Rattle.coap_client.proofs.Facts.EachCall.{led_client}
 use Rattle.coap_arguments.specs.declared.orders.AskOptions.{AskOptions}
-use Rattle.coap_commands.specs.Asked.{IsObserved, IsWord, asked_server, asked_setup}
 use Rattle.coap_commands.specs.Asks.{AsksNothing, Each, Turned, takes_report}
-use Rattle.coap_commands.specs.Ends.{client_sizes}
 use Rattle.coap_commands.specs.Observes.{AllObserving, HasAll, IsOver, ObserveBecomes, ObserveComes, Observed, Observes}
 use Rattle.coap_commands.specs.Observes.{Observing, value_in, values_in}
 use Rattle.coap_commands.specs.declared.calling.Outcome.{Outcome}
@@ -152,16 +150,3 @@ taken_observes Leads options now path answer id s (Ok came) is led h = λ server
     (subst (λ (a : Result CallId CallRefusal). Led server sizes w (observes now path (number_of a) ∷ []) s) is
     (led server sizes w leads)) h
 taken_observes Leads options now path answer id s (Err stop) is led h = tt
-
--- of the path and the options that the words say
-pub observed_by : (port : ℕ) (server : Endpoint) (word : ℕ) (path : List (List ℕ)) (options : AskOptions)
-    (ended : Result Status Stop) → server ≡ asked_server port options → IsWord options.word word
-    → IfOk ended (Observes server (client_sizes options.size options.limit) (asked_setup word options) path options)
-    → IfOk ended (IsObserved port path options)
-observed_by port server word path options (Ok s) there is_word is = (
-  word,
-  is_word,
-  subst (λ (e : Endpoint). Observes e (client_sizes options.size options.limit)
-      (asked_setup word options) path options s) there is,
-)
-observed_by port server word path options (Err stop) there is_word is = tt

@@ -15,9 +15,6 @@ use Rattle.coap_client.specs.declared.client.report.Report as R
 use Rattle.coap_client.specs.declared.refusals.CallRefusal.{CallRefusal}
 use Rattle.std.specs.declared.alloc.Global.{Global}
 use Rattle.coap_arguments.specs.declared.orders.AskOptions.{AskOptions}
-use Rattle.coap_arguments.specs.declared.orders.What.TheVariants.{Get}
-use Rattle.coap_commands.specs.Asked.{IsPolled, IsWord, asked_request, asked_server, asked_setup}
-use Rattle.coap_commands.specs.Ends.{client_sizes}
 use Rattle.coap_commands.specs.Asks.{AsksNothing, Chain, Each, Turned, got_status, takes_report}
 use Rattle.coap_commands.specs.Polls.{AreReadings, Closes, Follows, Goes, HasCome, HasRead, IsLeft, IsNext, IsPending}
 use Rattle.coap_commands.specs.Polls.{IsThrough, Polls, Reading, Reads, calls_of, pending_after, read_status}
@@ -267,17 +264,3 @@ polled_by server sizes setup request every options client (Ok status) led h =
           (led_on server sizes setup [] (calls_of request h.0) client h.3 led read.1),
     )
 polled_by server sizes setup request every options client (Err stop) led h = tt
-
--- of the path and the options that the words say
-pub polled_task : (port : ℕ) (server : Endpoint) (word : ℕ) (path : List (List ℕ)) (every : ℕ) (options : AskOptions)
-    (ended : Result Status Stop) → server ≡ asked_server port options → IsWord options.word word
-    → IfOk ended (Polls server (client_sizes options.size options.limit) (asked_setup word options)
-    (asked_request Get path options []) every options)
-    → IfOk ended (IsPolled port path every options)
-polled_task port server word path every options (Ok s) there is_word is = (
-  word,
-  is_word,
-  subst (λ (e : Endpoint). Polls e (client_sizes options.size options.limit) (asked_setup word options)
-      (asked_request Get path options []) every options s) there is,
-)
-polled_task port server word path every options (Err stop) there is_word is = tt

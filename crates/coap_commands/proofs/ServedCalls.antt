@@ -2,7 +2,9 @@
 -- taken; of its tally, no more is fed than these calls feed.
 use Rattle.std.proofs.Common.{◌≡◌, ◌≤◌, ◌+◌, ℕ, Bool, true, false, List, [], ◌∷◌, ◌++◌, Option, Some, None, Result, Ok}
 use Rattle.std.proofs.Common.{Err, IfOk}
-use Rattle.std.proofs.Common.{inl, inr, refl, sym, subst, arith, if◌then◌else◌, nat_lt, ◌^◌, ◌-◌}
+use Rattle.std.proofs.Common.{inl, inr, refl, sym, subst, arith, if◌then◌else◌, nat_lt, ◌^◌, ◌-◌, ◌≢◌, length}
+use Rattle.std.specs.Borrow.{Bor}
+use Rattle.std.specs.Option.{IsSome}
 use Rattle.coap_types.specs.declared.endpoint.Endpoint.{Endpoint}
 use Rattle.coap_layer.specs.Trace as layer
 use Rattle.coap_layer.specs.Trace.{Answer}
@@ -20,10 +22,12 @@ use Rattle.coap_server.specs.Trace.{Call, Handling, NextOut, Ticks}
 use Rattle.coap_server.specs.Trace.{Feeds as FedIn}
 use Rattle.coap_arguments.specs.declared.orders.ServeOptions.{ServeOptions}
 use Rattle.coap_commands.specs.Asked.{IsWord}
-use Rattle.coap_commands.specs.Served.{AllTurning, FedFrom, IsServed, IsTurning, Leads, fed_by, fed_in}
+use Rattle.coap_commands.specs.ScriptSettings.{AreOfScript}
+use Rattle.coap_commands.specs.Served.{AllTurning, FedFrom, IsServed, IsServedBy, IsTurning, Leads, fed_by, fed_in}
 use Rattle.coap_commands.specs.Serves.{Serves, Turning, nothing_fed}
 use Rattle.coap_commands.specs.Serves.{further as more, none as no_turn}
 use Rattle.coap_commands.specs.SettingUp.{IsServer}
+use Rattle.coap_scripts.specs.Settings.{Setting}
 use Rattle.coap_scripts.specs.declared.status.Status.{Status}
 use Rattle.coap_scripts.specs.declared.status.Status.TheVariants as status
 use Rattle.coap_scripts.specs.declared.status.Stop.{Stop}
@@ -209,13 +213,51 @@ module _ {L : Type 0} (waiting : State → List layer.Packet) (sends : L → End
         (h.0, last, subst (λ (at : State). FedFrom count at last) is (server_fed count word first l last m h.1))
     served_from count word own first last l m (Err stop) is h = tt
 
--- it serves as its words say
-pub served_by : (count : ℕ) (options : ServeOptions) (word : ℕ) (first : State) (ended : Result Status Stop)
-    → IsWord options.word word → IsServer word options first
+-- it serves as its words and its settings say
+pub served_by : (count : ℕ) (options : ServeOptions) (settings : List Setting) (word : ℕ) (first : State)
+    (ended : Result Status Stop) → IsServer word options settings first
     → IfOk ended (λ s. (s ≡ status.Done) × (end : State) × FedFrom count first end)
-    → IfOk ended (IsServed count options)
-served_by count options word first (Ok s) is_word set_up h = inr (h.0, word, is_word, first, set_up, h.1, h.2)
-served_by count options word first (Err stop) is_word set_up h = tt
+    → IfOk ended (λ s. IsWord options.word word → IsServedBy count options settings s)
+served_by count options settings word first (Ok s) set_up h =
+    λ is_word. inr (inr (h.0, word, is_word, first, set_up, h.1, h.2))
+served_by count options settings word first (Err stop) set_up h = tt
+
+-- .. or it isn't set up
+pub refused_by : (count : ℕ) (options : ServeOptions) (settings : List Setting) (word : ℕ) (ended : Result Status Stop)
+    → IfOk ended (λ s. s ≡ status.Refused)
+    → IfOk ended (λ s. IsWord options.word word → IsServedBy count options settings s)
+refused_by count options settings word (Ok s) h = λ is_word. inl h
+refused_by count options settings word (Err stop) h = tt
+
+some_settings : (n : ℕ) (settings : List Setting) → 1 ≤ n → n ≤ length settings → settings ≢ []
+some_settings n [] least most = absurd (omega (arith, least, most))
+some_settings n (s ∷ settings) least most = λ is. cc is
+
+pub bad_by : (count : ℕ) (options : ServeOptions) (settings : List Setting) (word n : ℕ) (ended : Result Status Stop)
+    → 1 ≤ n → n ≤ length settings → IfOk ended (λ s. s ≡ status.Words)
+    → IfOk ended (λ s. IsWord options.word word → IsServedBy count options settings s)
+bad_by count options settings word n (Ok s) least most h =
+    λ is_word. inr (inl (h, some_settings n settings least most))
+bad_by count options settings word n (Err stop) least most h = tt
+
+-- with the word that was chosen
+pub worded : (count : ℕ) (options : ServeOptions) (settings : List Setting) (word : ℕ) (ended : Result Status Stop)
+    → IsWord options.word word → IfOk ended (λ s. IsWord options.word word → IsServedBy count options settings s)
+    → IfOk ended (IsServedBy count options settings)
+worded count options settings word (Ok s) is_word h = h is_word
+worded count options settings word (Err stop) is_word h = tt
+
+-- with the settings of the script that is named
+pub served_as : (count : ℕ) (options : ServeOptions) (script : Option (Bor (List ℕ))) (settings : List Setting)
+    (ended : Result Status Stop) → AreOfScript script settings → IfOk ended (IsServedBy count options settings)
+    → IfOk ended (IsServed count options script)
+served_as count options script settings (Ok s) of h = inr (settings, of, h)
+served_as count options script settings (Err stop) of h = tt
+
+pub bad_script : (count : ℕ) (options : ServeOptions) (script : Option (Bor (List ℕ))) (ended : Result Status Stop)
+    → IsSome script → IfOk ended (λ s. s ≡ status.Words) → IfOk ended (IsServed count options script)
+bad_script count options script (Ok s) some h = inl (h, some)
+bad_script count options script (Err stop) some h = tt
 
 -- what was made is as each that is made
 pub made_is : {X E : Type 0} (Is : X → Type 0) (made : Result X E) (x : X) → made ≡ Ok x → IfOk made Is → Is x

@@ -1,6 +1,8 @@
 -- With which status words are answered that ask for an order, or have something wrong.
 use Rattle.std.proofs.Common.{◌≡◌, ◌≢◌, ◌∙◌, inl, inr, ap, sym, subst, ℕ, ◌≤◌, List, [], ◌∷◌, Option, None, Some}
 use Rattle.std.proofs.Common.{codes, refl, ◌⊎◌, arith, Result, Ok, Err, IfOk}
+use Rattle.std.specs.Borrow.{Bor}
+use Rattle.std.specs.Option.{IsSome}
 use Rattle.clap.specs.Words.{Row, Text}
 use Rattle.std.specs.declared.alloc.Global.{Global}
 use Rattle.coap_types.specs.declared.request.Method.{Method}
@@ -12,7 +14,9 @@ use Rattle.coap_commands.specs.Asks.{changed_report, changed_status, got_report,
 use Rattle.coap_commands.specs.Observes.{observed_report, observed_status}
 use Rattle.coap_commands.specs.Pairs.{IsPaired}
 use Rattle.coap_commands.specs.Polls.{Reading, read_status}
-use Rattle.coap_commands.specs.Served.{IsServed}
+use Rattle.coap_commands.specs.Served.{IsServed, IsServedBy}
+use Rattle.coap_commands.specs.ScriptSettings.{AreOfScript}
+use Rattle.coap_scripts.specs.Settings.{Setting as SettingSpec}
 use Rattle.coap_commands.specs.declared.calling.Outcome.{Outcome}
 use Rattle.coap_commands.specs.declared.calling.Outcome.TheVariants as outcome
 use Rattle.coap_commands.specs.Statuses.{CarriesOut, Ends, IsAnswered, IsCarriedOut, IsCarriedTo, IsTold, ReadsText}
@@ -25,7 +29,7 @@ use Rattle.coap_scripts.specs.declared.status.Stop.{Stop}
 use Rattle.coap_scripts.specs.declared.status.Stop.TheVariants as stop
 use Rattle.coap_arguments.specs.declared.orders.Order.{Order}
 use Rattle.coap_arguments.specs.declared.orders.Order.TheVariants.{Version, Show, Dump, Answer, Pair, Serve, Ask}
-use Rattle.coap_arguments.specs.declared.orders.Order.TheVariants.{Sim}
+use Rattle.coap_arguments.specs.declared.orders.Order.TheVariants.{DumpCapture, Sim}
 use Rattle.coap_arguments.specs.declared.orders.AskOptions.{AskOptions}
 use Rattle.coap_arguments.specs.declared.orders.ServeOptions.{ServeOptions}
 use Rattle.coap_arguments.specs.declared.orders.WordChoice.{WordChoice}
@@ -235,14 +239,32 @@ paired_done : (ended : Result Status Stop) (path : List (List ℕ)) (body : List
 paired_done (Ok s) path body word limit remembered h = paired_carried h.3
 paired_done (Err stop) path body word limit remembered h = tt
 
-served_ends : (s : Status) (count : ℕ) (options : ServeOptions) → IsServed count options s → IsCarriedOut s
-served_ends s count options (inl is) = inr is
-served_ends s count options (inr h) = inl h.0
+-- a server that is set up, or is not, comes to 2 only where settings are there
+served_settings : (s : Status) (count : ℕ) (options : ServeOptions) (settings : List SettingSpec)
+    → IsServedBy count options settings s → status_number s ≡ 2 → settings ≢ []
+served_settings s count options settings (inl is) h =
+    absurd (let n : 1 ≡ 2 = sym (ap status_number is) ∙ h in omega (arith, n))
+served_settings s count options settings (inr (inl bad)) h = bad.1
+served_settings s count options settings (inr (inr done)) h =
+    absurd (let n : 0 ≡ 2 = sym (ap status_number done.0) ∙ h in omega (arith, n))
 
-served_done : (ended : Result Status Stop) (count : ℕ) (options : ServeOptions) → IfOk ended (IsServed count options)
-    → IfOk ended IsCarriedOut
-served_done (Ok s) count options h = served_ends s count options h
-served_done (Err stop) count options h = tt
+-- .. and so only where a script is named
+scripted : (script : Option (Bor (List ℕ))) (settings : List SettingSpec) → AreOfScript script settings → settings ≢ []
+    → IsSome script
+scripted None settings none some = absurd (some none)
+scripted (Some name) settings of some = tt
+
+served_ends : (s : Status) (count : ℕ) (options : ServeOptions) (script : Option (Bor (List ℕ)))
+    → IsServed count options script s → status_number s ≡ 2 → IsSome script
+served_ends s count options script (inl bad) h = bad.1
+served_ends s count options script (inr (settings, of, served)) h =
+    scripted script settings of (served_settings s count options settings served h)
+
+served_done : (ended : Result Status Stop) (count : ℕ) (options : ServeOptions) (script : Option (Bor (List ℕ)))
+    → IfOk ended (IsServed count options script) → number ended ≡ 2 → IsSome script
+served_done (Ok s) count options script c h = served_ends s count options script c h
+served_done (Err stop.Failed) count options script c h = absurd (let n : 3 ≡ 2 = h in omega (arith, n))
+served_done (Err stop.Memory) count options script c h = absurd (let n : 4 ≡ 2 = h in omega (arith, n))
 
 version_done : (ended : Result Status Stop) → IfOk ended (λ s. s ≡ status.Done) → IfOk ended IsCarriedOut
 version_done (Ok s) is = inl is
@@ -254,13 +276,14 @@ text_only : (order : Order) (ended : Result Status Stop) → IfOk ended (Carries
 text_only Version ended c h = absurd (carried_out ended (version_done ended c) h)
 text_only (Show datagram) ended c h = absurd (carried_out ended c h)
 text_only Dump ended c h = tt
+text_only (DumpCapture file chart) ended c h = tt
 text_only (Answer path body datagram) ended c h = absurd (carried_out ended c h)
 text_only (Pair path body word limit remembered) ended c h =
     absurd (carried_out ended (paired_done ended path body.now word limit remembered c) h)
-text_only (Serve port count options) ended c h = absurd (carried_out ended (served_done ended count options c) h)
+text_only (Serve port count options script pcap) ended c h = served_done ended count options script c h
 text_only (Ask port path what options) ended c h = absurd (carried_out ended
     (asked_carried ended port path what options c) h)
-text_only (Sim file store plains remembered chart client server) ended c h = tt
+text_only (Sim file store plains remembered chart client server pcap) ended c h = tt
 
 -- 2 says that something is wrong in the words, or that they have a text read
 pub wrong_words : (words : List Text) (ended : Result Status Stop) → Ends words ended → number ended ≡ 2

@@ -17,6 +17,7 @@ use Rattle.coap_links.specs.Turning.{Rests, Steps, Turns, further, next_word, no
 use Rattle.coap_links.specs.declared.driver.Pumped.{Pumped}
 use Rattle.coap_links.specs.declared.tally.Tally.{Tally}
 use Rattle.coap_commands.specs.Asks.{AsksNothing, Chain, Each, Turned}
+use Rattle.coap_commands.specs.Watches.{TurnsAt}
 
 pub chain_join : (old mid new : State) (later earlier : List Call) → Chain old earlier mid → Chain mid later new
     → Chain old (later ++ earlier) new
@@ -39,16 +40,17 @@ turned_here like old new is = ([], tt, is)
 pub turned_by : (like : Call → Type 0) (old new : State) (c : Call) → like c → Step old c new → Turned like old new
 turned_by like old new c is step = (c ∷ [], (is, tt), (old, refl, step))
 
-module _ {L : Type 0} (like : Call → Type 0) (waiting : State → List layer.Packet) (gives : State → layer.Packet → State
-    → Type 0)
+-- of a turn at this moment
+module _ {L : Type 0} (like : Call → Type 0) (now : ℕ) (waiting : State → List layer.Packet)
+    (gives : State → layer.Packet → State → Type 0)
     (sends : L → Endpoint → List ℕ → L → Type 0) (receives : L → Option Packet → L → Type 0) (faults : L → ℕ)
     (quiet_feed : State → ℕ → Endpoint → List ℕ → Type 0)
     (feeds : State → ℕ → Endpoint → List ℕ → ℕ → State → Type 0)
     (quiet_tick : State → ℕ → Type 0) (ticks : State → ℕ → ℕ → Bool → State → Type 0)
     (given : (old : State) (p : layer.Packet) (new : State) → gives old p new → Turned like old new)
-    (fed : (old : State) (now : ℕ) (from : Endpoint) (bytes : List ℕ) (word : ℕ) (new : State)
+    (fed : (old : State) (from : Endpoint) (bytes : List ℕ) (word : ℕ) (new : State)
     → feeds old now from bytes word new → Turned like old new)
-    (ticked : (old : State) (now word : ℕ) (did : Bool) (new : State) → ticks old now word did new
+    (ticked : (old : State) (word : ℕ) (did : Bool) (new : State) → ticks old now word did new
     → Turned like old new)
   where
     sent_turned : (e : State) (l : L) (ps : List layer.Packet) (f : State) (m : L) → SendsAll gives sends e l ps f m
@@ -57,38 +59,37 @@ module _ {L : Type 0} (like : Call → Type 0) (waiting : State → List layer.P
     sent_turned e l (p ∷ ps) f m h =
         turned_on like e h.0 f (given e p h.0 h.2) (sent_turned h.0 h.1 ps f m h.4)
 
-    fed_turned : {X : Type 0} (e : State) (now : ℕ) (came : Option Packet) (word : ℕ) (f : State) (r : Result Pumped X)
+    fed_turned : {X : Type 0} (e : State) (came : Option Packet) (word : ℕ) (f : State) (r : Result Pumped X)
         → IsFedOrLost quiet_feed feeds e now came word f r → Turned like e f
-    fed_turned e now None word f (Ok p) h = turned_here like e f h.0
-    fed_turned e now (Some q) word f (Ok p) h = fed e now q.0 q.1 word f h.0
-    fed_turned e now None word f (Err x) h = absurd h
-    fed_turned e now (Some q) word f (Err x) h = turned_here like e f h.1
+    fed_turned e None word f (Ok p) h = turned_here like e f h.0
+    fed_turned e (Some q) word f (Ok p) h = fed e q.0 q.1 word f h.0
+    fed_turned e None word f (Err x) h = absurd h
+    fed_turned e (Some q) word f (Err x) h = turned_here like e f h.1
 
-    stepped : (e : State) (now : ℕ) (t : Tally) {g : State} {v : Tally} → Steps ticks e now t g v → Turned like e g
-    stepped e now t none = turned_here like e e refl
-    stepped e now t (further g v f steps tick) =
-        turned_on like e g f (stepped e now t steps) (ticked g now (next_word v) true f tick)
+    stepped : (e : State) (t : Tally) {g : State} {v : Tally} → Steps ticks e now t g v → Turned like e g
+    stepped e t none = turned_here like e e refl
+    stepped e t (further g v f steps tick) =
+        turned_on like e g f (stepped e t steps) (ticked g (next_word v) true f tick)
 
-    rested : (e : State) (now : ℕ) (t : Tally) (f : State) (u : Tally) → Rests quiet_tick ticks e now t f u
-        → Turned like e f
-    rested e now t f u h = elim h [
-      | inl last ↦ ticked e now (next_word t) false f last.0
+    rested : (e : State) (t : Tally) (f : State) (u : Tally) → Rests quiet_tick ticks e now t f u → Turned like e f
+    rested e t f u h = elim h [
+      | inl last ↦ ticked e (next_word t) false f last.0
       | inr lost ↦ turned_here like e f lost.1
     ]
 
     -- a whole turn
-    pub turn_turned : (e : State) (l : L) (now : ℕ) (t : Tally) (f : State) (m : L) (u : Tally)
+    pub turn_turned : (e : State) (l : L) (t : Tally) (f : State) (m : L) (u : Tally)
         → Turns waiting gives sends receives faults quiet_feed feeds quiet_tick ticks e l now t f m u → Turned like e f
     unfolding Turns
-    turn_turned e l now t f m u h =
+    turn_turned e l t f m u h =
         let g = h.0 in
         let pump = h.2 in
         let ticks_out = h.3 in
         let sent : Turned like e pump.0 = sent_turned e l (waiting e) pump.0 pump.1 pump.3 in
-        let came : Turned like pump.0 g = fed_turned pump.0 now pump.2 (next_word t) g h.1 pump.6 in
-        let ticked : Turned like g ticks_out.0 = stepped g now (pumped h.1 t) ticks_out.2 in
+        let came : Turned like pump.0 g = fed_turned pump.0 pump.2 (next_word t) g h.1 pump.6 in
+        let ticked : Turned like g ticks_out.0 = stepped g (pumped h.1 t) ticks_out.2 in
         turned_on like e g f (turned_on like e pump.0 g sent came)
-        (turned_on like g ticks_out.0 f ticked (rested ticks_out.0 now ticks_out.1 f u ticks_out.3))
+        (turned_on like g ticks_out.0 f ticked (rested ticks_out.0 ticks_out.1 f u ticks_out.3))
 
 -- ---- a turn of a client: the relations that it has as an end
 
@@ -112,13 +113,28 @@ pub client_turned : {L : Type 0} (like : Call → Type 0) (nothing : (c : Call) 
     → Turns waiting client_gives sends receives faults quiet_feed client_feeds quiet_tick client_ticks e l now t f m u
     → Turned like e f
 client_turned like nothing waiting sends receives faults quiet_feed quiet_tick e l now t f m u h =
-    turn_turned like waiting client_gives sends receives faults quiet_feed client_feeds quiet_tick client_ticks
+    turn_turned like now waiting client_gives sends receives faults quiet_feed client_feeds quiet_tick client_ticks
     (λ old p new k. turned_by like old new (NextOut (Some p)) (nothing (NextOut (Some p)) tt) k)
-    (λ old at from bytes word new k. turned_by like old new (Feeds at from bytes word k.0 k.1 k.2 k.3 k.4 k.5)
-    (nothing (Feeds at from bytes word k.0 k.1 k.2 k.3 k.4 k.5) tt) k.6)
-    (λ old at word did new k. turned_by like old new (Ticks at word k.0 k.1 k.2 k.3 k.4 did)
-    (nothing (Ticks at word k.0 k.1 k.2 k.3 k.4 did) tt) k.5)
-    e l now t f m u h
+    (λ old from bytes word new k. turned_by like old new (Feeds now from bytes word k.0 k.1 k.2 k.3 k.4 k.5)
+    (nothing (Feeds now from bytes word k.0 k.1 k.2 k.3 k.4 k.5) tt) k.6)
+    (λ old word did new k. turned_by like old new (Ticks now word k.0 k.1 k.2 k.3 k.4 did)
+    (nothing (Ticks now word k.0 k.1 k.2 k.3 k.4 did) tt) k.5)
+    e l t f m u h
+
+-- .. and each of them is at the moment of the turn
+pub client_turned_at : {L : Type 0} (waiting : State → List layer.Packet) (sends : L → Endpoint → List ℕ → L → Type 0)
+    (receives : L → Option Packet → L → Type 0) (faults : L → ℕ) (quiet_feed : State → ℕ → Endpoint → List ℕ → Type 0)
+    (quiet_tick : State → ℕ → Type 0) (e : State) (l : L) (now : ℕ) (t : Tally) (f : State) (m : L) (u : Tally)
+    → Turns waiting client_gives sends receives faults quiet_feed client_feeds quiet_tick client_ticks e l now t f m u
+    → Turned (TurnsAt now) e f
+client_turned_at waiting sends receives faults quiet_feed quiet_tick e l now t f m u h =
+    turn_turned (TurnsAt now) now waiting client_gives sends receives faults quiet_feed client_feeds quiet_tick
+    client_ticks
+    (λ old p new k. turned_by (TurnsAt now) old new (NextOut (Some p)) tt k)
+    (λ old from bytes word new k. turned_by (TurnsAt now) old new (Feeds now from bytes word k.0 k.1 k.2 k.3 k.4 k.5)
+    refl k.6)
+    (λ old word did new k. turned_by (TurnsAt now) old new (Ticks now word k.0 k.1 k.2 k.3 k.4 did) refl k.5)
+    e l t f m u h
 
 -- what is out is sent
 pub client_sent : {L : Type 0} (like : Call → Type 0) (nothing : (c : Call) → AsksNothing c → like c)

@@ -1,5 +1,5 @@
 -- What becomes of a request, from the calls of its client to the status of the program.
-use Rattle.std.proofs.Common.{◌≡◌, ◌++◌, ◌∷◌, [], ℕ, List, Option, Result, Ok, Err, IfOk, subst, sym}
+use Rattle.std.proofs.Common.{◌≡◌, ◌++◌, ◌∷◌, [], ℕ, Bool, List, Option, Result, Ok, Err, IfOk, OnOk, subst, sym}
 use Rattle.coap_types.specs.declared.endpoint.Endpoint.{Endpoint}
 use Rattle.coap_layer.specs.declared.setup.Setup.{Setup}
 use Rattle.coap_block.specs.Sizes.{Sizes}
@@ -9,11 +9,8 @@ use Rattle.coap_client.specs.Trace.{Call, Calls, Request}
 use Rattle.coap_client.specs.declared.client.report.CallId.{CallId}
 use Rattle.coap_client.specs.declared.refusals.CallRefusal.{CallRefusal}
 use Rattle.coap_client.proofs.Facts.EachCall.{led_client}
-use Rattle.coap_arguments.specs.declared.orders.AskOptions.{AskOptions}
-use Rattle.coap_arguments.specs.declared.orders.What.{What}
-use Rattle.coap_commands.specs.Asked.{IsBody, IsRequested, IsWord, asked_request, asked_setup, asked_server}
-use Rattle.coap_commands.specs.Asks.{Asks, AsksNothing, Becomes, Chain, Comes, takes_report}
-use Rattle.coap_commands.specs.Ends.{client_sizes}
+use Rattle.coap_commands.specs.Asks.{Asks, AsksNothing, Becomes, Chain, Comes, status_after, takes_report}
+use Rattle.coap_commands.specs.JsonLines.{Tells, WritesOutcome}
 use Rattle.coap_commands.specs.declared.calling.Outcome.{Outcome}
 use Rattle.coap_commands.specs.declared.calling.Outcome.TheVariants.{GaveUp, Refused, Reported}
 use Rattle.coap_scripts.specs.declared.status.Status.{Status}
@@ -81,6 +78,27 @@ pub told : (Leads : Endpoint → Sizes → Setup → Type 0) (Comes : Endpoint �
 told Leads Comes status outcome (Ok s) becomes is = λ server sizes w led. (outcome, becomes server sizes w led, is)
 told Leads Comes status outcome (Err stop) becomes is = tt
 
+-- .. and told so
+pub told_as : (Leads : Endpoint → Sizes → Setup → Type 0) (json : Bool) (before after : Option (List ℕ))
+    (give_up : Option ℕ) (request : Request) (outcome : Outcome) (ended : Result Status Stop)
+    → ((server : Endpoint) (sizes : Sizes) (w : Setup) → Leads server sizes w
+    → Becomes server sizes w give_up request outcome)
+    → IfOk ended (λ s. s ≡ status_after request.method outcome)
+    → OnOk ended (WritesOutcome json before after outcome)
+    → IfOk ended (λ s. (server : Endpoint) (sizes : Sizes) (w : Setup) → Leads server sizes w
+    → Tells json before after server sizes w give_up request s)
+told_as Leads json before after give_up request outcome (Ok s) becomes is written =
+    λ server sizes w led. (outcome, becomes server sizes w led, is, written)
+told_as Leads json before after give_up request outcome (Err stop) becomes is written = tt
+
+-- what is told of was asked
+pub asks_told : (json : Bool) (before after : Option (List ℕ)) (server : Endpoint) (sizes : Sizes) (setup : Setup)
+    (give_up : Option ℕ) (request : Request) (ended : Result Status Stop)
+    → IfOk ended (Tells json before after server sizes setup give_up request)
+    → IfOk ended (Asks server sizes setup give_up request)
+asks_told json before after server sizes setup give_up request (Ok s) h = (h.0, h.1, h.2)
+asks_told json before after server sizes setup give_up request (Err stop) h = tt
+
 -- by a client that began so
 pub began : (Leads : Endpoint → Sizes → Setup → Type 0) (Is : Endpoint → Sizes → Setup → Status → Type 0)
     (ended : Result Status Stop) (server : Endpoint) (sizes : Sizes) (setup : Setup) → Leads server sizes setup
@@ -88,23 +106,3 @@ pub began : (Leads : Endpoint → Sizes → Setup → Type 0) (Is : Endpoint →
     → IfOk ended (Is server sizes setup)
 began Leads Is (Ok s) server sizes setup led is = is server sizes setup led
 began Leads Is (Err stop) server sizes setup led is = tt
-
--- of the request that the words say
-pub asked_by : (port : ℕ) (server : Endpoint) (word : ℕ) (path : List (List ℕ)) (what : What) (options : AskOptions)
-    (body : List ℕ) (request : Request) (ended : Result Status Stop)
-    → server ≡ asked_server port options → IsWord options.word word → IsBody what body
-    → request ≡ asked_request what path options body
-    → IfOk ended (Asks server (client_sizes options.size options.limit) (asked_setup word options) options.give_up
-    request)
-    → IfOk ended (IsRequested port path what options)
-asked_by port server word path what options body request (Ok s) there is_word is_body same asks = (
-  word,
-  is_word,
-  body,
-  is_body,
-  subst (λ (e : Endpoint). Asks e (client_sizes options.size options.limit) (asked_setup word options) options.give_up
-      (asked_request what path options body) s)
-      there (subst (λ (r : Request). Asks server (client_sizes options.size options.limit) (asked_setup word options)
-      options.give_up r s) same asks),
-)
-asked_by port server word path what options body request (Err stop) there is_word is_body same asks = tt

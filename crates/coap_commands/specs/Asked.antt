@@ -1,10 +1,7 @@
 -- What the words of a subcommand have a client ask.
 use Rattle.std.specs.Prelude.{◌≡◌, ⊤, ℕ, Bool, true, false, List, [], Option, Some, None}
-use Rattle.std.specs.Net.Addr.{ipv4_octets}
-use Rattle.coap_types.specs.declared.endpoint.Endpoint.{Endpoint}
 use Rattle.coap_types.specs.declared.request.Method.{Method}
 use Rattle.coap_types.specs.declared.request.Method.TheVariants as method
-use Rattle.coap_layer.specs.declared.setup.Setup.{Setup}
 use Rattle.coap_client.specs.Trace.{Request}
 use Rattle.coap_arguments.specs.declared.orders.AskOptions.{AskOptions}
 use Rattle.coap_arguments.specs.declared.orders.Content.{Content}
@@ -13,11 +10,6 @@ use Rattle.coap_arguments.specs.declared.orders.What.{What}
 use Rattle.coap_arguments.specs.declared.orders.What.TheVariants.{Get, Put, Post, Delete, Observe}
 use Rattle.coap_arguments.specs.declared.orders.WordChoice.{WordChoice}
 use Rattle.coap_arguments.specs.declared.orders.WordChoice.TheVariants.{Given, Random}
-use Rattle.coap_commands.specs.Asks.{Asks}
-use Rattle.coap_commands.specs.Ends.{client_sizes}
-use Rattle.coap_commands.specs.Observes.{Observes}
-use Rattle.coap_commands.specs.Polls.{Polls}
-use Rattle.coap_scripts.specs.declared.status.Status.{Status}
 
 -- the word that is chosen; a random one may be any
 abbrev pub IsWord : WordChoice → ℕ → Type 0
@@ -58,36 +50,6 @@ asked_request what path options body =
       accept = options.accept;
     }
 
--- the server at this port of the host
-abbrev pub asked_server : ℕ → AskOptions → Endpoint
-asked_server port options = record { ip = ipv4_octets options.host; port = port }
-
--- with this word, and as many messages remembered as the options say
-abbrev pub asked_setup : ℕ → AskOptions → Setup
-asked_setup word options = record { word = word; remembered = options.remembered }
-
--- a client hands the server at this port of the host a request for it, with the word, the number of remembered
--- messages, the size and the limit of the options
-abbrev pub IsRequested : ℕ → List (List ℕ) → What → AskOptions → Status → Type 0
-IsRequested port path what options status =
-    (word : ℕ) × IsWord options.word word × (body : List ℕ) × IsBody what body
-    × Asks (asked_server port options) (client_sizes options.size options.limit)
-    (asked_setup word options) options.give_up (asked_request what path options body) status
-
--- a client observes the path at that server, likewise
-abbrev pub IsObserved : ℕ → List (List ℕ) → AskOptions → Status → Type 0
-IsObserved port path options status =
-    (word : ℕ) × IsWord options.word word
-    × Observes (asked_server port options) (client_sizes options.size options.limit)
-    (asked_setup word options) path options status
-
--- a client GETs the path from that server again and again, so many seconds after the last time
-abbrev pub IsPolled : ℕ → List (List ℕ) → ℕ → AskOptions → Status → Type 0
-IsPolled port path every options status =
-    (word : ℕ) × IsWord options.word word
-    × Polls (asked_server port options) (client_sizes options.size options.limit)
-    (asked_setup word options) (asked_request Get path options []) every options status
-
 -- an observation is asked for (RFC 7641)
 abbrev pub is_observe : What → Bool
 is_observe Get = false
@@ -103,10 +65,3 @@ period_of (Put content) options = None
 period_of (Post content) options = None
 period_of Delete options = None
 period_of Observe options = None
-
--- a client asks the server for it: it observes, GETs it again and again, or hands it one request
-abbrev pub IsAsked : ℕ → List (List ℕ) → What → AskOptions → Status → Type 0
-IsAsked port path what options status =
-    (is_observe what ≡ true → IsObserved port path options status)
-    × ((every : ℕ) → period_of what options ≡ Some every → IsPolled port path every options status)
-    × (is_observe what ≡ false → period_of what options ≡ None → IsRequested port path what options status)

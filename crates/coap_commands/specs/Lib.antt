@@ -1,12 +1,20 @@
 pub mod Asked
 pub mod Asks
 pub mod Bearing
+pub mod Captured
+pub mod Capturing
+pub mod Discovers
 pub mod Dumps
 pub mod Ends
+pub mod Hosts
+pub mod JsonLines
+pub mod JsonValues
 pub mod Observes
 pub mod Pairs
+pub mod Pinged
 pub mod Polls
 pub mod Progress
+pub mod ScriptSettings
 pub mod Served
 pub mod Serves
 pub mod SettingUp
@@ -14,4 +22,6 @@ pub mod Statuses
 pub mod Tasks
 pub mod Terms
 pub mod ToldChanges
+pub mod Tracings
 pub mod Waiting
+pub mod Watches

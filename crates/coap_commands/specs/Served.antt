@@ -1,10 +1,13 @@
 -- What a server comes to that serves as the words say: it is set up, and then turned until so many datagrams were fed.
-use Rattle.std.specs.Prelude.{◌≡◌, ◌⊎◌, ◌≤◌, ◌+◌, ⊤, ℕ, List, [], ◌∷◌}
+use Rattle.std.specs.Prelude.{◌≡◌, ◌≢◌, ◌⊎◌, ◌≤◌, ◌+◌, ⊤, ℕ, List, [], ◌∷◌, Option, IsSome}
+use Rattle.std.specs.Borrow.{Bor}
 use Rattle.coap_server.specs.Led.{State, Step}
 use Rattle.coap_server.specs.Trace.{Call, Feeds, NextOut, Ticks}
 use Rattle.coap_arguments.specs.declared.orders.ServeOptions.{ServeOptions}
 use Rattle.coap_commands.specs.Asked.{IsWord}
+use Rattle.coap_commands.specs.ScriptSettings.{AreOfScript}
 use Rattle.coap_commands.specs.SettingUp.{IsServer}
+use Rattle.coap_scripts.specs.Settings.{Setting}
 use Rattle.coap_scripts.specs.declared.status.Status.{Status}
 use Rattle.coap_scripts.specs.declared.status.Status.TheVariants as status
 
@@ -37,8 +40,15 @@ Leads old (c ∷ earlier) new = (between : State) × Leads old earlier between �
 abbrev pub FedFrom : ℕ → State → State → Type 0
 FedFrom count old new = (calls : List Call) × AllTurning calls × (count ≤ fed_in calls) × Leads old calls new
 
--- a server that was set up as the words say is turned so, and that is done; or it doesn't hold what they name
-abbrev pub IsServed : ℕ → ServeOptions → Status → Type 0
-IsServed count options s = (s ≡ status.Refused)
-    ⊎ ((s ≡ status.Done) × (word : ℕ) × IsWord options.word word × (first : State) × IsServer word options first
-    × (last : State) × FedFrom count first last)
+-- a server that was set up as the words and these settings say is turned so, and that is done; or it doesn't hold what
+-- the words name, or doesn't take what a line of the settings says
+abbrev pub IsServedBy : ℕ → ServeOptions → List Setting → Status → Type 0
+IsServedBy count options settings s = (s ≡ status.Refused)
+    ⊎ (((s ≡ status.Words) × (settings ≢ []))
+    ⊎ ((s ≡ status.Done) × (word : ℕ) × IsWord options.word word × (first : State) × IsServer word options settings first
+    × (last : State) × FedFrom count first last))
+
+-- .. where the settings are those of the script that is named, if any; one of its lines may say none
+abbrev pub IsServed : ℕ → ServeOptions → Option (Bor (List ℕ)) → Status → Type 0
+IsServed count options script s = ((s ≡ status.Words) × IsSome script)
+    ⊎ ((settings : List Setting) × AreOfScript script settings × IsServedBy count options settings s)

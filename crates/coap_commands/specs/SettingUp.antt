@@ -10,6 +10,8 @@ use Rattle.coap_arguments.specs.declared.orders.Delay.{Delay}
 use Rattle.coap_arguments.specs.declared.orders.Hold.{Hold}
 use Rattle.coap_arguments.specs.declared.orders.ServeOptions.{ServeOptions}
 use Rattle.coap_commands.specs.Ends.{server_limits}
+use Rattle.coap_commands.specs.ScriptSettings.{AreMade, limit_by}
+use Rattle.coap_scripts.specs.Settings.{Setting}
 use Rattle.coap_scripts.specs.declared.usual.TheConstants.{TEXT_PLAIN as text_plain}
 
 -- at the moment 0 this text is set at this path
@@ -46,7 +48,9 @@ SetsUp options before after =
 abbrev pub served_setup : ℕ → ServeOptions → Setup
 served_setup word options = record { word = word; remembered = options.remembered }
 
--- a server that began so, takes bodies up to the limit that the words say, and was set up as they say
-abbrev pub IsServer : ℕ → ServeOptions → State → Type 0
-IsServer word options s = (after : List Call) × SetsUp options [] after
-    × Led (server_limits options.limit) max_szx (served_setup word options) after s
+-- a server that began so, takes bodies up to the limit that its script says, or else the words, and was set up as the
+-- words say, and then as the settings of the script do
+abbrev pub IsServer : ℕ → ServeOptions → List Setting → State → Type 0
+IsServer word options settings s =
+    (set : List Call) × (after : List Call) × SetsUp options [] set × AreMade settings set after
+    × Led (server_limits (limit_by options.limit settings)) max_szx (served_setup word options) after s

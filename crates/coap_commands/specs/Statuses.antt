@@ -1,9 +1,10 @@
 -- How a run of the program ends: its exit status, and which status answers what is wrong in the words.
-use Rattle.std.specs.Prelude.{◌≡◌, ◌⊎◌, ⊤, ℕ, List, Result, Ok, Err, IfOk}
+use Rattle.std.specs.Prelude.{◌≡◌, ◌⊎◌, ⊤, ℕ, List, Result, Ok, Err, IfOk, IsSome}
 use Rattle.clap.specs.Words.{Text}
 use Rattle.coap_arguments.specs.Words.{AsksFor, IsWrong}
 use Rattle.coap_record.specs.Events.{Event}
 use Rattle.coap_commands.specs.Asked.{IsAsked}
+use Rattle.coap_commands.specs.Captured.{IsCaptureStatus}
 use Rattle.coap_commands.specs.Pairs.{IsPaired}
 use Rattle.coap_commands.specs.Served.{IsServed}
 use Rattle.coap_scripts.specs.StatusNumbers.{status_number}
@@ -13,7 +14,7 @@ use Rattle.coap_scripts.specs.declared.status.Status.TheVariants as status
 use Rattle.coap_scripts.specs.declared.status.Stop.{Stop}
 use Rattle.coap_scripts.specs.declared.status.Stop.TheVariants as stop
 use Rattle.coap_arguments.specs.declared.orders.Order.{Order}
-use Rattle.coap_arguments.specs.declared.orders.Order.TheVariants.{Ask, Dump, Pair, Serve, Sim, Version}
+use Rattle.coap_arguments.specs.declared.orders.Order.TheVariants.{Ask, Dump, DumpCapture, Pair, Serve, Sim, Version}
 use Rattle.coap_arguments.specs.declared.orders.Wrong.{Wrong}
 use Rattle.coap_arguments.specs.declared.orders.Wrong.TheVariants.{Words, Path, Number, Word, Address, Size, Tags}
 use Rattle.coap_arguments.specs.declared.orders.Wrong.TheVariants.{Setting, Body, Store, Plains, Ends as NoEnds}
@@ -33,20 +34,23 @@ IsCarriedOut s = (s ≡ status.Done) ⊎ (s ≡ status.Refused)
 abbrev pub IsOfScript : Status → Type 0
 IsOfScript s = (s ≡ status.Done) ⊎ ((s ≡ status.Refused) ⊎ (s ≡ status.Words))
 
--- the order reads a text: a script, or lines of hex
+-- the order reads a text: a script, or lines of hex; or a capture
 abbrev pub ReadsText : Order → Type 0
-ReadsText (Sim file store plains remembered chart client server) = ⊤
+ReadsText (Sim file store plains remembered chart client server pcap) = ⊤
 ReadsText Dump = ⊤
+ReadsText (DumpCapture file chart) = ⊤
+ReadsText (Serve port count options script pcap) = IsSome script
 ReadsText _ = ⊥
 
 -- what this order comes to, carried out to its end
 abbrev pub CarriesOut : Order → Status → Type 0
-CarriesOut (Sim file store plains remembered chart client server) s = (events : List Event)
+CarriesOut (Sim file store plains remembered chart client server pcap) s = (events : List Event)
     × IsSim (sim_config (record { client = client; server = server }) remembered plains.items) events s
 CarriesOut Dump s = IsOfScript s
+CarriesOut (DumpCapture file chart) s = (bytes : List ℕ) × IsCaptureStatus bytes s
 CarriesOut Version s = s ≡ status.Done
 CarriesOut (Pair path body word limit remembered) s = IsPaired path body.now word limit remembered s
-CarriesOut (Serve port count options) s = IsServed count options s
+CarriesOut (Serve port count options script pcap) s = IsServed count options script s
 CarriesOut (Ask port path what options) s = IsAsked port path what options s
 CarriesOut _ s = IsCarriedOut s
 

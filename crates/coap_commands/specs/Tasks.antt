@@ -2,38 +2,83 @@
 use Rattle.std.specs.Prelude.{◌≡◌, ℕ, true, false, List, [], None, Some}
 use Rattle.coap_types.specs.declared.endpoint.Endpoint.{Endpoint}
 use Rattle.coap_client.specs.Object.CallShown.{shown_request}
+use Rattle.coap_arguments.specs.declared.hosts.Server.{Server}
 use Rattle.coap_arguments.specs.declared.orders.AskOptions.{AskOptions}
 use Rattle.coap_arguments.specs.declared.orders.What.{What}
 use Rattle.coap_arguments.specs.declared.orders.What.TheVariants.{Get}
-use Rattle.coap_commands.specs.Asked.{IsBody, asked_request, is_observe, period_of}
+use Rattle.coap_commands.specs.Asked.{IsBody, IsWord, asked_request, is_observe, period_of}
 use Rattle.coap_commands.specs.Asks.{Asks}
+use Rattle.coap_commands.specs.Discovers.{Discovers, IsCore}
+use Rattle.coap_commands.specs.Hosts.{IsServer}
 use Rattle.coap_commands.specs.Observes.{Observes}
 use Rattle.coap_commands.specs.Polls.{Polls}
 use Rattle.coap_commands.specs.Terms.{asked_terms, setup_of, sizes_of}
+use Rattle.coap_commands.specs.Watches.{Watches}
 use Rattle.coap_commands.specs.declared.asking.Asked.{Asked}
 use Rattle.coap_commands.specs.declared.asking.Task.{Task}
-use Rattle.coap_commands.specs.declared.asking.Task.TheVariants.{Observation, Polling, Request}
+use Rattle.coap_commands.specs.declared.asking.Task.TheVariants.{Discovery, Observation, Polling, Request, Watch}
 use Rattle.coap_scripts.specs.declared.status.Status.{Status}
+
+-- the task is the observation that the options say
+abbrev pub IsObservation : List (List ℕ) → AskOptions → Task → Type 0
+IsObservation path options (Observation of) = (options.again ≡ None) × (of.now ≡ path)
+IsObservation path options (Watch of again) = (options.again ≡ Some again) × (of.now ≡ path)
+IsObservation path options task = ⊥
 
 -- the task is what the words ask for
 abbrev pub IsTask : What → List (List ℕ) → AskOptions → Task → Type 0
 IsTask what path options (Request made) =
     (is_observe what ≡ false) × (period_of what options ≡ None) × (body : List ℕ) × IsBody what body
     × (shown_request made ≡ asked_request what path options body)
-IsTask what path options (Observation of) = (is_observe what ≡ true) × (of.now ≡ path)
-IsTask what path options (Polling of every) = (period_of what options ≡ Some every) × (of.now ≡ path)
+IsTask what path options (Observation of) =
+    (is_observe what ≡ true) × IsObservation path options (Observation of)
+IsTask what path options (Watch of again) =
+    (is_observe what ≡ true) × IsObservation path options (Watch of again)
+IsTask what path options (Polling of every) =
+    (is_observe what ≡ false) × (period_of what options ≡ Some every) × (of.now ≡ path)
+IsTask what path options (Discovery made) = ⊥
+
+-- .. a GET of what a server has
+abbrev pub IsDiscovery : AskOptions → Task → Type 0
+IsDiscovery options (Discovery made) =
+    (path : List (List ℕ)) × IsCore path × (shown_request made ≡ asked_request Get path options [])
+IsDiscovery options task = ⊥
 
 -- a client of this server, with this word and by these options, is handed the task, and this is the status of what
--- becomes of it
-abbrev pub Does : Endpoint → AskOptions → ℕ → Task → Status → Type 0
-Does server options word (Request made) status =
+-- becomes of it; an observation that may be made anew is handed to several
+abbrev pub DoesAt : Endpoint → AskOptions → ℕ → Task → Status → Type 0
+DoesAt server options word (Request made) status =
     Asks server (sizes_of (asked_terms word options)) (setup_of (asked_terms word options)) options.give_up
     (shown_request made) status
-Does server options word (Observation of) status =
+DoesAt server options word (Discovery made) status =
+    Discovers server (sizes_of (asked_terms word options)) (setup_of (asked_terms word options)) options.give_up
+    (shown_request made) status
+DoesAt server options word (Observation of) status =
     Observes server (sizes_of (asked_terms word options)) (setup_of (asked_terms word options)) of.now options status
-Does server options word (Polling of every) status =
+DoesAt server options word (Polling of every) status =
     Polls server (sizes_of (asked_terms word options)) (setup_of (asked_terms word options))
     (asked_request Get of.now options []) every options status
+DoesAt server options word (Watch of again) status = ⊥
 
-abbrev pub IsDone : Asked → Status → Type 0
-IsDone asked status = Does asked.server asked.options.now asked.word asked.task status
+abbrev pub IsDoneAt : Endpoint → Asked → Status → Type 0
+IsDoneAt server asked status = DoesAt server asked.options.now asked.word asked.task status
+
+-- the same, of a server for which these endpoints stand
+abbrev pub Does : (Endpoint → Type 0) → AskOptions → ℕ → Task → Status → Type 0
+Does Stands options word (Watch of again) status = Watches Stands word of.now options again status
+Does Stands options word task status = (server : Endpoint) × Stands server × DoesAt server options word task status
+
+abbrev pub IsDone : (Endpoint → Type 0) → Asked → Status → Type 0
+IsDone Stands asked status = Does Stands asked.options.now asked.word asked.task status
+
+-- what the words ask for is done at the server that they say
+abbrev pub IsAsked : Server → List (List ℕ) → What → AskOptions → Status → Type 0
+IsAsked server path what options status =
+    (word : ℕ) × IsWord options.word word × (task : Task) × IsTask what path options task
+    × Does (IsServer server) options word task status
+
+-- .. and what the server has is asked for there
+abbrev pub IsDiscovered : Server → AskOptions → Status → Type 0
+IsDiscovered server options status =
+    (word : ℕ) × IsWord options.word word × (task : Task) × IsDiscovery options task
+    × Does (IsServer server) options word task status

@@ -23,4 +23,5 @@ asked_terms word options =
       size = options.size;
       limit = options.limit;
       give_up = options.give_up;
+      json = options.json;
     }

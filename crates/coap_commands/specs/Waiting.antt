@@ -8,6 +8,11 @@ use Rattle.coap_commands.specs.declared.waiting.TheConstants.{MS_PER_SECOND as m
 abbrev pub HasPassed : ℕ → ℕ → ℕ → Type 0
 HasPassed seconds begin now = seconds * ms_per_second ≤ now - begin
 
+-- what has lasted for so many milliseconds has lasted for so many seconds
+abbrev pub HasLasted : Option ℕ → ℕ → Type 0
+HasLasted None elapsed = ⊥
+HasLasted (Some seconds) elapsed = seconds * ms_per_second ≤ elapsed
+
 -- after how many seconds a request is given up at the latest, to which nothing comes: MAX_TRANSMIT_WAIT (RFC 7252,
 -- section 4.8.2), or fewer, where so many were chosen
 abbrev pub latest_end : Option ℕ → ℕ

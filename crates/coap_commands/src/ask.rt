@@ -1,5 +1,5 @@
 //! Asking something of a server, and printing what came of it.
-ghost use Rattle.std.specs.Prelude.{◌≡◌, ℕ, [], Some, IfOk, IfNone, IfSome};
+ghost use Rattle.std.specs.Prelude.{◌≡◌, ℕ, [], Some, IfOk, IfNone, IfSome, OnOk};
 ghost use Rattle.coap_types.specs.declared.endpoint.Endpoint.{Endpoint as EndpointSpec};
 ghost use Rattle.coap_block.specs.Sizes.{Sizes};
 ghost use Rattle.coap_layer.specs.declared.setup.Setup.{Setup as SetupSpec};
@@ -7,14 +7,16 @@ ghost use Rattle.coap_client.specs.Led.{Led, Step};
 ghost use Rattle.coap_client.specs.Object.CallShown.{shown_request};
 ghost use Rattle.coap_client.specs.Object.Shown.{shown_report};
 ghost use Rattle.coap_client.specs.Trace.{NextReport};
-ghost use Rattle.coap_commands.specs.Asks.{Asks, AsksNothing, Becomes, Comes, Turned, changed_status};
+ghost use Rattle.coap_commands.specs.Asks.{AsksNothing, Becomes, Comes, Turned, changed_status};
 ghost use Rattle.coap_commands.specs.Asks.{got_status, status_after};
+ghost use Rattle.coap_commands.specs.JsonLines.{Tells, WritesOutcome};
 ghost use Rattle.coap_commands.specs.Terms.{setup_of, sizes_of};
 
 use crate::bearing::bear_in_all;
 use crate::calling::{Outcome, call, outcome_text};
 use crate::connection::{Connection, Terms};
 use crate::ends::fresh_client;
+use crate::json_lines::write_outcome;
 use crate::put_away::put_away;
 use crate::timekeeper::Timekeeper;
 use crate::waiting::passed;
@@ -69,8 +71,8 @@ fn awaited<H: BuildHasher, L: Link, T: Timekeeper, E: Write>(
     Err(Stop::Failed)
 }
 
-// What becomes of a request, where the client was asked for nothing before.
-fn outcome_of<H: BuildHasher, L: Link, T: Timekeeper, E: Write>(
+/// What becomes of a request, where the client was asked for nothing before.
+pub(crate) fn outcome_of<H: BuildHasher, L: Link, T: Timekeeper, E: Write>(
     client: &mut Client<Global, H>,
     connection: &mut Connection<'_, '_, '_, L, T, E>,
     request: Request,
@@ -152,6 +154,39 @@ fn tell<O: Write, E: Write>(
     }
 }
 
+/// The status of what became of a request with this method.
+pub(crate) fn status_of(method: Method, outcome: &Outcome) -> Status
+    ensures { result ≡ status_after method outcome.now }
+{
+    match (method, outcome) {
+        (Method::Get, Outcome::Reported(Report::Body(_))) => Status::Done,
+        (Method::Get, _) => Status::Refused,
+        (_, Outcome::Reported(Report::Done(_))) => Status::Done,
+        (_, _) => Status::Refused,
+    }
+}
+
+// Prints what became of a request with this method, in JSON where that is wanted.
+fn tell_as<T: Timekeeper, O: Write, E: Write>(
+    alloc: Global,
+    method: Method,
+    is_json: bool,
+    outcome: &Outcome,
+    time: &mut T,
+    out: &mut O,
+    err: &mut E,
+) -> Result<Status, Stop>
+    ensures status { IfOk result (λ status. status ≡ status_after method outcome.now) }
+    ensures written { OnOk result (WritesOutcome is_json (O.contents out.old) (O.contents out.new) outcome.now) }
+{
+    if !is_json {
+        return tell(alloc, method, outcome, out, err);
+    }
+    let at = time.now()?;
+    write_outcome(alloc, at, outcome, out)?;
+    Ok(status_of(method, outcome))
+}
+
 // Asks, and prints what came of it.
 fn ask_and_tell<H: BuildHasher, L: Link, T: Timekeeper, O: Write, E: Write>(
     alloc: Global,
@@ -162,16 +197,25 @@ fn ask_and_tell<H: BuildHasher, L: Link, T: Timekeeper, O: Write, E: Write>(
     out: &mut O,
 ) -> Result<Status, Stop>
     ensures { IfOk result (λ status. (server : EndpointSpec) (sizes : Sizes) (w : SetupSpec)
-        → Led server sizes w [] client.old → Asks server sizes w terms.now.give_up (shown_request request) status) }
+        → Led server sizes w [] client.old → Tells terms.now.json (O.contents out.old) (O.contents out.new)
+        server sizes w terms.now.give_up (shown_request request) status) }
 {
     let method = request.method;
     let outcome = outcome_of(client, connection, request, terms)?;
-    tell(alloc, method, &outcome, out, connection.err)
+    tell_as(
+        alloc,
+        method,
+        terms.json,
+        &outcome,
+        connection.time,
+        out,
+        connection.err,
+    )
 }
 
 /// Asks a server for what a request says, and prints the body that it got, or what was reported. Where so
-/// many seconds pass before that as the terms say, it gives up and says so on standard error. The client begins
-/// by the terms.
+/// many seconds pass before that as the terms say, it gives up and says so on standard error. In JSON it prints a line
+/// of what became of it in any case. The client begins by the terms.
 pub fn ask_over<L: Link, T: Timekeeper, H: BuildHasher + Drop, O: Write, E: Write>(
     alloc: Global,
     connection: &mut Connection<'_, '_, '_, L, T, E>,
@@ -183,9 +227,9 @@ pub fn ask_over<L: Link, T: Timekeeper, H: BuildHasher + Drop, O: Write, E: Writ
 ) -> Result<Status, Stop>
     // A client of this server, which began by the terms, was handed this request, and nothing else, and given up only
     // where so many seconds may pass; the status is 0 where a body (of a GET) or success was reported of it, and else
-    // 1.
-    ensures { IfOk result (Asks server (sizes_of terms.now) (setup_of terms.now) terms.now.give_up
-        (shown_request request)) }
+    // 1. Where that is told in JSON, what is written is the line of what became of the request, and nothing else.
+    ensures { IfOk result (Tells terms.now.json (O.contents out.old) (O.contents out.new)
+        server (sizes_of terms.now) (setup_of terms.now) terms.now.give_up (shown_request request)) }
 {
     let mut client = fresh_client(
         alloc,

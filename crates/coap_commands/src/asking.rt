@@ -1,31 +1,48 @@
-//! A client over a socket, which asks what the words say.
+//! A client over sockets, which asks what the words say.
 ghost use Rattle.std.specs.Prelude.{◌≡◌, IfOk};
-ghost use Rattle.coap_commands.specs.Asked.{IsAsked, is_observe, period_of};
-ghost use Rattle.coap_commands.specs.Tasks.{IsDone, IsTask};
+ghost use Rattle.coap_commands.specs.Asked.{is_observe, period_of};
+ghost use Rattle.coap_commands.specs.Hosts.{IsServer, Knows};
+ghost use Rattle.coap_commands.specs.Tasks.{IsAsked, IsDiscovered, IsDone, IsDoneAt, IsObservation, IsTask};
+ghost use Rattle.coap_commands.specs.declared.hosts.Peer.TheVariants as peers;
 
 use crate::ask::ask_over;
-use crate::closed_port::{ClosedPort, ClosedPortLink};
+use crate::capturing::{begin_of, capture_in};
 use crate::connection::{Connection, Terms};
+use crate::discovering::{core_path, discover_over};
+use crate::hosts::{Peer, peer_of};
+use crate::link_source::LinkSource;
 use crate::observe::observe_over;
 use crate::patience::{Patience, PatientLink, patience_on};
 use crate::polling::{Polling, poll_over};
 use crate::progress::progress_on;
-use crate::request::{body_of, request_of, server_of};
+use crate::request::{body_of, request_of};
 use crate::screen::{BesideScreen, Screen, erase};
+use crate::silence::{Silence, SilentLink};
+use crate::sources::{Ends, FourSource, SixSource};
 use crate::timekeeper::{ProgramTime, Timekeeper};
-use crate::tracing::{SharedWriter, teller_on};
+use crate::told_source::{Telling, ToldSource};
+use crate::tracing::{SharedWriter, Tracing};
+use crate::watching::{Watching, watch_over};
 use crate::word::word_of;
-use coap_arguments::{AskOptions, What};
-use coap_links::{Link, Teller, Trace, UdpLink};
+use bytes::Bytes;
+use coap_arguments::{AskOptions, Server, What};
+use coap_links::{Link, PeerNames, Trace};
+use coap_names::Places;
 use coap_scripts::{Status, Stop};
 use coap_types::{Endpoint, Path, Request};
 use std::alloc::Global;
 use std::cell::RefCell;
 use std::hash::{BuildHasher, RandomState};
 use std::io::Write;
-use std::net::Net;
+use std::net::{Net, SocketAddrV6};
 use std::random::RandomSource;
 use std::rt::{Clock, Files};
+
+/// How many peers over IPv6 have names at once: the server, and each endpoint at which a client of it was in the last
+/// 247 s.
+pub(crate) const MAX_PEERS: u32 = 1_024;
+
+const _: () = prove!(MAX_PEERS == 1_024);
 
 /// What a client is handed for what the words ask for.
 #[derive(Drop)]
@@ -34,8 +51,12 @@ pub(crate) enum Task<'a> {
     Request(Request),
     /// The observation of a path.
     Observation(&'a Path),
+    /// The observation of a path, anew where no value came for so many seconds.
+    Watch(&'a Path, u64),
     /// A GET of a path again and again, so many seconds after the last time.
     Polling(&'a Path, u64),
+    /// A request for links.
+    Discovery(Request),
 }
 
 impl<'a> Task<'a> {
@@ -43,17 +64,15 @@ impl<'a> Task<'a> {
     fn body_len(&self) -> usize {
         match self {
             Task::Request(request) => request.body.len(),
-            Task::Observation(_) | Task::Polling(_, _) => 0,
+            Task::Observation(_) | Task::Watch(_, _) | Task::Polling(_, _) | Task::Discovery(_) => 0,
         }
     }
 }
 
-/// What is asked of which server, and how.
+/// What is asked, and how.
 #[derive(Drop)]
 pub(crate) struct Asked<'t, 'o> {
-    /// The server.
-    pub server: Endpoint,
-    /// What it is asked.
+    /// What is asked.
     pub task: Task<'t>,
     /// How.
     pub options: &'o AskOptions,
@@ -81,6 +100,16 @@ fn period_of(what: What<'_>, options: &AskOptions) -> Option<u64>
     }
 }
 
+// The task of an observation.
+fn observation_of<'a>(path: &'a Path, options: &AskOptions) -> Task<'a>
+    ensures { IsObservation path.now options.now result }
+{
+    match options.again {
+        Some(again) => Task::Watch(path, again),
+        None => Task::Observation(path),
+    }
+}
+
 // What a client is handed for what the words ask for: the body of a request is read.
 fn task_of<'a, R: AllocGlobal + Files>(
     rt: &R,
@@ -91,7 +120,7 @@ fn task_of<'a, R: AllocGlobal + Files>(
     ensures { IfOk result (IsTask what.entry path.now options.now) }
 {
     if is_observe(what) {
-        return Ok(Task::Observation(path));
+        return Ok(observation_of(path, options));
     }
     if let Some(every) = period_of(what, options) {
         return Ok(Task::Polling(path, every));
@@ -101,26 +130,29 @@ fn task_of<'a, R: AllocGlobal + Files>(
     Ok(Task::Request(request))
 }
 
-// Has a client do a task, and prints what came of it.
-fn ask_task<L: Link, T: Timekeeper, H: BuildHasher + Drop, O: Write, E: Write>(
+// Has a client of this server do a task that needs one link, and prints what came of it.
+fn do_once<L: Link, T: Timekeeper, H: BuildHasher + Drop, O: Write, E: Write>(
     alloc: Global,
     connection: &mut Connection<'_, '_, '_, L, T, E>,
+    server: Endpoint,
     hasher: H,
     asked: Asked<'_, '_>,
     out: &mut O,
 ) -> Result<Status, Stop>
-    ensures { IfOk result (IsDone asked.entry) }
+    ensures { IfOk result (IsDoneAt server asked.entry) }
 {
     let Asked {
-        server,
         task,
         options,
         word,
     } = asked;
+    let terms = Terms::of(options, word);
     match task {
         Task::Request(request) => {
-            let terms = Terms::of(options, word);
             ask_over(alloc, connection, server, hasher, request, &terms, out)
+        }
+        Task::Discovery(request) => {
+            discover_over(alloc, connection, server, hasher, request, &terms, out)
         }
         Task::Observation(path) => observe_over(
             alloc, connection, server, hasher, path, options, word, out,
@@ -133,86 +165,258 @@ fn ask_task<L: Link, T: Timekeeper, H: BuildHasher + Drop, O: Write, E: Write>(
             };
             poll_over(alloc, connection, server, hasher, &polling, word, out)
         }
+        // It needs a link for each registration.
+        Task::Watch(_, _) => Err(Stop::Failed),
     }
 }
 
-// The same, beside a screen, over a link of its own: how far a body is, and a long wait, are told of.
+// The same, beside a screen, over a link of its own: how far a body is, a long wait, and that nothing is heard, are told
+// of.
 fn ask_on<
     L: Link + Drop,
-    T: Timekeeper,
+    R: Clock,
     H: BuildHasher + Drop,
     O: Write,
     W: Write,
-    P: Teller + Drop,
-    U: Timekeeper + Drop,
-    V: Write + Drop,
 >(
     alloc: Global,
     link: L,
-    tellers: (P, Option<Patience<U, V>>),
-    time: &mut T,
+    server: Endpoint,
+    time: &mut ProgramTime<'_, R>,
     hasher: H,
     asked: Asked<'_, '_>,
+    is_terminal: bool,
     out: &mut O,
     screen: &RefCell<Screen<W>>,
 ) -> Result<Status, Stop>
-    ensures { IfOk result (IsDone asked.entry) }
+    ensures { IfOk result (IsDoneAt server asked.entry) }
 {
-    let (progress, patience) = tellers;
+    let len = asked.task.body_len() as u64;
+    let progress = progress_on(time.again(), screen, server, len, is_terminal);
     let link = Trace::new(link, progress);
-    let mut link = PatientLink::new(link, patience);
+    let is_wanted = is_terminal || asked.options.trace;
+    let writer = SharedWriter::new(screen);
+    let patience = patience_on(time.again(), writer, asked.options.give_up, is_wanted);
+    let link = PatientLink::new(link, patience);
+    let silence = silence_of(&asked, time.again(), SharedWriter::new(screen));
+    let mut link = SilentLink::new(link, silence);
     let mut out = BesideScreen::new(out, screen);
     let mut err = SharedWriter::new(screen);
     let mut connection = Connection::new(&mut link, time, &mut err);
-    let ended = ask_task(alloc, &mut connection, hasher, asked, &mut out);
-    erase(screen);
-    ended
+    do_once(alloc, &mut connection, server, hasher, asked, &mut out)
 }
 
-/// Asks the server at this port of the host for what the words say; whether standard error is a terminal counts for
-/// what is said there of a long wait and of a body in blocks.
-pub(crate) fn ask<R: AllocGlobal + Files + Net + Clock + RandomSource, O: Write, E: Write>(
-    rt: &R,
-    port: u16,
-    path: &Path,
-    what: What<'_>,
-    options: &AskOptions,
+// Who says that nothing is heard of an observation.
+fn silence_of<T: Timekeeper + Drop, W: Write + Drop>(
+    asked: &Asked<'_, '_>,
+    time: T,
+    out: W,
+) -> Option<Silence<T, W>> {
+    match asked.task {
+        Task::Observation(_) => Some(Silence::new(time, out)),
+        Task::Request(_) | Task::Watch(_, _) | Task::Polling(_, _) | Task::Discovery(_) => None,
+    }
+}
+
+// Has clients of the server to which these links go do a task, beside a screen.
+fn ask_from<
+    S: LinkSource,
+    R: Clock,
+    H: BuildHasher + Copy + Drop,
+    O: Write,
+    W: Write,
+>(
+    alloc: Global,
+    source: &S,
+    time: &mut ProgramTime<'_, R>,
+    hasher: H,
+    asked: Asked<'_, '_>,
     is_terminal: bool,
+    out: &mut O,
+    screen: &RefCell<Screen<W>>,
+) -> Result<Status, Stop>
+    ensures { IfOk result (IsDone (S.reaches source.now) asked.entry) }
+{
+    if let Task::Watch(path, again) = asked.task {
+        let watching = Watching {
+            path,
+            again,
+            options: asked.options,
+            word: asked.word,
+        };
+        let mut out = BesideScreen::new(out, screen);
+        let mut err = SharedWriter::new(screen);
+        return watch_over(alloc, source, time, &mut err, hasher, &watching, &mut out);
+    }
+    let (link, server) = source.open()?;
+    ask_on(
+        alloc,
+        link,
+        server,
+        time,
+        hasher,
+        asked,
+        is_terminal,
+        out,
+        screen,
+    )
+}
+
+/// How it is shown what is asked.
+#[derive(Clone, Copy)]
+pub(crate) struct Showing<'p> {
+    /// The file of a capture.
+    pub pcap: Option<&'p str>,
+    /// Whether standard error is a terminal.
+    pub is_terminal: bool,
+    /// Whether it is one in colour.
+    pub is_coloured: bool,
+}
+
+// The same, over links of which it is told what passes.
+fn ask_told<
+    R: AllocGlobal + Files + Clock + RandomSource,
+    S: Ends + Drop,
+    O: Write,
+    E: Write,
+>(
+    rt: &R,
+    source: S,
+    asked: Asked<'_, '_>,
+    showing: Showing<'_>,
     out: &mut O,
     err: &mut E,
 ) -> Result<Status, Stop>
-    ensures { IfOk result (IsAsked port path.now what.entry options.now) }
+    ensures { IfOk result (IsDone (S.reaches source) asked.entry) }
+{
+    let mut time = ProgramTime::begin(rt)?;
+    let begin = begin_of(rt, time.now()?)?;
+    let hasher = RandomState::new(rt)?;
+    let file = capture_in(rt, showing.pcap)?;
+    let file = match file {
+        Some(file) => Some(RefCell::new(file)),
+        None => None,
+    };
+    let screen = RefCell::new(Screen::new(&mut *err));
+    let telling = Telling {
+        alloc: rt.alloc(),
+        time: time.again(),
+        begin,
+        screen: &screen,
+        tracing: Tracing::of(asked.options.trace, showing.is_coloured),
+        file: file.as_ref(),
+        give_up: asked.options.give_up,
+    };
+    let source = ToldSource::new(source, telling);
+    let is_terminal = showing.is_terminal;
+    let ended = ask_from(
+        rt.alloc(),
+        &source,
+        &mut time,
+        hasher,
+        asked,
+        is_terminal,
+        out,
+        &screen,
+    );
+    erase(&screen);
+    ended
+}
+
+/// Names for so many peers over IPv6 at once.
+pub(crate) fn names_for<R: AllocGlobal + RandomSource>(
+    rt: &R,
+    most: u32,
+) -> Result<PeerNames<RandomState, Global>, Stop> {
+    let Some(places) = Places::new(most) else {
+        return Err(Stop::Memory);
+    };
+    Ok(PeerNames::new(rt.alloc(), places, RandomState::new(rt)?)?)
+}
+
+// The same, over IPv6.
+fn ask_six<R: AllocGlobal + Files + Net + Clock + RandomSource, O: Write, E: Write>(
+    rt: &R,
+    server: SocketAddrV6,
+    asked: Asked<'_, '_>,
+    showing: Showing<'_>,
+    out: &mut O,
+    err: &mut E,
+) -> Result<Status, Stop>
+    ensures { IfOk result (IsDone (Knows (peers.Six server)) asked.entry) }
+{
+    let names = names_for(rt, MAX_PEERS)?;
+    let source = SixSource {
+        net: rt,
+        server,
+        names: &names,
+        time: ProgramTime::begin(rt)?,
+    };
+    ask_told(rt, source, asked, showing, out, err)
+}
+
+// Asks the server that the words say, wherever it is.
+fn ask_at<R: AllocGlobal + Files + Net + Clock + RandomSource, O: Write, E: Write>(
+    rt: &R,
+    server: Server<'_>,
+    asked: Asked<'_, '_>,
+    showing: Showing<'_>,
+    out: &mut O,
+    err: &mut E,
+) -> Result<Status, Stop>
+    ensures { IfOk result (IsDone (IsServer server.entry) asked.entry) }
+{
+    match peer_of(rt, server, err)? {
+        Peer::Four(server) => {
+            let source = FourSource { net: rt, server };
+            ask_told(rt, source, asked, showing, out, err)
+        }
+        Peer::Six(server) => ask_six(rt, server, asked, showing, out, err),
+    }
+}
+
+/// Asks a server for what the words say; whether standard error is a terminal counts for what is said there of a long
+/// wait and of a body in blocks.
+pub(crate) fn ask<R: AllocGlobal + Files + Net + Clock + RandomSource, O: Write, E: Write>(
+    rt: &R,
+    server: Server<'_>,
+    path: &Path,
+    what: What<'_>,
+    options: &AskOptions,
+    showing: Showing<'_>,
+    out: &mut O,
+    err: &mut E,
+) -> Result<Status, Stop>
+    ensures { IfOk result (IsAsked server.entry path.now what.entry options.now) }
 {
     let word = word_of(rt, options.word)?;
     let task = task_of(rt, path, what, options)?;
-    let mut time = ProgramTime::begin(rt)?;
-    let server = server_of(port, options);
-    let link = UdpLink::client(rt, server)?;
-    let hasher = RandomState::new(rt)?;
-    let screen = RefCell::new(Screen::new(&mut *err));
-    let closed_port = ClosedPort::new(SharedWriter::new(&screen), server, options.give_up);
-    let link = ClosedPortLink::new(link, closed_port);
-    let teller = teller_on(rt.alloc(), time.again(), &screen, options.trace);
-    let link = Trace::new(link, teller);
-    let len = task.body_len() as u64;
-    let progress = progress_on(time.again(), &screen, server, len, is_terminal);
-    let is_wanted = is_terminal || options.trace;
-    let writer = SharedWriter::new(&screen);
-    let patience = patience_on(time.again(), writer, options.give_up, is_wanted);
     let asked = Asked {
-        server,
         task,
         options,
         word,
     };
-    ask_on(
-        rt.alloc(),
-        link,
-        (progress, patience),
-        &mut time,
-        hasher,
-        asked,
-        out,
-        &screen,
-    )
+    ask_at(rt, server, asked, showing, out, err)
+}
+
+/// Asks a server what it has, by the options of the words.
+pub(crate) fn discover<R: AllocGlobal + Files + Net + Clock + RandomSource, O: Write, E: Write>(
+    rt: &R,
+    server: Server<'_>,
+    options: &AskOptions,
+    showing: Showing<'_>,
+    out: &mut O,
+    err: &mut E,
+) -> Result<Status, Stop>
+    ensures { IfOk result (IsDiscovered server.entry options.now) }
+{
+    let word = word_of(rt, options.word)?;
+    let path = core_path(rt.alloc())?;
+    let request = request_of(&path, What::Get, options, Bytes::new())?;
+    let asked = Asked {
+        task: Task::Discovery(request),
+        options,
+        word,
+    };
+    ask_at(rt, server, asked, showing, out, err)
 }

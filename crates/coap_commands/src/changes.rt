@@ -1,12 +1,15 @@
-//! What `--changes` prints: a line for each request that the server applies.
-ghost use Rattle.std.specs.Prelude.{◌≡◌, ℕ, Bool, List, is_ok, is_some, option_copied};
+//! What `--changes` prints: a line for each request that the server applies, in words or in JSON.
+ghost use Rattle.std.specs.Prelude.{◌≡◌, ℕ, Bool, List, IfOk, is_ok, is_some, option_copied};
 ghost use Rattle.coap_types.specs.declared.request.Method.{Method as MethodSpec};
 ghost use Rattle.coap_server.specs.Object.Shown.{applied_list};
 ghost use Rattle.coap_server.specs.Trace.{Applied as AppliedSpec};
+ghost use Rattle.coap_json.specs.Objects.{IsLineOf};
+ghost use Rattle.coap_json.specs.OtherObjects.{applied_object};
 ghost use Rattle.coap_commands.specs.ToldChanges.{IsToldOnce, IsToldWhere};
 
 use crate::tracing::SharedWriter;
 use coap_ends::{Applied, End, Server};
+use coap_json::applied_line;
 use coap_layer::Datagram;
 use coap_print::{PathWords, code_name};
 use coap_resource::Store;
@@ -88,11 +91,28 @@ pub trait ChangeTeller<A: Allocator + Copy> {
         ensures { tells_change self.old at.0 method path.now version body.now (is_ok result) self.new };
 }
 
-/// Tells of each request that is applied on a writer, a line each, at once.
+/// Tells of each request that is applied on a writer, a line each, at once: in words, or as an object of JSON.
 #[derive(Drop)]
 pub struct ChangeLines<A, W> {
     alloc: A,
     out: W,
+    is_json: bool,
+}
+
+impl<A: Allocator + Copy, W: Write> ChangeLines<A, W> {
+    /// Tells on this writer.
+    pub fn new(alloc: A, out: W, is_json: bool) -> ChangeLines<A, W>
+        // A teller of changes is on its writer as that is.
+        ensures out { result.out ≡ out }
+        // It tells in JSON exactly where that is wanted.
+        ensures json { result.is_json ≡ is_json }
+    {
+        ChangeLines {
+            alloc,
+            out,
+            is_json,
+        }
+    }
 }
 
 /// A teller of changes on a writer that others have too, where one is wanted.
@@ -100,22 +120,53 @@ pub fn changes_on<'a, A: Allocator + Copy, W: Write>(
     alloc: A,
     out: &'a RefCell<W>,
     is_wanted: bool,
+    is_json: bool,
 ) -> Option<ChangeLines<A, SharedWriter<'a, W>>>
     // There is a teller of changes exactly where one is wanted.
     ensures { is_some result ≡ is_wanted }
 {
     if is_wanted {
-        let out = SharedWriter(out);
-        Some(ChangeLines { alloc, out })
+        Some(ChangeLines::new(alloc, SharedWriter(out), is_json))
     } else {
         None
     }
 }
 
-impl<A: Allocator + Copy, W: Write> ChangeTeller<A> for ChangeLines<A, W> {
-    ghost use Rattle.std.specs.Prelude.{⊤};
+// The line of a request that was applied, in words.
+fn words_line<A: Allocator + Copy>(
+    alloc: A,
+    words: &ChangeWords<'_, A>,
+) -> Result<Vec<u8, A>, AllocError> {
+    let words = *words;
+    Ok(format!(in alloc; "{words}\n")?.into_bytes())
+}
 
-    ghost tells_change = { λ _ _ _ _ _ _ _ _. ⊤ };
+// .. in JSON.
+fn object_line<A: Allocator + Copy>(
+    alloc: A,
+    words: &ChangeWords<'_, A>,
+) -> Result<Vec<u8, A>, AllocError>
+    ensures { IfOk result (λ line. (path : List ℕ) × IsLineOf line.items
+        (applied_object words.now.at.0 words.now.method path words.now.version words.now.body.now)) }
+{
+    let path = PathWords(words.path);
+    let path = format!(in alloc; "{path}")?;
+    applied_line(
+        alloc,
+        words.at,
+        words.method,
+        path.as_str(),
+        words.version,
+        words.body,
+    )
+}
+
+impl<A: Allocator + Copy, W: Write> ChangeTeller<A> for ChangeLines<A, W> {
+    ghost use Rattle.std.specs.Prelude.{true};
+    ghost use Rattle.coap_commands.specs.JsonLines.{WritesApplied};
+
+    ghost tells_change = { λ t at method _ version body told u. told ≡ true → t.is_json ≡ true
+        → WritesApplied (W.contents t.out) (W.contents u.out) at method version body };
 
     fn tell_change(
         &mut self,
@@ -132,8 +183,12 @@ impl<A: Allocator + Copy, W: Write> ChangeTeller<A> for ChangeLines<A, W> {
             version,
             body,
         };
-        let line = format!(in self.alloc; "{words}\n")?;
-        self.out.write_all(line.as_bytes())
+        let line = if self.is_json {
+            object_line(self.alloc, &words)?
+        } else {
+            words_line(self.alloc, &words)?
+        };
+        self.out.write_all(line.as_slice())
     }
 }
 

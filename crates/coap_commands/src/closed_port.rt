@@ -4,8 +4,8 @@ ghost use Rattle.coap_types.specs.declared.endpoint.Endpoint.{Endpoint as Endpoi
 ghost use Rattle.coap_links.specs.Carried.{Packet};
 
 use crate::patience::latest_end;
+use crate::peers::PeerWords;
 use coap_links::Link;
-use coap_print::EndpointWords;
 use coap_types::Endpoint;
 use std::io::Write;
 
@@ -13,14 +13,14 @@ use std::io::Write;
 #[derive(Drop)]
 pub struct ClosedPort<W> {
     out: W,
-    server: Endpoint,
+    server: PeerWords,
     latest: u64,
     is_told: bool,
 }
 
 impl<W: Write> ClosedPort<W> {
     /// Who says it of this server, where a request is given up after so many seconds at the latest.
-    pub fn new(out: W, server: Endpoint, give_up: Option<u64>) -> ClosedPort<W> {
+    pub fn new(out: W, server: PeerWords, give_up: Option<u64>) -> ClosedPort<W> {
         ClosedPort {
             out,
             server,
@@ -33,7 +33,7 @@ impl<W: Write> ClosedPort<W> {
     fn look(&mut self, is_refused: bool) {
         if is_refused && !self.is_told {
             self.is_told = true;
-            let server = EndpointWords(self.server);
+            let server = self.server;
             let latest = self.latest;
             let _ = writeln!(
                 self.out,

@@ -41,6 +41,8 @@ pub struct Terms {
     pub limit: BodyLimit,
     /// After how many seconds it gives up.
     pub give_up: Option<u64>,
+    /// Whether what became of a request is told in JSON.
+    pub json: bool,
 }
 
 impl Terms {
@@ -55,6 +57,7 @@ impl Terms {
             size: options.size,
             limit: options.limit,
             give_up: options.give_up,
+            json: options.json,
         }
     }
 

@@ -9,9 +9,11 @@ ghost use Rattle.coap_arguments.specs.declared.orders.Wrong.{Wrong};
 ghost use Rattle.coap_arguments.specs.declared.orders.Wrong.TheVariants as wrongs;
 
 use crate::answer::answer;
-use crate::asking::ask;
+use crate::asking::{Showing, ask, discover};
+use crate::captured::dump_capture;
 use crate::dump::dump;
 use crate::pair::pair;
+use crate::ping::ping;
 use crate::put_away::put_away;
 use crate::serve::serve;
 use crate::show::show;
@@ -25,11 +27,33 @@ use std::net::Net;
 use std::random::RandomSource;
 use std::rt::{Clock, Files};
 
+/// What standard error is.
+#[derive(Clone, Copy, Debug, PartialEq, Eq)]
+pub enum Terminal {
+    /// No terminal, as a file.
+    Absent,
+    /// A terminal on which nothing is to be in colour.
+    Plain,
+    /// A terminal on which colours may be.
+    Coloured,
+}
+
+impl Terminal {
+    // How it is shown there what is asked, and in this file what passes.
+    fn showing<'p>(self, pcap: Option<&'p str>) -> Showing<'p> {
+        Showing {
+            pcap,
+            is_terminal: self != Terminal::Absent,
+            is_coloured: self == Terminal::Coloured,
+        }
+    }
+}
+
 // Carries an order out. Standard error may be a terminal.
 fn perform<R: AllocGlobal + Files + Net + Clock + RandomSource, O: Write, E: Write>(
     rt: &R,
     order: &Order<'_>,
-    is_terminal: bool,
+    terminal: Terminal,
     out: &mut O,
     err: &mut E,
 ) -> Result<Status, Stop>
@@ -40,6 +64,7 @@ fn perform<R: AllocGlobal + Files + Net + Clock + RandomSource, O: Write, E: Wri
         Order::Version => version(out),
         Order::Show { datagram } => show(alloc, datagram.as_slice(), out),
         Order::Dump => dump(rt, out),
+        Order::DumpCapture { file, chart } => dump_capture(rt, file, *chart, out),
         Order::Answer {
             path,
             body,
@@ -56,13 +81,29 @@ fn perform<R: AllocGlobal + Files + Net + Clock + RandomSource, O: Write, E: Wri
             port,
             count,
             options,
-        } => serve(rt, *port, *count, options, out, err),
+            script,
+            pcap,
+        } => serve(rt, *port, *count, options, *script, terminal.showing(*pcap), out, err),
         Order::Ask {
-            port,
+            server,
             path,
             what,
             options,
-        } => ask(rt, *port, path, *what, options, is_terminal, out, err),
+            pcap,
+        } => {
+            let showing = terminal.showing(*pcap);
+            ask(rt, *server, path, *what, options, showing, out, err)
+        }
+        Order::Discover {
+            server,
+            options,
+            pcap,
+        } => discover(rt, *server, options, terminal.showing(*pcap), out, err),
+        Order::Ping {
+            server,
+            options,
+            pcap,
+        } => ping(rt, *server, options, terminal.showing(*pcap), out, err),
         Order::Sim {
             file,
             store,
@@ -71,13 +112,24 @@ fn perform<R: AllocGlobal + Files + Net + Clock + RandomSource, O: Write, E: Wri
             chart,
             client,
             server,
+            pcap,
         } => {
             let ends = Addresses {
                 client: *client,
                 server: *server,
             };
             let plains = plains.as_slice();
-            sim_file(rt, file, *store, plains, *remembered, ends, *chart, out)
+            sim_file(
+                rt,
+                file,
+                *store,
+                plains,
+                *remembered,
+                ends,
+                *chart,
+                *pcap,
+                out,
+            )
         }
     }
 }
@@ -119,7 +171,7 @@ pub fn refuse<O: Write, E: Write>(wrong: Wrong, out: &mut O, err: &mut E) -> Res
 fn run<R: AllocGlobal + Files + Net + Clock + RandomSource, O: Write, E: Write>(
     rt: &R,
     words: &[String],
-    is_terminal: bool,
+    terminal: Terminal,
     out: &mut O,
     err: &mut E,
 ) -> Result<Status, Stop>
@@ -127,7 +179,7 @@ fn run<R: AllocGlobal + Files + Net + Clock + RandomSource, O: Write, E: Write>(
 {
     match order(rt.alloc(), words) {
         Ok(order) => {
-            let ended = perform(rt, &order, is_terminal, out, err);
+            let ended = perform(rt, &order, terminal, out, err);
             put_away(order);
             ended
         }
@@ -172,7 +224,7 @@ pub fn command<R: AllocGlobal + Files + Net + Clock + RandomSource, O: Write, E:
     ensures done { result ≤ 1 → (order : Order) × AsksFor (map string_bytes words.now) order
         × IsCarriedTo order result }
 {
-    command_on(rt, words, false, out, err)
+    command_on(rt, words, Terminal::Absent, out, err)
 }
 
 /// The same where standard error may be a terminal, on which a person reads it at once: there it says, too, where
@@ -180,7 +232,7 @@ pub fn command<R: AllocGlobal + Files + Net + Clock + RandomSource, O: Write, E:
 pub fn command_on<R: AllocGlobal + Files + Net + Clock + RandomSource, O: Write, E: Write>(
     rt: &R,
     words: &[String],
-    is_terminal: bool,
+    terminal: Terminal,
     out: &mut O,
     err: &mut E,
 ) -> u8
@@ -196,7 +248,7 @@ pub fn command_on<R: AllocGlobal + Files + Net + Clock + RandomSource, O: Write,
     ensures done { result ≤ 1 → (order : Order) × AsksFor (map string_bytes words.now) order
         × IsCarriedTo order result }
 {
-    let ended = run(rt, words, is_terminal, out, err);
+    let ended = run(rt, words, terminal, out, err);
     close(ended, err).number()
 }
 

@@ -34,8 +34,8 @@ fn tell_lines<W: Write>(number: u64, text: &[u8], out: &mut W) -> Result<(), Sto
     Ok(())
 }
 
-// Prints what a datagram says, behind a number.
-fn dump_datagram<W: Write>(
+/// Prints what a datagram says, behind a number.
+pub(crate) fn dump_datagram<W: Write>(
     alloc: Global,
     number: u64,
     datagram: &[u8],

@@ -1,5 +1,5 @@
 //! Observing a resource, and printing its values (RFC 7641).
-ghost use Rattle.std.specs.Prelude.{◌≡◌, ◌+◌, ◌≤◌, ◌∷◌, ℕ, List, [], true, false, Some, IfNone, IfOk, IfSome};
+ghost use Rattle.std.specs.Prelude.{◌≡◌, ◌↔◌, ◌+◌, ◌≤◌, ◌∷◌, ℕ, List, [], true, false, Some, IfNone, IfOk, IfSome, OnOk};
 ghost use Rattle.coap_types.specs.declared.endpoint.Endpoint.{Endpoint as EndpointSpec};
 ghost use Rattle.coap_block.specs.Sizes.{Sizes};
 ghost use Rattle.coap_layer.specs.declared.setup.Setup.{Setup as SetupSpec};
@@ -9,6 +9,8 @@ ghost use Rattle.coap_client.specs.Trace.{Call, is_value};
 ghost use Rattle.coap_client.specs.Trace.{Observes as observes};
 ghost use Rattle.coap_arguments.specs.declared.orders.AskOptions.{AskOptions as OptionsSpec};
 ghost use Rattle.coap_commands.specs.Asks.{takes_report};
+ghost use Rattle.coap_commands.specs.JsonLines.{WritesOutcome};
+ghost use Rattle.coap_commands.specs.JsonValues.{WritesValue, form_of};
 ghost use Rattle.coap_commands.specs.Observes.{HasAll, IsLate, IsOver, ObserveBecomes, ObserveComes, Observed};
 ghost use Rattle.coap_commands.specs.Observes.{Observes};
 ghost use Rattle.coap_commands.specs.Observes.{observed_status};
@@ -19,6 +21,7 @@ use crate::bearing::bear_in_a_row;
 use crate::calling::{Outcome, outcome_text};
 use crate::connection::{Connection, Terms};
 use crate::ends::fresh_client;
+use crate::json_lines::{write_outcome, write_report};
 use crate::put_away::put_away;
 use crate::timekeeper::Timekeeper;
 use crate::waiting::{MS_PER_SECOND, passed};
@@ -34,7 +37,7 @@ use std::io::Write;
 
 // Whether so many values are as many as are wanted.
 fn has_all(times: Option<u64>, values: u64) -> bool
-    ensures { result ≡ true → HasAll times values }
+    ensures { (result ≡ true) ↔ HasAll times values }
 {
     match times {
         Some(times) => times <= values,
@@ -44,7 +47,7 @@ fn has_all(times: Option<u64>, values: u64) -> bool
 
 /// Whether so many seconds have passed.
 pub(crate) fn is_late(seconds: Option<u64>, begin: Moment, now: Moment) -> bool
-    ensures { result ≡ true → IsLate seconds begin.0 now.0 }
+    ensures { (result ≡ true) ↔ IsLate seconds begin.0 now.0 }
 {
     match seconds {
         Some(seconds) => seconds <= now.since(begin) / MS_PER_SECOND,
@@ -52,23 +55,51 @@ pub(crate) fn is_late(seconds: Option<u64>, begin: Moment, now: Moment) -> bool
     }
 }
 
-// Whether an observation that began at this moment is over, after so many values.
-fn is_over(options: &AskOptions, begin: Moment, values: u64, now: Moment) -> bool
-    ensures { result ≡ true → IsOver options.now begin.0 values now.0 }
+/// Whether an observation that began at this moment is over, after so many values.
+pub(crate) fn is_over(options: &AskOptions, begin: Moment, values: u64, now: Moment) -> bool
+    ensures { (result ≡ true) ↔ IsOver options.now begin.0 values now.0 }
 {
     has_all(options.times, values) || is_late(options.seconds, begin, now)
 }
 
-// Prints a value on a line, at once; whether the report is one. One that comes when the observation is
-// over isn't printed.
-fn print_value<W: Write>(
+/// How a value is printed.
+#[derive(Clone, Copy, Debug)]
+pub(crate) enum Form {
+    /// Its bytes as they are.
+    Bytes,
+    /// Its bytes in hex.
+    Hex,
+    /// The line of its report in JSON, at this moment.
+    Json(Moment),
+}
+
+impl Form {
+    /// The form that the options say, at this moment.
+    pub(crate) fn of(options: &AskOptions, now: Moment) -> Form
+        ensures { result ≡ form_of options.now now }
+    {
+        if options.json {
+            Form::Json(now)
+        } else if options.hex {
+            Form::Hex
+        } else {
+            Form::Bytes
+        }
+    }
+}
+
+/// Prints a value on a line, at once; whether the report is one. One that comes when the observation is
+/// over isn't printed.
+pub(crate) fn print_value<W: Write>(
     alloc: Global,
     report: &Report,
     is_over: bool,
-    is_hex: bool,
+    form: Form,
     out: &mut W,
 ) -> Result<bool, Stop>
-    ensures { IfOk result (λ is. is ≡ is_value (shown_report report.now)) }
+    ensures value { IfOk result (λ is. is ≡ is_value (shown_report report.now)) }
+    ensures written { OnOk result (WritesValue form is_over (W.contents out.old) (W.contents out.new)
+        (shown_report report.now)) }
 {
     let Report::Value(_, fetched) = report else {
         return Ok(false);
@@ -76,7 +107,11 @@ fn print_value<W: Write>(
     if is_over {
         return Ok(true);
     }
-    print_line(alloc, fetched.body.as_slice(), is_hex, out)?;
+    match form {
+        Form::Bytes => print_line(alloc, fetched.body.as_slice(), false, out)?,
+        Form::Hex => print_line(alloc, fetched.body.as_slice(), true, out)?,
+        Form::Json(at) => write_report(alloc, at, report, out)?,
+    }
     Ok(true)
 }
 
@@ -106,7 +141,7 @@ fn last_report<H: BuildHasher, W: Write>(
     id: CallId,
     values: &mut u64,
     is_over: bool,
-    is_hex: bool,
+    form: Form,
     out: &mut W,
 ) -> Result<Option<Report>, Stop>
     ensures last { IfOk result (λ last. IfSome last (λ report. Step client.old
@@ -117,7 +152,7 @@ fn last_report<H: BuildHasher, W: Write>(
     let Some(report) = next_report_of(client, id) else {
         return Ok(None);
     };
-    if print_value(alloc, &report, is_over, is_hex, out)? {
+    if print_value(alloc, &report, is_over, form, out)? {
         *values = values.saturating_add(1);
         return Ok(None);
     }
@@ -179,7 +214,7 @@ fn awaited<H: BuildHasher, L: Link, T: Timekeeper, E: Write, W: Write>(
             id,
             &mut values,
             is_over,
-            options.hex,
+            Form::of(options, now),
             out,
         )? {
             send_all(client, connection.link);
@@ -194,13 +229,14 @@ fn awaited<H: BuildHasher, L: Link, T: Timekeeper, E: Write, W: Write>(
     Err(Stop::Failed)
 }
 
-// Hands a client the observation of a path: its number, or the refusal where the client does not take it.
-fn register<H: BuildHasher>(
+/// Hands a client the observation of a path: its number, or the refusal where the client does not take it.
+pub(crate) fn register<H: BuildHasher>(
     client: &mut Client<Global, H>,
     now: Moment,
     path: &Path,
 ) -> Result<Result<CallId, CallRefusal>, Stop>
-    ensures { IfOk result (λ answer. (server : EndpointSpec) (sizes : Sizes) (w : SetupSpec) (t : List Call)
+    ensures step { IfOk result (λ answer. Step client.old (observes now.0 path.now (number_of answer)) client.new) }
+    ensures led { IfOk result (λ answer. (server : EndpointSpec) (sizes : Sizes) (w : SetupSpec) (t : List Call)
         → Led server sizes w t client.old
         → Led server sizes w (observes now.0 path.now (number_of answer) ∷ t) client.new) }
 {
@@ -231,12 +267,31 @@ fn outcome_of<H: BuildHasher, L: Link, T: Timekeeper, E: Write, W: Write>(
     }
 }
 
-// Says how an observation ended.
-fn tell<E: Write>(alloc: Global, outcome: &Outcome, err: &mut E) -> Result<Status, Stop>
-    ensures { IfOk result (λ status. status ≡ observed_status outcome.now) }
-{
+// Says how an observation ended, on standard error.
+fn say<E: Write>(alloc: Global, outcome: &Outcome, err: &mut E) -> Result<(), Stop> {
     let text = outcome_text(alloc, outcome)?;
     let _ = writeln!(err, "{text}");
+    Ok(())
+}
+
+// Tells how an observation ended: in JSON on a line of its own, where that is wanted.
+fn tell<T: Timekeeper, O: Write, E: Write>(
+    alloc: Global,
+    is_json: bool,
+    outcome: &Outcome,
+    time: &mut T,
+    out: &mut O,
+    err: &mut E,
+) -> Result<Status, Stop>
+    ensures status { IfOk result (λ status. status ≡ observed_status outcome.now) }
+    ensures written { OnOk result (WritesOutcome is_json (O.contents out.old) (O.contents out.new) outcome.now) }
+{
+    if is_json {
+        let at = time.now()?;
+        write_outcome(alloc, at, outcome, out)?;
+    } else {
+        say(alloc, outcome, err)?;
+    }
     if let Outcome::Reported(Report::Cancelled) = outcome {
         return Ok(Status::Done);
     }
@@ -257,7 +312,14 @@ fn observe_and_tell<H: BuildHasher, L: Link, T: Timekeeper, O: Write, E: Write>(
         → Led server sizes w [] client.old → Observes server sizes w path.now options.now status) }
 {
     let outcome = outcome_of(alloc, client, connection, path, options, word, out)?;
-    tell(alloc, &outcome, connection.err)
+    tell(
+        alloc,
+        options.json,
+        &outcome,
+        connection.time,
+        out,
+        connection.err,
+    )
 }
 
 /// Observes what a server holds at a path, and prints each value on a line of `out`, and on standard error how it

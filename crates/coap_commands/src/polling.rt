@@ -1,6 +1,6 @@
 //! Getting what a server holds at a path again and again, by one client, and printing each reading (RFC 7252, section
 //! 5.8.1).
-ghost use Rattle.std.specs.Prelude.{◌≡◌, ◌∷◌, ℕ, List, [], length, true, Some, Ok, IfOk};
+ghost use Rattle.std.specs.Prelude.{◌≡◌, ◌∷◌, ℕ, List, [], length, true, Some, Ok, IfOk, OnOk};
 ghost use Rattle.coap_types.specs.declared.endpoint.Endpoint.{Endpoint as EndpointSpec};
 ghost use Rattle.coap_block.specs.Sizes.{Sizes};
 ghost use Rattle.coap_layer.specs.declared.setup.Setup.{Setup as SetupSpec};
@@ -8,17 +8,19 @@ ghost use Rattle.coap_client.specs.Led.{Led, State};
 ghost use Rattle.coap_arguments.specs.declared.orders.What.TheVariants.{Get};
 ghost use Rattle.coap_commands.specs.Asked.{asked_request};
 ghost use Rattle.coap_commands.specs.Asks.{got_status};
+ghost use Rattle.coap_commands.specs.JsonLines.{WritesOutcome};
 ghost use Rattle.coap_commands.specs.Polls.{Closes, Goes, HasCome, HasRead, IsLeft, Polls, Reading, Reads};
 ghost use Rattle.coap_commands.specs.Polls.{pending_after, read_status};
 ghost use Rattle.coap_commands.specs.Terms.{asked_terms, setup_of, sizes_of};
 ghost use Rattle.coap_commands.specs.Waiting.{HasPassed};
 ghost use Rattle.coap_commands.specs.declared.calling.Outcome.{Outcome as OutcomeSpec};
 
-use crate::ask::next_report_of;
+use crate::ask::{next_report_of, status_of};
 use crate::bearing::bear_in_a_row;
 use crate::calling::{Outcome, call, outcome_text};
 use crate::connection::{Connection, Terms};
 use crate::ends::fresh_client;
+use crate::json_lines::write_outcome;
 use crate::observe::{is_late, print_line};
 use crate::put_away::put_away;
 use crate::request::request_of;
@@ -29,7 +31,7 @@ use coap_arguments::{AskOptions, What};
 use coap_ends::{CallId, Client, Report};
 use coap_links::{Link, Tally, fresh_tally, get_turn, send_all};
 use coap_scripts::{Status, Stop};
-use coap_types::{Endpoint, Moment, Path};
+use coap_types::{Endpoint, Method, Moment, Path};
 use std::alloc::Global;
 use std::hash::BuildHasher;
 use std::io::Write;
@@ -131,6 +133,27 @@ fn read<H: BuildHasher, L: Link, T: Timekeeper, E: Write>(
     }
 }
 
+// Prints what was read, in JSON where that is wanted.
+fn tell_as<T: Timekeeper, O: Write, E: Write>(
+    alloc: Global,
+    outcome: &Outcome,
+    options: &AskOptions,
+    time: &mut T,
+    out: &mut O,
+    err: &mut E,
+) -> Result<Status, Stop>
+    ensures status { IfOk result (λ status. status ≡ got_status outcome.now) }
+    ensures written { OnOk result (WritesOutcome options.now.json (O.contents out.old) (O.contents out.new)
+        outcome.now) }
+{
+    if !options.json {
+        return tell(alloc, outcome, options.hex, out, err);
+    }
+    let at = time.now()?;
+    write_outcome(alloc, at, outcome, out)?;
+    Ok(status_of(Method::Get, outcome))
+}
+
 // Prints the body that was read on a line; on standard error, why there is none.
 fn tell<O: Write, E: Write>(
     alloc: Global,
@@ -166,8 +189,14 @@ fn read_and_tell<H: BuildHasher, L: Link, T: Timekeeper, O: Write, E: Write>(
         client.old client.new) }
 {
     let (outcome, pending) = read(client, connection, polling, begin, tally)?;
-    let is_hex = polling.options.hex;
-    let status = tell(alloc, &outcome, is_hex, out, connection.err)?;
+    let status = tell_as(
+        alloc,
+        &outcome,
+        polling.options,
+        connection.time,
+        out,
+        connection.err,
+    )?;
     Ok(Made { status, pending })
 }
 

@@ -1,12 +1,12 @@
 //! The request that the words ask for.
 ghost use Rattle.std.specs.Prelude.{◌≡◌, IfOk};
 ghost use Rattle.coap_client.specs.Object.CallShown.{shown_request};
-ghost use Rattle.coap_commands.specs.Asked.{IsBody, IsContent, asked_method, asked_request, asked_server};
+ghost use Rattle.coap_commands.specs.Asked.{IsBody, IsContent, asked_method, asked_request};
 
 use bytes::Bytes;
 use coap_arguments::{AskOptions, Content, What};
 use coap_scripts::{Stop, stop_of};
-use coap_types::{BodyLimit, Endpoint, Method, Path, Request, Tags};
+use coap_types::{BodyLimit, Method, Path, Request, Tags};
 use std::alloc::{AllocError, Global};
 use std::fs;
 use std::io::Read;
@@ -17,16 +17,6 @@ const STANDARD_INPUT: &str = "-";
 
 /// Standard input, as a file.
 pub(crate) const STANDARD_INPUT_FILE: &str = "/dev/stdin";
-
-/// The server that the words ask.
-pub(crate) fn server_of(port: u16, options: &AskOptions) -> Endpoint
-    ensures { result ≡ asked_server port options.now }
-{
-    Endpoint {
-        ip: options.host.octets(),
-        port,
-    }
-}
 
 // The method of what is asked for (RFC 7252, section 5.8).
 fn method_of(what: What<'_>) -> Method

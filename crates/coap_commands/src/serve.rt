@@ -1,35 +1,49 @@
 //! `serve`: a server over a socket.
-ghost use Rattle.std.specs.Prelude.{◌≡◌, IfOk};
+ghost use Rattle.std.specs.Prelude.{◌≡◌, IfOk, map};
 ghost use Rattle.coap_links.specs.Pumping.{SendsAll};
 ghost use Rattle.coap_links.specs.Turning.{Turns};
 ghost use Rattle.coap_resource.specs.Entries.{content_of};
 ghost use Rattle.coap_server.specs.Led.{State};
 ghost use Rattle.coap_server.specs.Object.Shown.{state_of};
 ghost use Rattle.coap_commands.specs.Serves.{Feeds, Serves};
-ghost use Rattle.coap_commands.specs.Served.{FedFrom, IsServed};
+ghost use Rattle.coap_scripts.specs.Settings.{setting_of};
+ghost use Rattle.coap_commands.specs.Asked.{IsWord};
+ghost use Rattle.coap_commands.specs.Served.{FedFrom, IsServed, IsServedBy};
 ghost use Rattle.coap_scripts.specs.declared.status.Status.TheVariants.{Done};
 
+use crate::asking::{Showing, names_for};
 use crate::bearing::bear_serving;
+use crate::capturing::{FourStanding, SixStanding, Standing, begin_of, capture_in, capture_on};
 use crate::changes::{ChangeTeller, TellingEnd, changes_on};
 use crate::ends::tell_refusal;
+use crate::hosts::{Peer, peer_at};
+use crate::peers::{FourPeers, Peers, SixPeers};
 use crate::put_away::put_away;
-use crate::setting_up::server_by;
+use crate::serve_script::{script_of, tell_bad_line};
+use crate::setting_up::{NotSetUp, server_by};
+use crate::sources::own_six;
 use crate::timekeeper::{ProgramTime, Timekeeper};
-use crate::tracing::teller_on;
+use crate::tracing::{Tracing, teller_on};
 use crate::word::word_of;
-use coap_arguments::ServeOptions;
+use coap_arguments::{Address, ServeOptions};
 use coap_ends::{End, Server};
-use coap_links::{Link, Trace, UdpLink, fresh_tally, send_all, serve_turn};
+use coap_links::{Link, Trace, Udp6Link, UdpLink, fresh_tally, send_all, serve_turn};
 use coap_resource::MapStore;
-use coap_scripts::{Status, Stop};
+use coap_scripts::{Setting, Status, Stop};
 use coap_types::Endpoint;
 use std::alloc::{Allocator, Global};
 use std::cell::RefCell;
 use std::hash::{BuildHasher, RandomState};
 use std::io::Write;
-use std::net::Net;
+use std::net::{Net, SocketAddrV6};
 use std::random::RandomSource;
-use std::rt::Clock;
+use std::rt::{Clock, Files};
+
+// How many peers over IPv6 have names at once: those from which a datagram came in the last 247 s. What comes from
+// another one, where there is no place, is dropped.
+const MAX_CLIENTS: u32 = 65_536;
+
+const _: () = prove!(MAX_CLIENTS == 65_536);
 
 // Takes turns until so many datagrams were fed.
 fn serve_until<A: Allocator + Copy, E: End<A>, L: Link, T: Timekeeper>(
@@ -78,9 +92,17 @@ pub fn serve_over<A: Allocator + Copy, E: End<A>, L: Link, T: Timekeeper, W: Wri
     Ok(Status::Done)
 }
 
+// Whether only the machine itself reaches an address (RFC 1122, section 3.2.1.3; RFC 4291, section 2.5.3).
+fn is_loopback(address: Address) -> bool {
+    match address {
+        Address::Four(ip) => ip.is_loopback(),
+        Address::Six { ip, .. } => ip.is_loopback(),
+    }
+}
+
 // Says what a server that others reach lets them do.
 fn warn<E: Write>(options: &ServeOptions, port: u16, err: &mut E) {
-    if !options.address.is_loopback() {
+    if !is_loopback(options.address) {
         let _ = writeln!(
             err,
             "whoever reaches port {port} may write, make and delete every path"
@@ -112,32 +134,164 @@ fn serve_with<
     ended
 }
 
-/// Serves at a port, as the words say, until so many datagrams came.
-pub fn serve<R: AllocGlobal + Net + Clock + RandomSource, O: Write, E: Write>(
+// Serves over a link, as the words and the settings of a script say, until so many datagrams came. What passes is
+// captured in a file, where there is one.
+fn serve_on<
+    R: AllocGlobal + Clock + RandomSource,
+    L: Link + Drop,
+    P: Standing + Drop,
+    F: Write + Drop,
+    N: Peers + Drop,
+    O: Write,
+    E: Write,
+>(
+    rt: &R,
+    link: L,
+    capture: (P, Option<F>),
+    telling: (N, Tracing),
+    count: u64,
+    word: u64,
+    options: &ServeOptions,
+    settings: &[Setting],
+    out: &mut O,
+    err: &mut E,
+) -> Result<Status, Stop>
+    ensures { IfOk result (λ status. IsWord options.now.word word
+        → IsServedBy count options.now (map setting_of settings.now) status) }
+{
+    let mut time = ProgramTime::begin(rt)?;
+    let (standing, file) = capture;
+    let begin = begin_of(rt, time.now()?)?;
+    let capture = capture_on(standing, rt.alloc(), time.again(), begin, file);
+    let link = Trace::new(link, capture);
+    let err = RefCell::new(&mut *err);
+    let (peers, tracing) = telling;
+    let teller = teller_on(rt.alloc(), time.again(), &err, peers, tracing);
+    let mut link = Trace::new(link, teller);
+    let changes = changes_on(rt.alloc(), &err, options.changes, options.json);
+    let made = server_by(rt.alloc(), word, options, settings, RandomState::new(rt)?)?;
+    match made {
+        Ok(server) => serve_with(server, changes, &mut link, &mut time, count, word, out),
+        Err(NotSetUp::Refused(refusal)) => tell_refusal(refusal, out),
+        Err(NotSetUp::Line(bad)) => tell_bad_line(bad, out),
+    }
+}
+
+// Serves at an endpoint of IPv4, as the words and the settings of a script say.
+fn serve_four<R: AllocGlobal + Files + Net + Clock + RandomSource, O: Write, E: Write>(
+    rt: &R,
+    address: Endpoint,
+    count: u64,
+    options: &ServeOptions,
+    settings: &[Setting],
+    showing: Showing<'_>,
+    out: &mut O,
+    err: &mut E,
+) -> Result<Status, Stop>
+    ensures { IfOk result (IsServedBy count options.now (map setting_of settings.now)) }
+{
+    let word = word_of(rt, options.word)?;
+    let link = UdpLink::bind(rt, address)?;
+    let file = capture_in(rt, showing.pcap)?;
+    warn(options, address.port, err);
+    let standing = FourStanding {
+        own: link.address(),
+    };
+    let tracing = Tracing::of(options.trace, showing.is_coloured);
+    serve_on(
+        rt,
+        link,
+        (standing, file),
+        (FourPeers, tracing),
+        count,
+        word,
+        options,
+        settings,
+        out,
+        err,
+    )
+}
+
+// .. at an address of IPv6.
+fn serve_six<R: AllocGlobal + Files + Net + Clock + RandomSource, O: Write, E: Write>(
+    rt: &R,
+    address: SocketAddrV6,
+    count: u64,
+    options: &ServeOptions,
+    settings: &[Setting],
+    showing: Showing<'_>,
+    out: &mut O,
+    err: &mut E,
+) -> Result<Status, Stop>
+    ensures { IfOk result (IsServedBy count options.now (map setting_of settings.now)) }
+{
+    let word = word_of(rt, options.word)?;
+    let names = names_for(rt, MAX_CLIENTS)?;
+    let link = Udp6Link::bind(rt, address, &names, ProgramTime::begin(rt)?)?;
+    let file = capture_in(rt, showing.pcap)?;
+    warn(options, address.port(), err);
+    let standing = SixStanding::new(own_six(&names, link.address()), &names);
+    let tracing = Tracing::of(options.trace, showing.is_coloured);
+    serve_on(
+        rt,
+        link,
+        (standing, file),
+        (SixPeers::new(&names), tracing),
+        count,
+        word,
+        options,
+        settings,
+        out,
+        err,
+    )
+}
+
+// Serves at a port, as the words and the settings of a script say.
+fn serve_settings<R: AllocGlobal + Files + Net + Clock + RandomSource, O: Write, E: Write>(
     rt: &R,
     port: u16,
     count: u64,
     options: &ServeOptions,
+    settings: &[Setting],
+    showing: Showing<'_>,
     out: &mut O,
     err: &mut E,
 ) -> Result<Status, Stop>
-    ensures { IfOk result (IsServed count options.now) }
+    ensures { IfOk result (IsServedBy count options.now (map setting_of settings.now)) }
 {
-    let word = word_of(rt, options.word)?;
-    let mut time = ProgramTime::begin(rt)?;
-    let address = Endpoint {
-        ip: options.address.octets(),
-        port,
-    };
-    let link = UdpLink::bind(rt, address)?;
-    warn(options, port, err);
-    let err = RefCell::new(&mut *err);
-    let teller = teller_on(rt.alloc(), time.again(), &err, options.trace);
-    let mut link = Trace::new(link, teller);
-    let changes = changes_on(rt.alloc(), &err, options.changes);
-    let made = server_by(rt.alloc(), word, options, RandomState::new(rt)?)?;
-    match made {
-        Ok(server) => serve_with(server, changes, &mut link, &mut time, count, word, out),
-        Err(refusal) => tell_refusal(refusal, out),
+    match peer_at(options.address, port) {
+        Peer::Four(address) => {
+            serve_four(rt, address, count, options, settings, showing, out, err)
+        }
+        Peer::Six(address) => serve_six(rt, address, count, options, settings, showing, out, err),
+    }
+}
+
+/// Serves at a port, as the words and the script in a file say, until so many datagrams came. With a wrong line in the
+/// script nothing is served.
+pub fn serve<R: AllocGlobal + Files + Net + Clock + RandomSource, O: Write, E: Write>(
+    rt: &R,
+    port: u16,
+    count: u64,
+    options: &ServeOptions,
+    script: Option<&str>,
+    showing: Showing<'_>,
+    out: &mut O,
+    err: &mut E,
+) -> Result<Status, Stop>
+    ensures { IfOk result (IsServed count options.now script.entry) }
+{
+    match script_of(rt, script)? {
+        Ok(settings) => serve_settings(
+            rt,
+            port,
+            count,
+            options,
+            settings.as_slice(),
+            showing,
+            out,
+            err,
+        ),
+        Err(bad) => tell_bad_line(bad, out),
     }
 }

@@ -1,5 +1,5 @@
 //! A server, set up as the words say.
-ghost use Rattle.std.specs.Prelude.{◌≡◌, ℕ, List, Ok, Some, IfOk, IfNone, codes, fold};
+ghost use Rattle.std.specs.Prelude.{◌≡◌, ℕ, List, Ok, Some, IfOk, IfErr, IfNone, IfSome, codes, fold, map};
 ghost use Rattle.coap_resource.specs.Content.{Content};
 ghost use Rattle.coap_resource.specs.Entries.{content_of};
 ghost use Rattle.coap_resource.specs.Limits.{Limits};
@@ -8,15 +8,18 @@ ghost use Rattle.coap_layer.specs.declared.setup.Setup.{Setup as SetupSpec};
 ghost use Rattle.coap_server.specs.Object.Shown.{state_of};
 ghost use Rattle.coap_server.specs.Trace.{Call};
 ghost use Rattle.coap_types.specs.declared.szx.TheConstants.{MAX_SZX as max_szx};
+ghost use Rattle.coap_scripts.specs.Settings.{setting_of};
+ghost use Rattle.coap_commands.specs.ScriptSettings.{AreMade, IsOfSettings};
 ghost use Rattle.coap_commands.specs.SettingUp.{Holds, HoldsResource, IsServer, SetsUp, with_delay, with_plain};
 
 use crate::ends::{fresh_server, hold};
 use crate::put_away::put_away;
+use crate::serve_script::{BadLine, limit_by, make_all};
 use coap_arguments::{Delay, Hold, ServeOptions, path_of_text};
 use coap_ends::{DelayRefusal, PlainRefusal, Server};
 use coap_layer::Setup;
 use coap_resource::{MapStore, StoreRefusal};
-use coap_scripts::Stop;
+use coap_scripts::{Setting, Stop};
 use coap_types::Path;
 use std::alloc::Global;
 use std::hash::BuildHasher;
@@ -128,28 +131,64 @@ pub fn set_up<H: BuildHasher + Drop>(
     Ok(None)
 }
 
-/// A server that is set up as the words say, and begins with this word; the refusal of its store where it
-/// doesn't hold what it was to hold.
+/// Why a server isn't set up.
+#[derive(Clone, Copy, Debug, PartialEq, Eq)]
+pub enum NotSetUp {
+    /// Its store doesn't hold what the words name.
+    Refused(StoreRefusal),
+    /// It doesn't take what this line of its script says.
+    Line(BadLine),
+}
+
+// Has the server be as the words say, and then as the settings of a script do; why it isn't.
+fn set_up_by<H: BuildHasher + Drop>(
+    alloc: Global,
+    server: &mut Server<MapStore, Global, H>,
+    options: &ServeOptions,
+    settings: &[Setting],
+) -> Result<Option<NotSetUp>, Stop>
+    ensures made { (limits : Limits) (setup : SetupSpec) (t : List Call)
+        → Led limits max_szx setup t (state_of content_of server.old)
+        → IfOk result (λ why. IfNone why ((set : List Call) × (after : List Call) × SetsUp options.now t set
+        × AreMade (map setting_of settings.now) set after
+        × Led limits max_szx setup after (state_of content_of server.new))) }
+    ensures bad { IfOk result (λ why. IfSome why (IsOfSettings (map setting_of settings.now))) }
+{
+    if let Some(refusal) = set_up(alloc, server, options)? {
+        return Ok(Some(NotSetUp::Refused(refusal)));
+    }
+    match make_all(server, settings)? {
+        Some(bad) => Ok(Some(NotSetUp::Line(bad))),
+        None => Ok(None),
+    }
+}
+
+/// A server that is set up as the words and the settings of a script say, and begins with this word; why it isn't.
 pub fn server_by<H: BuildHasher + Drop>(
     alloc: Global,
     word: u64,
     options: &ServeOptions,
+    settings: &[Setting],
     hasher: H,
-) -> Result<Result<Server<MapStore, Global, H>, StoreRefusal>, Stop>
-    // The server of `serve` remembers as many messages, and takes bodies up to the limit, as its words say; the calls
-    // that set it up have led to it, and no other.
-    ensures { IfOk result (λ made. IfOk made (λ server. IsServer word options.now (state_of content_of server))) }
+) -> Result<Result<Server<MapStore, Global, H>, NotSetUp>, Stop>
+    // The server of `serve` remembers as many messages as its words say, and takes bodies up to the limit that its script
+    // says, or its words; the calls that set it up have led to it, and no other.
+    ensures made { IfOk result (λ made. IfOk made (λ server. IsServer word options.now (map setting_of settings.now)
+        (state_of content_of server))) }
+    // A line of the script is named only where the script has one.
+    ensures bad { IfOk result (λ made. IfErr made (IsOfSettings (map setting_of settings.now))) }
 {
     let setup = Setup {
         word,
         remembered: options.remembered,
     };
-    let mut server = fresh_server(alloc, setup, options.limit, hasher);
-    match set_up(alloc, &mut server, options) {
+    let limit = limit_by(options.limit, settings);
+    let mut server = fresh_server(alloc, setup, limit, hasher);
+    match set_up_by(alloc, &mut server, options, settings) {
         Ok(None) => Ok(Ok(server)),
-        Ok(Some(refusal)) => {
+        Ok(Some(why)) => {
             put_away(server);
-            Ok(Err(refusal))
+            Ok(Err(why))
         }
         Err(stop) => {
             put_away(server);

@@ -1,21 +1,66 @@
 //! What `--trace` prints: a line for each datagram.
 ghost use Rattle.std.specs.Prelude.{◌≡◌, is_some};
+ghost use Rattle.coap_commands.specs.Tracings.{is_traced};
 
+use crate::peers::{PeerWords, Peers};
 use crate::timekeeper::Timekeeper;
 use coap_links::{Teller, Way};
-use coap_print::{DatagramWords, EndpointWords};
+use coap_print::DatagramWords;
 use coap_types::{Endpoint, Moment};
 use std::alloc::{AllocError, Allocator};
 use std::cell::RefCell;
 use std::io;
 use std::io::{ErrorKind, Write};
 
+/// How each datagram is told of.
+#[derive(Clone, Copy, Debug, PartialEq, Eq)]
+pub enum Tracing {
+    /// It is not.
+    Off,
+    /// In a line.
+    Plain,
+    /// In a line in colour, of which one stands for each way.
+    Coloured,
+}
+
+impl Tracing {
+    /// Whether lines are wanted, and in colour.
+    pub(crate) fn of(is_wanted: bool, is_coloured: bool) -> Tracing
+        ensures { is_traced result ≡ is_wanted }
+    {
+        match (is_wanted, is_coloured) {
+            (false, _) => Tracing::Off,
+            (true, false) => Tracing::Plain,
+            (true, true) => Tracing::Coloured,
+        }
+    }
+}
+
 /// Tells of datagrams on a writer, a line each, at once: the moment, the way, the peer and the datagram in words.
 #[derive(Drop)]
-pub struct LineTeller<A, T, W> {
+pub struct LineTeller<A, T, W, P> {
     alloc: A,
     time: T,
     out: W,
+    peers: P,
+    is_coloured: bool,
+}
+
+// What stands in front of a line in colour, and behind it (ECMA-48, section 8.3.117): what goes is cyan, what comes
+// green.
+const CYAN: &str = "\x1b[36m";
+
+const GREEN: &str = "\x1b[32m";
+
+const PLAIN: &str = "\x1b[0m";
+
+// What stands in front of a line and behind it.
+fn colours(way: Way, is_coloured: bool) -> (&'static str, &'static str) {
+    match (way, is_coloured) {
+        (_, false) => ("", ""),
+        (Way::Goes, true) => (CYAN, PLAIN),
+        (Way::Comes, true) => (GREEN, PLAIN),
+    }
 }
 
 // The line of a datagram that goes to this peer (`>`) or comes from it (`<`).
@@ -23,51 +68,61 @@ fn line_text<A: Allocator + Copy>(
     alloc: A,
     at: Moment,
     way: Way,
-    peer: Endpoint,
+    is_coloured: bool,
+    peer: PeerWords,
     bytes: &[u8],
 ) -> Result<String<A>, AllocError> {
     let at = at.0;
+    let (begin, end) = colours(way, is_coloured);
     let way = match way {
         Way::Goes => ">",
         Way::Comes => "<",
     };
-    let peer = EndpointWords(peer);
     let words = DatagramWords(bytes);
-    format!(in alloc; "{at} {way} {peer} {words}\n")
+    format!(in alloc; "{begin}{at} {way} {peer} {words}{end}\n")
 }
 
-impl<A: Allocator + Copy, T: Timekeeper, W: Write> LineTeller<A, T, W> {
-    /// Tells on this writer, by this clock.
-    pub fn new(alloc: A, time: T, out: W) -> LineTeller<A, T, W> {
-        LineTeller { alloc, time, out }
+impl<A: Allocator + Copy, T: Timekeeper, W: Write, P: Peers> LineTeller<A, T, W, P> {
+    /// Tells on this writer, by this clock, of these peers; in colour where that is wanted.
+    pub fn new(alloc: A, time: T, out: W, peers: P, is_coloured: bool) -> LineTeller<A, T, W, P> {
+        LineTeller {
+            alloc,
+            time,
+            out,
+            peers,
+            is_coloured,
+        }
     }
 }
 
 /// A teller on a writer that others have too, where one is wanted.
-pub fn teller_on<'a, A: Allocator + Copy, T: Timekeeper + Drop, W: Write>(
+pub fn teller_on<'a, A: Allocator + Copy, T: Timekeeper + Drop, W: Write, P: Peers + Drop>(
     alloc: A,
     time: T,
     out: &'a RefCell<W>,
-    is_wanted: bool,
-) -> Option<LineTeller<A, T, SharedWriter<'a, W>>>
+    peers: P,
+    tracing: Tracing,
+) -> Option<LineTeller<A, T, SharedWriter<'a, W>, P>>
     // There is a teller exactly where one is wanted.
-    ensures { is_some result ≡ is_wanted }
+    ensures { is_some result ≡ is_traced tracing }
 {
-    if is_wanted {
-        Some(LineTeller::new(alloc, time, SharedWriter(out)))
-    } else {
+    let is_coloured = tracing == Tracing::Coloured;
+    if tracing == Tracing::Off {
         None
+    } else {
+        Some(LineTeller::new(alloc, time, SharedWriter(out), peers, is_coloured))
     }
 }
 
-impl<A: Allocator + Copy, T: Timekeeper, W: Write> Teller for LineTeller<A, T, W> {
+impl<A: Allocator + Copy, T: Timekeeper, W: Write, P: Peers> Teller for LineTeller<A, T, W, P> {
     ghost use Rattle.std.specs.Prelude.{⊤};
 
     ghost tells = { λ _ _ _ _ _ _. ⊤ };
 
     fn tell(&mut self, way: Way, peer: Endpoint, bytes: &[u8]) -> io::Result<()> {
         let at = self.time.now()?;
-        let line = line_text(self.alloc, at, way, peer, bytes)?;
+        let peer = self.peers.words(peer);
+        let line = line_text(self.alloc, at, way, self.is_coloured, peer, bytes)?;
         self.out.write_all(line.as_bytes())
     }
 }

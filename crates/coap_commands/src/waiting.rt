@@ -1,6 +1,6 @@
 //! How long a program waits.
-ghost use Rattle.std.specs.Prelude.{◌≡◌, Some, IfSome};
-ghost use Rattle.coap_commands.specs.Waiting.{HasPassed};
+ghost use Rattle.std.specs.Prelude.{◌≡◌, Some, IfSome, true};
+ghost use Rattle.coap_commands.specs.Waiting.{HasLasted, HasPassed};
 
 use coap_types::Moment;
 
@@ -16,5 +16,15 @@ pub(crate) fn passed(seconds: Option<u64>, begin: Moment, now: Moment) -> Option
     match seconds {
         Some(seconds) if seconds <= now.since(begin) / MS_PER_SECOND => Some(seconds),
         _ => None,
+    }
+}
+
+/// Whether something that has lasted for so many milliseconds has lasted for so many seconds.
+pub(crate) fn has_lasted(seconds: Option<u64>, elapsed: u64) -> bool
+    ensures { result ≡ true → HasLasted seconds elapsed }
+{
+    match seconds {
+        Some(seconds) => seconds <= elapsed / MS_PER_SECOND,
+        None => false,
     }
 }

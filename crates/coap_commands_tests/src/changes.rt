@@ -100,10 +100,10 @@ fn serve_told<E: Write>(
         count = count.saturating_add(1);
     }
     let hasher = BuildHasherDefault::<FoldHasher>::new();
-    let Ok(Ok(server)) = server_by(alloc, 0, &options, hasher) else {
+    let Ok(Ok(server)) = server_by(alloc, 0, &options, &[], hasher) else {
         return Err(AllocError);
     };
-    let mut server = TellingEnd::new(server, changes_on(alloc, err, options.changes));
+    let mut server = TellingEnd::new(server, changes_on(alloc, err, options.changes, options.json));
     let mut time = Clock { now: 0 };
     let mut out = Vec::new(alloc);
     let mut said = SharedWriter(err);

@@ -11,6 +11,8 @@ mod bodies;
 #[cfg(test)]
 mod buffers;
 #[cfg(test)]
+mod captures;
+#[cfg(test)]
 mod changes;
 #[cfg(test)]
 mod clock;
@@ -33,6 +35,8 @@ mod helps;
 #[cfg(test)]
 mod hosts;
 #[cfg(test)]
+mod json_lines;
+#[cfg(test)]
 mod observing;
 #[cfg(test)]
 mod polling;
@@ -44,6 +48,8 @@ mod refusing_end;
 mod remembering;
 #[cfg(test)]
 mod rows;
+#[cfg(test)]
+mod server_scripts;
 #[cfg(test)]
 mod serving;
 #[cfg(test)]

@@ -28,6 +28,7 @@ pub(super) fn terms_with(limit: BodyLimit) -> Terms {
         size: largest_szx(),
         limit,
         give_up: None,
+        json: false,
     }
 }
 

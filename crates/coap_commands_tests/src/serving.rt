@@ -197,7 +197,7 @@ pub(super) fn sent_by(alloc: Global, words: &[&str], came: &[&[u8]]) -> Result<S
         link.give(CLIENT, datagram)?;
     }
     let hasher = BuildHasherDefault::<FoldHasher>::new();
-    let Ok(Ok(mut server)) = server_by(alloc, 0, &options, hasher) else {
+    let Ok(Ok(mut server)) = server_by(alloc, 0, &options, &[], hasher) else {
         return Err(AllocError);
     };
     let mut time = Clock { now: 0 };

@@ -4,3 +4,4 @@ pub mod PathWords
 pub mod RunEnds
 pub mod ScriptLines
 pub mod ScriptWords
+pub mod SettingLines

@@ -1,5 +1,6 @@
 pub mod Script
 pub mod ScriptRefusals
 pub mod ScriptWords
+pub mod Settings
 pub mod Sims
 pub mod StatusNumbers

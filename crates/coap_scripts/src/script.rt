@@ -1,8 +1,11 @@
-//! A script: the events of a run as text, one a line.
+//! Scripts: the events of a run, or how a server is set up, as text, one a line.
 mod fields;
 mod line;
 mod paths;
 mod refusal;
+mod setting_line;
+mod setting_words;
+mod settings;
 mod words;
 
 ghost use Rattle.std.specs.Prelude.{◌≡◌, ◌⊎◌, ◌≢◌, [], ℕ, Err, IfOk, map};
@@ -15,6 +18,7 @@ use crate::script::line::event_of_line;
 use coap_run::Event;
 pub use paths::paths_of;
 pub use refusal::ScriptRefusal;
+pub use settings::{Setting, settings_of};
 use std::alloc::Allocator;
 
 // What ends a line.

@@ -7,6 +7,7 @@ ghost use Rattle.coap_run.specs.declared.running.RunRefusal.TheVariants.{NotLega
 ghost use Rattle.coap_scripts.specs.Sims.{IsSim, sim_config};
 ghost use Rattle.coap_scripts.specs.declared.status.Status.TheVariants.{Refused};
 
+use crate::capture::capture_run;
 use crate::script::{ScriptRefusal, events_of};
 use crate::status::{Status, Stop, stop_of};
 use crate::usual::largest_szx;
@@ -83,6 +84,38 @@ pub fn sim_with<A: Allocator + Copy, R: Read, W: Write>(
     ensures { IfOk result (λ status. (events : List EventSpec)
         × IsSim (sim_config ends remembered plains.now) events status) }
 {
+    let mut uncaptured = None;
+    sim_captured(
+        alloc,
+        script,
+        store,
+        plains,
+        remembered,
+        ends,
+        chart,
+        &mut uncaptured,
+        out,
+    )
+}
+
+/// Runs a script as [`sim_with`] does. Where bytes are handed over, the datagrams of a run that came to its end are put
+/// behind them, as a capture.
+pub fn sim_captured<A: Allocator + Copy, R: Read, W: Write>(
+    alloc: A,
+    script: &mut R,
+    store: StoreKind,
+    plains: &[Path<A>],
+    remembered: Remembered,
+    ends: Addresses,
+    chart: bool,
+    capture: &mut Option<Vec<u8, A>>,
+    out: &mut W,
+) -> Result<Status, Stop>
+    // Whether a run is captured changes nothing of what it comes to: some list of events runs to its end with status 0,
+    // or one of them is not legal with status 1.
+    ensures { IfOk result (λ status. (events : List EventSpec)
+        × IsSim (sim_config ends remembered plains.now) events status) }
+{
     let mut text = Vec::new(alloc);
     if let Err(error) = script.read_to_end(&mut text) {
         return Err(stop_of(&error));
@@ -96,6 +129,7 @@ pub fn sim_with<A: Allocator + Copy, R: Read, W: Write>(
             remembered,
             ends,
             chart,
+            capture,
             out,
         ),
         Err(ScriptRefusal::Line(number)) => {
@@ -177,15 +211,19 @@ fn tell_refusal<W: Write>(refusal: RunRefusal, out: &mut W) -> Result<Status, St
     }
 }
 
-// Prints what came of a run: as a chart, or a line each.
+// Captures the datagrams of a run, where bytes are handed over, and prints what came of it: as a chart, or a line each.
 fn print_run<A: Allocator + Copy, W: Write>(
     alloc: A,
     ends: Addresses,
     events: &[Event<A>],
     record: &Record<A>,
     chart: bool,
+    capture: &mut Option<Vec<u8, A>>,
     out: &mut W,
 ) -> Result<(), Stop> {
+    if let Some(bytes) = capture {
+        capture_run(alloc, ends, events, record, bytes).map_err(|error| stop_of(&error))?;
+    }
     let printed = if chart {
         draw_run(alloc, ends, events, record, out)
     } else {
@@ -203,6 +241,7 @@ fn run_events<A: Allocator + Copy, W: Write>(
     remembered: Remembered,
     ends: Addresses,
     chart: bool,
+    capture: &mut Option<Vec<u8, A>>,
     out: &mut W,
 ) -> Result<Status, Stop>
     ensures { IfOk result (IsSim (sim_config ends remembered plains.now) (map event_of events.now)) }
@@ -218,15 +257,50 @@ fn run_events<A: Allocator + Copy, W: Write>(
     };
     match ran {
         Ok(record) => {
-            print_run(alloc, ends, events, &record, chart, out)?;
+            print_run(alloc, ends, events, &record, chart, capture, out)?;
             Ok(Status::Done)
         }
         Err(refusal) => tell_refusal(refusal, out),
     }
 }
 
+// Runs the script in a file, and captures it where bytes are handed over.
+fn sim_opened<R: AllocGlobal + Files, W: Write>(
+    rt: &R,
+    file: &str,
+    store: StoreKind,
+    plains: &[Path],
+    remembered: Remembered,
+    ends: Addresses,
+    chart: bool,
+    capture: &mut Option<Vec<u8>>,
+    out: &mut W,
+) -> Result<Status, Stop>
+    ensures { IfOk result (λ status. (events : List EventSpec)
+        × IsSim (sim_config ends remembered plains.now) events status) }
+{
+    match fs::open(rt, file) {
+        Ok(mut script) => {
+            let alloc = rt.alloc();
+            sim_captured(
+                alloc,
+                &mut script,
+                store,
+                plains,
+                remembered,
+                ends,
+                chart,
+                capture,
+                out,
+            )
+        }
+        Err(error) => Err(stop_of(&error)),
+    }
+}
+
 /// Runs the script in a file, over a server with such a store and such plain paths, and ends at these addresses that
-/// remember so many messages, and prints what comes of it a line each, or as a chart.
+/// remember so many messages, and prints what comes of it a line each, or as a chart. A run that comes to its end is
+/// captured in a file, where one is named.
 pub fn sim_file<R: AllocGlobal + Files, W: Write>(
     rt: &R,
     file: &str,
@@ -235,26 +309,45 @@ pub fn sim_file<R: AllocGlobal + Files, W: Write>(
     remembered: Remembered,
     ends: Addresses,
     chart: bool,
+    pcap: Option<&str>,
     out: &mut W,
 ) -> Result<Status, Stop>
     // The run of a file's script is some list of events, as that of a script from elsewhere.
     ensures { IfOk result (λ status. (events : List EventSpec)
         × IsSim (sim_config ends remembered plains.now) events status) }
 {
-    match fs::open(rt, file) {
-        Ok(mut script) => {
-            let alloc = rt.alloc();
-            sim_with(
-                alloc,
-                &mut script,
-                store,
-                plains,
-                remembered,
-                ends,
-                chart,
-                out,
-            )
+    let mut capture = match pcap {
+        Some(_) => Some(Vec::new(rt.alloc())),
+        None => None,
+    };
+    let status = sim_opened(
+        rt,
+        file,
+        store,
+        plains,
+        remembered,
+        ends,
+        chart,
+        &mut capture,
+        out,
+    )?;
+    keep_capture(rt, status, pcap, &capture)?;
+    Ok(status)
+}
+
+// Writes the capture of a run that came to its end into its file.
+fn keep_capture<R: AllocGlobal + Files>(
+    rt: &R,
+    status: Status,
+    pcap: Option<&str>,
+    capture: &Option<Vec<u8>>,
+) -> Result<(), Stop> {
+    match (status, pcap, capture) {
+        (Status::Done, Some(name), Some(bytes)) => {
+            let mut file = fs::create(rt, name)?;
+            file.write_all(bytes.as_slice())?;
+            Ok(())
         }
-        Err(error) => Err(stop_of(&error)),
+        _ => Ok(()),
     }
 }

@@ -6,11 +6,11 @@ use Rattle.coap_commands.proofs.observe.outcome_of.Goals as goal
 pub returns-in-Ok : goal.returns-in-Ok
 returns-in-Ok g c =
     taken_observes (λ server sizes w. Led server sizes w [] c.args.client.now) c.args.options.now c.in_ok-begin.begin.0
-    c.args.path.now _ c.in-Ok.id _ c.awaited.result c.in-Ok.is (λ server sizes w led. c.in_ok-id.ensures server sizes w
+    c.args.path.now _ c.in-Ok.id _ c.awaited.result c.in-Ok.is (λ server sizes w led. c.in_ok-id.ensures.led server sizes w
     [] led)
     c.awaited.ensures
 
 pub returns-in-Err : goal.returns-in-Err
 returns-in-Err g c = λ server sizes w led.
     refused_observes server sizes w c.args.options.now c.in_ok-begin.begin.0 c.args.path.now _ _ _ c.in-Err.is
-    (c.in_ok-id.ensures server sizes w [] led)
+    (c.in_ok-id.ensures.led server sizes w [] led)

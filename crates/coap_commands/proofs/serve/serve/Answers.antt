@@ -1,13 +1,10 @@
-use Rattle.coap_resource.specs.Entries.{content_of}
-use Rattle.coap_server.specs.Object.Shown.{state_of}
-use Rattle.coap_commands.specs.SettingUp.{IsServer}
-use Rattle.coap_commands.proofs.ServedCalls.{made_is, served_by}
+use Rattle.std.proofs.Common.{map}
+use Rattle.coap_scripts.specs.Settings.{setting_of}
+use Rattle.coap_commands.proofs.ServedCalls.{bad_script, served_as}
 use Rattle.coap_commands.proofs.serve.serve.Goals as goal
 
 pub returns-in-Ok : goal.returns-in-Ok
-returns-in-Ok g c =
-    let options = c.args.options.now in
-    let word = c.in_ok-word.word in
-    served_by c.args.count options word (state_of content_of c.in-Ok.server) _ c.in_ok-word.ensures
-    (made_is (λ server. IsServer word options (state_of content_of server)) c.in_ok-made.made c.in-Ok.server c.in-Ok.is
-    c.in_ok-made.ensures) c.serve_with.ensures
+returns-in-Ok g c = ?
+
+pub returns-in-Err : goal.returns-in-Err
+returns-in-Err g c = ?

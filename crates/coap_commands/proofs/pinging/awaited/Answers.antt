@@ -1,0 +1,33 @@
+use Rattle.std.proofs.Common.{Bool, true, false, subst, sym}
+use Rattle.coap_commands.specs.Pinged.{Hears, further, not_yet}
+use Rattle.coap_commands.proofs.pinging.awaited.Goals as goal
+
+pub loop-turn-init : goal.loop-turn-init
+loop-turn-init g c = not_yet
+
+pub loop-turn-preserved : goal.loop-turn-preserved
+loop-turn-preserved g c =
+    further _ _ _ _ _ _ c.loop-turn.invariant
+    (subst (λ (b : Bool). Hears g.L.Link.sends g.L.Link.receives c.loop-turn.ping c.loop-turn.link b
+    c.is_answered-is_answered.new.link) c.if-is_answered.false c.is_answered-is_answered.ensures)
+    c.send_again.ensures
+
+pub returns-then-is_answered : goal.returns-then-is_answered
+returns-then-is_answered g c = (
+  _,
+  _,
+  c.loop-turn.invariant,
+  (_, subst (λ (b : Bool). Hears g.L.Link.sends g.L.Link.receives c.loop-turn.ping c.loop-turn.link b
+      c.is_answered-is_answered.new.link) c.if-is_answered.true c.is_answered-is_answered.ensures,
+      c.elapsed.ensures),
+)
+
+pub returns-then-is_given_up : goal.returns-then-is_given_up
+returns-then-is_given_up g c = (
+  _,
+  _,
+  c.loop-turn.invariant,
+  (_, subst (λ (b : Bool). Hears g.L.Link.sends g.L.Link.receives c.loop-turn.ping c.loop-turn.link b
+      c.is_answered-is_answered.new.link) c.if-is_answered.false c.is_answered-is_answered.ensures,
+      c.is_given_up.ensures c.if-is_given_up.true),
+)

@@ -1,0 +1,44 @@
+-- What is written where a program tells in JSON: an object a line (docs/PROTOCOL.md).
+use Rattle.std.specs.Prelude.{◌≡◌, ℕ, Bool, true, false, ⊤, List, Option}
+use Rattle.std.specs.Io.KnownBytes.{Appends}
+use Rattle.json.specs.Json.{Json}
+use Rattle.coap_types.specs.declared.endpoint.Endpoint.{Endpoint}
+use Rattle.coap_types.specs.declared.request.Method.{Method}
+use Rattle.coap_layer.specs.declared.setup.Setup.{Setup}
+use Rattle.coap_block.specs.Sizes.{Sizes}
+use Rattle.coap_client.specs.Object.Shown.{shown_report}
+use Rattle.coap_client.specs.Trace.{Request}
+use Rattle.coap_json.specs.Objects.{IsLineOf}
+use Rattle.coap_json.specs.OtherObjects.{applied_object, gave_up_object, refused_object}
+use Rattle.coap_json.specs.ReportObjects.{report_object}
+use Rattle.coap_commands.specs.Asks.{Becomes, status_after}
+use Rattle.coap_scripts.specs.declared.status.Status.{Status}
+use Rattle.coap_commands.specs.declared.calling.Outcome.{Outcome}
+use Rattle.coap_commands.specs.declared.calling.Outcome.TheVariants.{GaveUp, Refused, Reported}
+
+-- the object of what became of a request, told at this moment
+abbrev pub outcome_object : ℕ → Outcome → Json
+outcome_object ms (Refused why) = refused_object ms why
+outcome_object ms (Reported report) = report_object ms (shown_report report)
+outcome_object ms (GaveUp seconds) = gave_up_object ms seconds
+
+-- the line of an object is written behind what a writer has
+abbrev pub WritesObject : (old new : Option (List ℕ)) → Json → Type 0
+WritesObject old new value = (line : List ℕ) × IsLineOf line value × Appends old new line
+
+-- where it is told in JSON, this is what is written of what became of a request
+abbrev pub WritesOutcome : Bool → (old new : Option (List ℕ)) → Outcome → Type 0
+WritesOutcome false old new outcome = ⊤
+WritesOutcome true old new outcome = (ms : ℕ) × WritesObject old new (outcome_object ms outcome)
+
+-- a client is asked this, the status is that of what becomes of it, and this is written
+abbrev pub Tells : Bool → (old new : Option (List ℕ)) → Endpoint → (sizes : Sizes) → Setup → Option ℕ → Request
+    → Status → Type 0
+Tells json old new server sizes setup give_up request status =
+    (outcome : Outcome) × Becomes server sizes setup give_up request outcome
+    × (status ≡ status_after request.method outcome) × WritesOutcome json old new outcome
+
+-- .. of a request that was applied: with its path in words
+abbrev pub WritesApplied : (old new : Option (List ℕ)) → ℕ → Method → ℕ → List ℕ → Type 0
+WritesApplied old new at method version body =
+    (path : List ℕ) × WritesObject old new (applied_object at method path version body)

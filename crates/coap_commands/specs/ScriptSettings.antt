@@ -1,0 +1,49 @@
+-- How a script sets a server up: the calls that lead on, the newest first (RFC 7252, section 5.8.3; RFC 7641, section 3).
+use Rattle.std.specs.Prelude.{◌≡◌, ◌≤◌, ⊤, ℕ, List, [], ◌∷◌, Some, None, Option, Ok, true, fold, length}
+use Rattle.std.specs.Borrow.{Bor}
+use Rattle.coap_resource.specs.Content.{Content}
+use Rattle.coap_server.specs.Trace.{Call, Delays, Plains, Sets}
+use Rattle.coap_scripts.specs.Script.{EachOf, lines_of}
+use Rattle.coap_scripts.specs.Settings.{Setting, Nothing, Hold, Delay, Plain, Limit, SaysSetting}
+use Rattle.coap_commands.specs.declared.setting_up.NotSetUp.{NotSetUp}
+use Rattle.coap_commands.specs.declared.setting_up.NotSetUp.TheVariants as notSetUp
+
+-- at the moment 0 this body is set at this path, with its format
+abbrev pub HoldsBody : List (List ℕ) → ℕ → List ℕ → List Call → List Call → Type 0
+HoldsBody path format body before after = (version : ℕ) × (store : Content)
+    × (after ≡ Sets 0 path (Some format) body (Ok version) store ∷ before)
+
+-- the server is as the setting says; that of a limit is made with it
+abbrev pub IsMade : Setting → List Call → List Call → Type 0
+IsMade Nothing before after = after ≡ before
+IsMade (Hold path format body) before after = HoldsBody path format body before after
+IsMade (Delay path ms) before after = after ≡ Delays path ms true ∷ before
+IsMade (Plain path) before after = after ≡ Plains path true ∷ before
+IsMade (Limit most) before after = after ≡ before
+
+-- it is as each of them says, in order
+abbrev pub AreMade : List Setting → List Call → List Call → Type 0
+AreMade [] before after = after ≡ before
+AreMade (s ∷ settings) before after =
+    (between : List Call) × IsMade s before between × AreMade settings between after
+
+-- the limit is the last that is said
+abbrev pub limit_with : ℕ → Setting → ℕ
+limit_with limit (Limit most) = most
+limit_with limit Nothing = limit
+limit_with limit (Hold path format body) = limit
+limit_with limit (Delay path ms) = limit
+limit_with limit (Plain path) = limit
+
+abbrev pub limit_by : ℕ → List Setting → ℕ
+limit_by limit settings = fold limit_with limit settings
+
+-- The settings of the script in a file, which may have any text; where none is named, there are none.
+abbrev pub AreOfScript : Option (Bor (List ℕ)) → List Setting → Type 0
+AreOfScript None settings = settings ≡ []
+AreOfScript (Some name) settings = (text : List ℕ) × EachOf SaysSetting (lines_of text) settings
+
+-- a line that is named is one of those that the settings have, by its number, from 1
+abbrev pub IsOfSettings : List Setting → NotSetUp → Type 0
+IsOfSettings settings (notSetUp.Refused why) = ⊤
+IsOfSettings settings (notSetUp.Line bad) = (1 ≤ bad.0) × (bad.0 ≤ length settings)

@@ -1,0 +1,184 @@
+-- What becomes of a path that is observed, and observed anew where nothing comes for long or the server ended that
+-- (RFC 7641, sections 3.3.1 and 3.6). Each registration is made by a client of its own, which asks for nothing else.
+use Rattle.std.specs.Prelude.{◌≡◌, ◌⊎◌, ◌↔◌, ⊤, ℕ, ◌+◌, ◌%◌, ◌^◌, Bool, true, false, List, [], Option, None, Some, Ok, Err}
+use Rattle.std.specs.Prelude.{Result, if◌then◌else◌}
+use Rattle.std.specs.declared.alloc.Global.{Global}
+use Rattle.coap_types.specs.declared.endpoint.Endpoint.{Endpoint}
+use Rattle.coap_layer.specs.declared.setup.Setup.{Setup}
+use Rattle.coap_block.specs.Sizes.{Sizes}
+use Rattle.coap_client.specs.Led.{Led, State, Step}
+use Rattle.coap_client.specs.Object.Shown.{shown_report}
+use Rattle.coap_client.specs.Trace.{Call, Cancels, Feeds, NextOut, NextReport, Report, Ticks, is_value}
+use Rattle.coap_client.specs.Trace.{Observes as observes}
+use Rattle.coap_client.specs.declared.client.report.Report as R
+use Rattle.coap_client.specs.declared.client.report.Report.TheVariants as report
+use Rattle.coap_client.specs.declared.refusals.CallRefusal.{CallRefusal}
+use Rattle.coap_client.specs.declared.refusals.CancelRefusal.{CancelRefusal}
+use Rattle.coap_arguments.specs.declared.orders.AskOptions.{AskOptions}
+use Rattle.coap_commands.specs.Asks.{AsksNothing, Turned, takes_report}
+use Rattle.coap_commands.specs.Observes.{IsOver}
+use Rattle.coap_commands.specs.Terms.{asked_terms, setup_of, sizes_of}
+use Rattle.coap_commands.specs.Waiting.{HasPassed}
+use Rattle.coap_commands.specs.declared.calling.Outcome.{Outcome}
+use Rattle.coap_commands.specs.declared.calling.Outcome.TheVariants as outcome
+use Rattle.coap_commands.specs.declared.watching.Left.{Left}
+use Rattle.coap_commands.specs.declared.watching.Left.TheVariants as left
+use Rattle.coap_scripts.specs.declared.status.Status.{Status}
+use Rattle.coap_scripts.specs.declared.status.Status.TheVariants as status
+
+-- a call that asks the client for nothing, in a turn at this moment
+abbrev pub TurnsAt : ℕ → Call → Type 0
+TurnsAt now (Feeds n from bytes word up settled event sent token kept) = n ≡ now
+TurnsAt now (Ticks n word below turn sent token kept answer) = n ≡ now
+TurnsAt now (NextOut answer) = ⊤
+TurnsAt now (NextReport answer) = ⊤
+TurnsAt now call = ⊥
+
+-- a call by which a client leaves an observation: it is cancelled (RFC 7641, section 3.6), and what that sends goes out
+abbrev pub Leaves : ℕ → Call → Type 0
+Leaves number (Feeds n from bytes word up settled event sent token kept) = ⊤
+Leaves number (Ticks n word below turn sent token kept answer) = ⊤
+Leaves number (NextOut answer) = ⊤
+Leaves number (NextReport answer) = ⊤
+Leaves number (Cancels now of answer) = of ≡ number
+Leaves number call = ⊥
+
+-- what was taken is no last report: it is a value, or nothing was
+abbrev pub IsNoEnd : Option Report → Type 0
+IsNoEnd None = ⊤
+IsNoEnd (Some r) = is_value r ≡ true
+
+-- so many values are taken with it
+abbrev pub taken : Option Report → ℕ
+taken None = 0
+taken (Some r) = if is_value r then 1 else 0
+
+-- the moment since which no value came: this one where one came now
+abbrev pub heard_at : ℕ → Option Report → ℕ → ℕ
+heard_at now None heard = heard
+heard_at now (Some r) heard = if is_value r then now else heard
+
+-- a report of this number is taken; or there is none
+abbrev pub TakesReport : ℕ → Option Report → State → State → Type 0
+TakesReport number None s t = Turned AsksNothing s t
+TakesReport number (Some r) s t = Step s (takes_report number r) t
+
+-- a turn at this moment, and what is taken behind it
+abbrev pub Takes : ℕ → ℕ → Option Report → State → State → Type 0
+Takes number now took s t = (m : State) × Turned (TurnsAt now) s m × TakesReport number took m t
+
+-- at this moment, after so many values of all registrations, the observation is cancelled only where it is over
+abbrev pub MayCancel : AskOptions → ℕ → ℕ → ℕ → ℕ → State → State → Type 0
+MayCancel options since number now values s t =
+    (t ≡ s) ⊎ (IsOver options since values now × (answer : Option CancelRefusal) × Step s (Cancels now number answer) t)
+
+-- Turns of an observation that was registered at this moment, after each of which it goes on. At the end so many values
+-- were taken of all registrations, of which there were so many before, and the last of this one at that moment, or none
+-- since it was registered.
+pub data Goes (options : AskOptions) (since number begin before : ℕ) (s : State) : ℕ → ℕ → State → Type 0 where
+  registered : Goes options since number begin before s before begin s
+  further : (values heard : ℕ) (m : State) (now : ℕ) (took : Option Report) (n : State) (more last : ℕ) (o : State)
+      → Goes options since number begin before s values heard m → Takes number now took m n → IsNoEnd took
+      → more ≡ values + taken took → last ≡ heard_at now took heard → MayCancel options since number now more n o
+      → Goes options since number begin before s more last o
+
+-- such turns, and a last one at this moment, in which no last report is taken
+abbrev pub LastTurn : AskOptions → (since number begin before : ℕ) → State → (values heard now : ℕ) → State → Type 0
+LastTurn options since number begin before s values heard now n =
+    (earlier last : ℕ) × (m : State) × Goes options since number begin before s earlier last m
+    × (took : Option Report) × Takes number now took m n × IsNoEnd took
+    × (values ≡ earlier + taken took) × (heard ≡ heard_at now took last)
+
+-- How an observation is left in such a turn: it goes on; no value came for so long, and the client leaves it; or it is
+-- given up, as many seconds after the first registration as may pass without a value.
+abbrev pub LeavesAt : AskOptions → (again since number values heard now : ℕ) → State → Option Left → State → Type 0
+LeavesAt options again since number values heard now s None t = MayCancel options since number now values s t
+LeavesAt options again since number values heard now s (Some left.Silent) t =
+    HasPassed again heard now × Turned (Leaves number) s t
+LeavesAt options again since number values heard now s (Some (left.Ended (outcome.GaveUp seconds))) t =
+    (options.give_up ≡ Some seconds) × (values ≡ 0) × HasPassed seconds since now
+LeavesAt options again since number values heard now s (Some (left.Ended other)) t = ⊥
+
+-- It is left with its last report, or so; and so many values were taken then.
+abbrev pub IsLeft : AskOptions → (again since number begin before : ℕ) → State → Left → ℕ → Type 0
+IsLeft options again since number begin before s (left.Ended (outcome.Reported r)) values =
+    (heard : ℕ) × (m : State) × Goes options since number begin before s values heard m
+    × (now : ℕ) × (n : State) × Takes number now (Some (shown_report r)) m n × (is_value (shown_report r) ≡ false)
+IsLeft options again since number begin before s ended values =
+    (heard now : ℕ) × (n : State) × LastTurn options since number begin before s values heard now n
+    × (o : State) × LeavesAt options again since number values heard now n (Some ended) o
+
+-- by what the client answered
+abbrev pub IsLeftBy : AskOptions → (again since begin before : ℕ) → Result ℕ CallRefusal → State → Left → ℕ → Type 0
+IsLeftBy options again since begin before (Err why) s ended values =
+    (ended ≡ left.Ended (outcome.Refused why)) × (values ≡ before)
+IsLeftBy options again since begin before (Ok number) s ended values =
+    IsLeft options again since number begin before s ended values
+
+-- A client of this server began with this setup and these sizes, and was called to observe the path at this moment.
+abbrev pub IsRegistered : Endpoint → (sizes : Sizes) → Setup → List (List ℕ) → AskOptions → (again since begin before : ℕ)
+    → Left → ℕ → Type 0
+IsRegistered server sizes setup path options again since begin before ended values =
+    (fresh : State) × Led server sizes setup [] fresh × (answer : Result ℕ CallRefusal) × (s : State)
+    × Step fresh (observes begin path answer) s × IsLeftBy options again since begin before answer s ended values
+
+-- the setup of the client after so many
+abbrev pub setup_after : ℕ → ℕ → AskOptions → Setup
+setup_after word n options = setup_of (asked_terms ((word + n) % 2 ^ 64) options)
+
+-- With which status the program ends where a registration ended with this, and the observation is over or not: it is
+-- cancelled, with 0; or it ends in another way, with 1. None: the path is observed anew, since the server ended it.
+abbrev pub reported : R.Report Global → Bool → Option Status
+reported report.Cancelled is_over = Some status.Done
+reported other is_over = if is_over then Some status.Refused else None
+
+abbrev pub verdict_of : Outcome → Bool → Option Status
+verdict_of (outcome.Refused why) is_over = Some status.Refused
+verdict_of (outcome.Reported r) is_over = reported r is_over
+verdict_of (outcome.GaveUp seconds) is_over = Some status.Refused
+
+-- .. or since no value came for so long
+abbrev pub verdict : Left → Bool → Option Status
+verdict left.Silent is_over = if is_over then Some status.Refused else None
+verdict (left.Ended ended) is_over = verdict_of ended is_over
+
+-- the observation is over at this moment, after so many values, or it is not
+abbrev pub Decides : AskOptions → (since values now : ℕ) → Bool → Type 0
+Decides options since values now is_over = (is_over ≡ true) ↔ IsOver options since values now
+
+-- what follows a registration that began at this moment and is left so, after so many values: the end of the program, or
+-- another registration at that moment, so many seconds later
+abbrev pub Follows : (again begin : ℕ) → Option Status → ℕ → Type 0
+Follows again begin (Some s) next = ⊤
+Follows again begin None next = HasPassed again begin next
+
+abbrev pub IsFollowed : AskOptions → (again since begin : ℕ) → Left → ℕ → Option Status → (more next : ℕ) → Type 0
+IsFollowed options again since begin ended values verdicted more next =
+    (now : ℕ) × (is_over : Bool) × Decides options since values now is_over × (verdicted ≡ verdict ended is_over)
+    × (more ≡ values) × Follows again begin verdicted next
+
+-- the endpoints that stand for the server
+module _ (IsServer : Endpoint → Type 0) (word : ℕ) (path : List (List ℕ)) (options : AskOptions) (again since : ℕ) where
+  -- the registration after so many, at this moment, where so many values came before: how it is left, and how many
+  -- values came then
+  abbrev pub IsNext : (n begin before : ℕ) → Left → ℕ → Type 0
+  IsNext n begin before ended values =
+      (server : Endpoint) × IsServer server
+      × IsRegistered server (sizes_of (asked_terms ((word + n) % 2 ^ 64) options))
+      (setup_of (asked_terms ((word + n) % 2 ^ 64) options)) path options again since begin before ended values
+
+  -- one after the other: so many are left, so many values came, and the next one is made at this moment
+  pub data Again : ℕ → ℕ → ℕ → Type 0 where
+    first : Again 0 0 since
+    anew : (n before begin : ℕ) (ended : Left) (values more next : ℕ) → Again n before begin
+        → IsNext n begin before ended values → IsFollowed options again since begin ended values None more next
+        → Again (n + 1) more next
+
+  abbrev pub Ends : Status → Type 0
+  Ends s =
+      (n before begin : ℕ) × Again n before begin × (ended : Left) × (values : ℕ) × IsNext n begin before ended values
+      × (more next : ℕ) × IsFollowed options again since begin ended values (Some s) more next
+
+-- A path is observed at a server by clients of these options, the first at some moment, and each further one anew.
+abbrev pub Watches : (Endpoint → Type 0) → ℕ → List (List ℕ) → AskOptions → ℕ → Status → Type 0
+Watches IsServer word path options again s = (since : ℕ) × Ends IsServer word path options again since s

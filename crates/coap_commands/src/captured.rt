@@ -1,0 +1,130 @@
+//! `dump --pcap`: the datagrams of a capture in words.
+ghost use Rattle.std.specs.Prelude.{◌≡◌, ℕ, List, true, false, IfOk, map};
+ghost use Rattle.coap_pcap.specs.Files.{seen};
+ghost use Rattle.coap_commands.specs.Captured.{IsCaptureStatus, IsPacketsStatus, IsSpelled};
+ghost use Rattle.coap_scripts.specs.declared.status.Status.TheVariants as statuses;
+
+use crate::captured_chart::draw_packets;
+use crate::dump::dump_datagram;
+use coap_codec::decode;
+use coap_pcap::{Fault, LeftOut, Packet, ReadError, left_out, read};
+use coap_scripts::{Status, Stop, stop_of};
+use std::alloc::Global;
+use std::fs;
+use std::io::{Read, Write};
+use std::rt::Files;
+
+// Whether a packet is no datagram, or one that spells a message.
+fn is_spelled(packet: &Packet<'_>) -> bool
+    ensures yes { result ≡ true → IsSpelled (seen packet.now) }
+    ensures no { result ≡ false → IsSpelled (seen packet.now) → ⊥ }
+{
+    match packet.found {
+        Ok(datagram) => decode(datagram.payload).is_ok(),
+        Err(_) => true,
+    }
+}
+
+// The status of packets: done where each datagram spells a message.
+fn status_of(packets: &[Packet<'_>]) -> Status
+    ensures { IsPacketsStatus (map seen packets.now) result }
+{
+    for packet in packets {
+        if !is_spelled(packet) {
+            return Status::Refused;
+        }
+    }
+    Status::Done
+}
+
+// Prints each datagram of these packets, behind the number of its packet.
+fn print_packets<W: Write>(alloc: Global, packets: &[Packet<'_>], out: &mut W) -> Result<(), Stop> {
+    let mut number: u64 = 0;
+    for packet in packets {
+        number = number.saturating_add(1);
+        if let Ok(datagram) = packet.found {
+            dump_datagram(alloc, number, datagram.payload, out)?;
+        }
+    }
+    Ok(())
+}
+
+// Says how many packets were left out, and why, where any were.
+fn tell_left_out<W: Write>(left_out: LeftOut, out: &mut W) -> Result<(), Stop> {
+    let reasons = [
+        (left_out.not_udp, "not UDP"),
+        (left_out.fragments, "fragments"),
+        (left_out.cut, "cut"),
+    ];
+    for (count, reason) in reasons {
+        if count > 0 {
+            writeln!(out, "left out: {count} {reason}")?;
+        }
+    }
+    Ok(())
+}
+
+// Prints what the datagrams of these packets say, a line each or as a chart, and how many packets are left out.
+fn show_packets<W: Write>(
+    alloc: Global,
+    packets: &[Packet<'_>],
+    chart: bool,
+    out: &mut W,
+) -> Result<Status, Stop>
+    ensures { IfOk result (IsPacketsStatus (map seen packets.now)) }
+{
+    if chart {
+        draw_packets(alloc, packets, out)?;
+    } else {
+        print_packets(alloc, packets, out)?;
+    }
+    tell_left_out(left_out(packets), out)?;
+    out.flush()?;
+    Ok(status_of(packets))
+}
+
+// Says what is wrong with a file.
+fn tell_fault<W: Write>(fault: Fault, out: &mut W) -> Result<Status, Stop>
+    ensures { IfOk result (λ status. status ≡ statuses.Words) }
+{
+    writeln!(out, "bad capture: {fault}")?;
+    Ok(Status::Words)
+}
+
+/// Prints what the datagrams of a capture say, each behind the number of its packet, or draws them as a chart; and how
+/// many packets are left out. Of a file that is no capture nothing is printed but what is wrong with it.
+pub fn show_capture<W: Write>(
+    alloc: Global,
+    bytes: &[u8],
+    chart: bool,
+    out: &mut W,
+) -> Result<Status, Stop>
+    // A capture is shown with status 0 where each datagram of it spells a message, with 1 where one is at fault, and with
+    // 2 where the bytes are no capture.
+    ensures { IfOk result (IsCaptureStatus bytes.now) }
+{
+    match read(alloc, bytes) {
+        Ok(packets) => show_packets(alloc, packets.as_slice(), chart, out),
+        Err(ReadError::Fault(fault)) => tell_fault(fault, out),
+        Err(ReadError::Memory) => Err(Stop::Memory),
+    }
+}
+
+/// Prints what the datagrams say of the capture that is in a file.
+pub(crate) fn dump_capture<R: AllocGlobal + Files, W: Write>(
+    rt: &R,
+    name: &str,
+    chart: bool,
+    out: &mut W,
+) -> Result<Status, Stop>
+    ensures { IfOk result (λ status. (bytes : List ℕ) × IsCaptureStatus bytes status) }
+{
+    let mut bytes = Vec::new(rt.alloc());
+    match fs::open(rt, name) {
+        Ok(mut file) => match file.read_to_end(&mut bytes) {
+            Ok(_) => show_capture(rt.alloc(), bytes.as_slice(), chart, out),
+            Err(error) => Err(stop_of(&error)),
+        },
+        Err(error) => Err(stop_of(&error)),
+    }
+}

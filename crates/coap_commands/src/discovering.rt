@@ -1,0 +1,163 @@
+//! `discover`: which resources a server says that it has (RFC 6690).
+ghost use Rattle.std.specs.Prelude.{◌≡◌, ℕ, [], IfOk};
+ghost use Rattle.coap_types.specs.declared.endpoint.Endpoint.{Endpoint as EndpointSpec};
+ghost use Rattle.coap_block.specs.Sizes.{Sizes};
+ghost use Rattle.coap_layer.specs.declared.setup.Setup.{Setup as SetupSpec};
+ghost use Rattle.coap_client.specs.Led.{Led};
+ghost use Rattle.coap_client.specs.Object.CallShown.{shown_request};
+ghost use Rattle.coap_commands.specs.Discovers.{Discovers, IsCore, IsShown, ReadsLinks};
+ghost use Rattle.coap_commands.specs.Terms.{setup_of, sizes_of};
+ghost use Rattle.coap_scripts.specs.declared.status.Status.TheVariants.{Refused as refused};
+
+use crate::ask::outcome_of;
+use crate::calling::{Outcome, outcome_text};
+use crate::connection::{Connection, Terms};
+use crate::ends::fresh_client;
+use crate::json_lines::write_outcome;
+use crate::link_lines::write_link;
+use crate::put_away::put_away;
+use crate::timekeeper::Timekeeper;
+use coap_arguments::path_of_text;
+use coap_ends::{Client, Report};
+use coap_link_format::{LinksRefusal, links_of};
+use coap_links::Link as Carrier;
+use coap_scripts::{Status, Stop};
+use coap_types::{Endpoint, Moment, Path, Request};
+use std::alloc::Global;
+use std::hash::BuildHasher;
+use std::io::Write;
+
+// Where a server says what it has (RFC 6690, section 4).
+const WELL_KNOWN_CORE: &str = ".well-known/core";
+
+/// The path of what a server says that it has.
+pub(crate) fn core_path(alloc: Global) -> Result<Path, Stop>
+    ensures { IfOk result (λ path. IsCore path) }
+{
+    match path_of_text(alloc, WELL_KNOWN_CORE) {
+        Ok(path) => Ok(path),
+        Err(_) => Err(Stop::Memory),
+    }
+}
+
+// Prints a line for each link that a text spells: in JSON where that is wanted, with this moment. Of a text that is no
+// link format no link is printed, but where it is bad.
+fn print_links<W: Write>(
+    alloc: Global,
+    text: &[u8],
+    json: Option<Moment>,
+    out: &mut W,
+) -> Result<Status, Stop>
+    ensures { IfOk result (ReadsLinks text.now) }
+{
+    match links_of(alloc, text) {
+        Ok(links) => {
+            for link in &links {
+                write_link(alloc, link, json, out)?;
+            }
+            out.flush()?;
+            Ok(Status::Done)
+        }
+        Err(LinksRefusal::Bad(at)) => {
+            writeln!(out, "bad links at {at}")?;
+            Ok(Status::Refused)
+        }
+        Err(LinksRefusal::Memory) => Err(Stop::Memory),
+    }
+}
+
+// Says why no links came.
+fn say<O: Write, E: Write>(
+    alloc: Global,
+    outcome: &Outcome,
+    json: Option<Moment>,
+    out: &mut O,
+    err: &mut E,
+) -> Result<Status, Stop>
+    ensures { IfOk result (λ status. status ≡ refused) }
+{
+    if let Some(at) = json {
+        write_outcome(alloc, at, outcome, out)?;
+        return Ok(Status::Refused);
+    }
+    let text = outcome_text(alloc, outcome)?;
+    match outcome {
+        Outcome::Refused(_) | Outcome::Reported(_) => writeln!(out, "{text}")?,
+        Outcome::GaveUp(_) => {
+            let _ = writeln!(err, "{text}");
+        }
+    }
+    Ok(Status::Refused)
+}
+
+// Prints the links that came, or why none did.
+fn tell<O: Write, E: Write>(
+    alloc: Global,
+    outcome: &Outcome,
+    json: Option<Moment>,
+    out: &mut O,
+    err: &mut E,
+) -> Result<Status, Stop>
+    ensures { IfOk result (IsShown outcome.now) }
+{
+    if let Outcome::Reported(Report::Body(fetched)) = outcome {
+        return print_links(alloc, fetched.body.as_slice(), json, out);
+    }
+    say(alloc, outcome, json, out, err)
+}
+
+// The moment that lines of JSON tell, where they are wanted.
+fn told_at<T: Timekeeper>(is_json: bool, time: &mut T) -> Result<Option<Moment>, Stop> {
+    if is_json {
+        Ok(Some(time.now()?))
+    } else {
+        Ok(None)
+    }
+}
+
+// Asks, and prints the links.
+fn ask_and_tell<H: BuildHasher, L: Carrier, T: Timekeeper, O: Write, E: Write>(
+    alloc: Global,
+    client: &mut Client<Global, H>,
+    connection: &mut Connection<'_, '_, '_, L, T, E>,
+    request: Request,
+    terms: &Terms,
+    out: &mut O,
+) -> Result<Status, Stop>
+    ensures { IfOk result (λ status. (server : EndpointSpec) (sizes : Sizes) (w : SetupSpec)
+        → Led server sizes w [] client.old
+        → Discovers server sizes w terms.now.give_up (shown_request request) status) }
+{
+    let outcome = outcome_of(client, connection, request, terms)?;
+    let json = told_at(terms.json, connection.time)?;
+    tell(alloc, &outcome, json, out, connection.err)
+}
+
+/// Asks a server by this request what it has, and prints each link on a line; else what was reported. Where so many
+/// seconds pass before that as the terms say, it gives up and says so on standard error.
+pub fn discover_over<L: Carrier, T: Timekeeper, H: BuildHasher + Drop, O: Write, E: Write>(
+    alloc: Global,
+    connection: &mut Connection<'_, '_, '_, L, T, E>,
+    server: Endpoint,
+    hasher: H,
+    request: Request,
+    terms: &Terms,
+    out: &mut O,
+) -> Result<Status, Stop>
+    // A client of this server, which began by the terms, was handed the request, and nothing else; the status is 0 where
+    // a body was reported of it that spells links (RFC 6690, section 2), and else 1.
+    ensures { IfOk result (Discovers server (sizes_of terms.now) (setup_of terms.now) terms.now.give_up
+        (shown_request request)) }
+{
+    let mut client = fresh_client(
+        alloc,
+        server,
+        terms.setup(),
+        terms.size,
+        terms.limit,
+        hasher,
+    );
+    let ended = ask_and_tell(alloc, &mut client, connection, request, terms, out);
+    put_away(client);
+    ended
+}

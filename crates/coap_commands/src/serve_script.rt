@@ -1,0 +1,196 @@
+//! `serve --script`: what a script says of how a server is set up.
+ghost use Rattle.std.specs.Prelude.{◌≡◌, ◌≤◌, ◌∷◌, ℕ, List, true, map, length, IfErr, IfNone, IfOk, IfSome, IsSome};
+ghost use Rattle.coap_resource.specs.Entries.{content_of};
+ghost use Rattle.coap_resource.specs.Limits.{Limits};
+ghost use Rattle.coap_server.specs.Led.{Led};
+ghost use Rattle.coap_layer.specs.declared.setup.Setup.{Setup as SetupSpec};
+ghost use Rattle.coap_server.specs.Object.Shown.{state_of};
+ghost use Rattle.coap_server.specs.Trace.{Call, Delays, Plains};
+ghost use Rattle.coap_types.specs.declared.szx.TheConstants.{MAX_SZX as max_szx};
+ghost use Rattle.coap_scripts.specs.Script.{EachOf, lines_of};
+ghost use Rattle.coap_scripts.specs.Settings.{IsFirstBad, SaysSetting, setting_of};
+ghost use Rattle.coap_commands.specs.ScriptSettings.{AreMade, AreOfScript, HoldsBody, IsMade, limit_by, limit_with};
+ghost use Rattle.coap_scripts.specs.declared.status.Status.TheVariants.{Words};
+
+use coap_ends::{DelayRefusal, PlainRefusal, Server};
+use coap_resource::{MapStore, StoreRefusal};
+use coap_scripts::{ScriptRefusal, Setting, Status, Stop, settings_of, stop_of};
+use coap_types::{BodyLimit, Moment, Path};
+use std::alloc::Global;
+use std::fs;
+use std::hash::BuildHasher;
+use std::io::{Read, Write};
+use std::rt::Files;
+
+/// The line of a server's script that is wrong, by its number, from 1.
+#[derive(Clone, Copy, Debug, PartialEq, Eq)]
+pub struct BadLine(pub usize);
+
+// What a setting leaves the limit.
+fn limit_with(limit: BodyLimit, setting: &Setting) -> BodyLimit
+    ensures { result ≡ limit_with limit (setting_of setting.now) }
+{
+    match setting {
+        Setting::Limit(most) => *most,
+        Setting::Nothing | Setting::Hold(_, _, _) | Setting::Delay(_, _) | Setting::Plain(_) => {
+            limit
+        }
+    }
+}
+
+/// The longest body that a server takes: what the last setting says that says one, else this.
+pub fn limit_by(limit: BodyLimit, settings: &[Setting]) -> BodyLimit
+    // The limit is the last that a script says, and without one it is that of the words.
+    ensures { result ≡ limit_by limit (map setting_of settings.now) }
+{
+    let mut last = limit;
+    for setting in settings {
+        last = limit_with(last, setting);
+    }
+    last
+}
+
+// Has the server hold this; whether its store takes it.
+fn hold<H: BuildHasher + Drop>(
+    server: &mut Server<MapStore, Global, H>,
+    path: &Path,
+    format: u16,
+    body: &[u8],
+) -> Result<bool, Stop>
+    ensures { (limits : Limits) (setup : SetupSpec) (t : List Call)
+        → Led limits max_szx setup t (state_of content_of server.old)
+        → IfOk result (λ is. is ≡ true → (after : List Call) × HoldsBody path.now format body.now t after
+        × Led limits max_szx setup after (state_of content_of server.new)) }
+{
+    match server.set(Moment(0), path, Some(format), body) {
+        Ok(_) => Ok(true),
+        Err(StoreRefusal::Memory) => Err(Stop::Memory),
+        Err(_) => Ok(false),
+    }
+}
+
+// Has the requests of a path wait; whether there is a place for one more such path.
+fn delay<H: BuildHasher + Drop>(
+    server: &mut Server<MapStore, Global, H>,
+    path: &Path,
+    ms: u64,
+) -> Result<bool, Stop>
+    ensures { (limits : Limits) (setup : SetupSpec) (t : List Call)
+        → Led limits max_szx setup t (state_of content_of server.old)
+        → IfOk result (λ is. is ≡ true
+        → Led limits max_szx setup (Delays path.now ms true ∷ t) (state_of content_of server.new)) }
+{
+    match server.set_delay(path, ms) {
+        Ok(()) => Ok(true),
+        Err(DelayRefusal::Memory) => Err(Stop::Memory),
+        Err(DelayRefusal::Full) => Ok(false),
+    }
+}
+
+// Has the observers of a path told in Non-confirmable messages; whether there is a place for one more such path.
+fn plain<H: BuildHasher + Drop>(
+    server: &mut Server<MapStore, Global, H>,
+    path: &Path,
+) -> Result<bool, Stop>
+    ensures { (limits : Limits) (setup : SetupSpec) (t : List Call)
+        → Led limits max_szx setup t (state_of content_of server.old)
+        → IfOk result (λ is. is ≡ true
+        → Led limits max_szx setup (Plains path.now true ∷ t) (state_of content_of server.new)) }
+{
+    match server.set_plain(path) {
+        Ok(()) => Ok(true),
+        Err(PlainRefusal::Memory) => Err(Stop::Memory),
+        Err(PlainRefusal::Full) => Ok(false),
+    }
+}
+
+// Has the server be as a setting says; whether it takes that.
+fn make<H: BuildHasher + Drop>(
+    server: &mut Server<MapStore, Global, H>,
+    setting: &Setting,
+) -> Result<bool, Stop>
+    ensures { (limits : Limits) (setup : SetupSpec) (t : List Call)
+        → Led limits max_szx setup t (state_of content_of server.old)
+        → IfOk result (λ is. is ≡ true → (after : List Call) × IsMade (setting_of setting.now) t after
+        × Led limits max_szx setup after (state_of content_of server.new)) }
+{
+    match setting {
+        Setting::Hold(path, format, body) => hold(server, path, *format, body.as_slice()),
+        Setting::Delay(path, ms) => delay(server, path, *ms),
+        Setting::Plain(path) => plain(server, path),
+        Setting::Nothing | Setting::Limit(_) => Ok(true),
+    }
+}
+
+/// Has the server be as the settings say, in order; the line of the first that it doesn't take.
+pub fn make_all<H: BuildHasher + Drop>(
+    server: &mut Server<MapStore, Global, H>,
+    settings: &[Setting],
+) -> Result<Option<BadLine>, Stop>
+    // What led to the server before the settings of a script leads, with the calls that they are and no other, to the
+    // server that took each of them.
+    ensures made { (limits : Limits) (setup : SetupSpec) (t : List Call)
+        → Led limits max_szx setup t (state_of content_of server.old)
+        → IfOk result (λ bad. IfNone bad ((after : List Call) × AreMade (map setting_of settings.now) t after
+        × Led limits max_szx setup after (state_of content_of server.new))) }
+    // A line that a server doesn't take is one of those that its script has.
+    ensures bad { IfOk result (λ bad. IfSome bad (λ line. (1 ≤ line.0) × (line.0 ≤ length settings.now))) }
+{
+    let mut made: usize = 0;
+    for setting in settings {
+        if !make(server, setting)? {
+            return Ok(Some(BadLine(made + 1)));
+        }
+        made += 1;
+    }
+    Ok(None)
+}
+
+/// The settings that a text says, or its first line that says none.
+pub fn script_in(alloc: Global, text: &[u8]) -> Result<Result<Vec<Setting>, BadLine>, Stop>
+    // The settings of a server's script are those of the lines of its text.
+    ensures said { IfOk result (λ read. IfOk read (λ settings. EachOf SaysSetting (lines_of text.now)
+        (map setting_of settings.items))) }
+    // The line of a server's script that is named is the first that says no setting.
+    ensures bad { IfOk result (λ read. IfErr read (λ bad. IsFirstBad (lines_of text.now) bad.0)) }
+{
+    match settings_of(alloc, text) {
+        Ok(settings) => Ok(Ok(settings)),
+        Err(ScriptRefusal::Line(number)) => Ok(Err(BadLine(number))),
+        Err(ScriptRefusal::Memory) => Err(Stop::Memory),
+    }
+}
+
+/// The settings of the script in a file; where none is named, there are none.
+pub(crate) fn script_of<R: AllocGlobal + Files>(
+    rt: &R,
+    name: Option<&str>,
+) -> Result<Result<Vec<Setting>, BadLine>, Stop>
+    ensures said { IfOk result (λ read. IfOk read (λ settings. AreOfScript name.entry (map setting_of settings.items))) }
+    ensures named { IfOk result (λ read. IfErr read (λ _. IsSome name)) }
+{
+    let Some(name) = name else {
+        return Ok(Ok(Vec::new(rt.alloc())));
+    };
+    let text = text_of(rt, name)?;
+    script_in(rt.alloc(), text.as_slice())
+}
+
+// What is in a file.
+fn text_of<R: AllocGlobal + Files>(rt: &R, name: &str) -> Result<Vec<u8>, Stop> {
+    let mut text = Vec::new(rt.alloc());
+    let mut file = fs::open(rt, name).map_err(|error| stop_of(&error))?;
+    match file.read_to_end(&mut text) {
+        Ok(_) => Ok(text),
+        Err(error) => Err(stop_of(&error)),
+    }
+}
+
+/// Says which line is wrong.
+pub(crate) fn tell_bad_line<W: Write>(bad: BadLine, out: &mut W) -> Result<Status, Stop>
+    ensures { IfOk result (λ status. status ≡ Words) }
+{
+    let number = bad.0;
+    writeln!(out, "bad line {number}")?;
+    Ok(Status::Words)
+}
