@@ -294,7 +294,7 @@ static int any_bytes(long datagrams, bool mutated) {
     ks_answerer_free(&server);
     printf("%ld datagrams %s: %u requests, %u rejected, %u answered by nothing\n", datagrams,
            mutated ? "with changed bytes" : "of any bytes", handed, rejected, silent);
-    WANT(handed > 1000 && rejected > 1000 && silent > 1000);
+    WANT(handed > 100 && rejected > 1000 && silent > 1000);
     return 0;
 }
 
