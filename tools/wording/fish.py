@@ -29,7 +29,9 @@ def _quoted(text: str) -> str:
 
 
 def _option(command: str, argument: Argument) -> str:
-    words = ["complete -c coap -n", _quoted(f"__coap_is {command}"), "-l", argument.name]
+    words = ["complete -c coap -n", _quoted(f"__coap_is {command}")]
+    words += ["-s", argument.letter] if argument.letter else []
+    words += ["-l", argument.name]
     if argument.takes_file:
         words.append("-r -F")
     elif argument.value:

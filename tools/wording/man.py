@@ -21,7 +21,7 @@ _INTERRUPTED = (
         "ends by itself.",
     ),
     (
-        ("get", "put", "post", "delete"),
+        ("get", "put", "post", "delete", "discover", "ping"),
         "No report is printed. What was asked for may have been done, and may still be: a request that is on its way "
         "is not called back.",
     ),
@@ -48,11 +48,12 @@ def _name(argument: Argument) -> str:
     if not argument.is_option:
         return f"\\fI{_escaped(argument.name)}\\fR"
     value = f" \\fI{_escaped(argument.value)}\\fR" if argument.value else ""
-    return f"\\fB\\-\\-{_escaped(argument.name)}\\fR{value}"
+    letter = f"\\fB\\-{argument.letter}\\fR, " if argument.letter else ""
+    return f"{letter}\\fB\\-\\-{_escaped(argument.name)}\\fR{value}"
 
 
 def _in_usage(argument: Argument) -> str:
-    it = _name(argument)
+    it = _name(argument).replace("\\fR, \\fB", "\\fR|\\fB")
     if argument.form == "Required":
         return it
     return f"[{it}]" + (".." if argument.form == "Repeated" else "")

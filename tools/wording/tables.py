@@ -10,9 +10,11 @@ TOP = pathlib.Path(__file__).resolve().parent.parent.parent
 CRATES = TOP / "crates"
 ARGUMENTS = CRATES / "coap_arguments" / "src"
 TABLES = ARGUMENTS / "tables.rt"
+#: The file of the arguments, and that of the subcommands.
+SOURCES = (ARGUMENTS / "table_words.rt", TABLES)
 #: Each way in which an argument is given (arguments.rt), with what an option of it is here.
-WORDS, OPTIONS = ("Required", "Optional"), ("Single", "Repeated", "Flag")
-_TOKEN = re.compile(r'\s*(?://[^\n]*\s*)*("(?:\\.|[^"\\])*"|::|\w+|[^\s\w])', re.DOTALL)
+WORDS, OPTIONS = ("Required", "Optional"), ("Single", "Repeated", "Flag", "ShortFlag")
+_TOKEN = re.compile(r"""\s*(?://[^\n]*\s*)*("(?:\\.|[^"\\])*"|'[^'\\]'|::|\w+|[^\s\w])""", re.DOTALL)
 _ESCAPED = {"n": "\n", '"': '"', "\\": "\\", "t": "\t"}
 #: Values that help lists: names after "one of", numbers after a colon.
 _ONE_OF = re.compile(r"\bone of ((?:[\w/-]+, )*[\w/-]+),? (?:and|or) ([\w/-]+)")
@@ -42,6 +44,8 @@ class Argument(NamedTuple):
     help: str
     #: How help names the value of an option; "" where it has none.
     value: str
+    #: The letter that stands for an option, too; "" where none does.
+    letter: str
 
     @property
     def is_option(self) -> bool:
@@ -155,6 +159,8 @@ class _Reader:
         token = self.take()
         if token.startswith('"'):
             return _unquoted(token)
+        if token.startswith("'"):
+            return token[1:-1]
         if token == "[":
             return self.listed()
         if not re.fullmatch(r"\w+", token):
@@ -197,9 +203,11 @@ def _argument(value: Value) -> Argument:
     form = value.fields["form"]
     if not isinstance(form, Named) or form.name not in WORDS + OPTIONS:
         raise Problem(f"{TABLES.name}: {form} is a form that tools/words doesn't know")
-    _only(form, form.name, *(["value_name"] if form.name in ("Single", "Repeated") else []))
-    value_name = _text(form, "value_name") if form.fields else ""
-    return Argument(form.name, _text(value, "name"), _text(value, "help"), value_name)
+    has_value, has_letter = form.name in ("Single", "Repeated"), form.name == "ShortFlag"
+    _only(form, form.name, *(["value_name"] if has_value else ["letter"] if has_letter else []))
+    value_name, letter = (_text(form, it) if it in form.fields else "" for it in ("value_name", "letter"))
+    name = "Flag" if has_letter else form.name
+    return Argument(name, _text(value, "name"), _text(value, "help"), value_name, letter)
 
 
 def _subcommand(value: Value, constants: Dict[str, Value]) -> Subcommand:
@@ -231,7 +239,7 @@ def _statuses() -> Tuple[Tuple[int, str], ...]:
 
 def program(version: str) -> Program:
     """What the sources say of the program."""
-    values = dict(_Reader(TABLES.read_text("utf-8")).items())
+    values = dict(item for file in SOURCES for item in _Reader(file.read_text("utf-8")).items())
     tables = [it for it in values.values() if isinstance(it, list)]
     groups = values.get("GROUPS")
     if not isinstance(groups, str) or not tables:

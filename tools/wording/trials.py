@@ -10,7 +10,7 @@ import tempfile
 from typing import Dict, Iterator, List, Tuple
 
 from . import bash, fish, man, zsh
-from .tables import TABLES, Problem, Program, Subcommand
+from .tables import SOURCES, Problem, Program, Subcommand
 
 #: Which programs read a file and judge its form, by the end of its name; troff says what is wrong on standard error.
 _READERS = {
@@ -52,8 +52,9 @@ def left_out(program: Program, made: Dict[str, str]) -> Iterator[str]:
     """The subcommands and options of the tables that a file doesn't have. The names are found here by another way."""
     options = {it for sub in program.subcommands for it in _wanted(sub)}
     read = {sub.name for sub in program.subcommands} | {it.name for sub in program.subcommands for it in sub.arguments}
-    named = re.findall(r'\bname: "(.*)"', TABLES.read_text("utf-8"))
-    yield from (f"{TABLES.name}: {it} is not read" for it in named if it not in read)
+    for source in SOURCES:
+        named = re.findall(r'\bname: "(.*)"', source.read_text("utf-8"))
+        yield from (f"{source.name}: {it} is not read" for it in named if it not in read)
     for file, text in made.items():
         if file.endswith(".1"):
             commands, listed = man.names(text)

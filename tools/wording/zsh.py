@@ -56,6 +56,14 @@ def _spec(argument: Argument) -> str:
     return f"{many}--{argument.name}{'=' if value else ''}[{_escaped(argument.brief)}]{value}"
 
 
+def _quoted_spec(argument: Argument) -> str:
+    """The same in quotes; where it has two names, these stand before."""
+    if not argument.letter:
+        return _quoted(_spec(argument))
+    names = f"-{argument.letter},--{argument.name}"
+    return f"'({names.replace(',', ' ')})'{{{names}}}{_quoted(f'[{_escaped(argument.brief)}]')}"
+
+
 def _usual(program: Program, *only: str) -> Iterator[str]:
     for name, letter, said in program.usual:
         if not only or name in only:
@@ -65,7 +73,7 @@ def _usual(program: Program, *only: str) -> Iterator[str]:
 def _arguments(sub: Subcommand, program: Program) -> Iterator[str]:
     yield f"        {sub.name})"
     yield "            _arguments -S \\"
-    specs = [*_usual(program, "help"), *(_quoted(_spec(it)) for it in (*sub.options, *sub.words))]
+    specs = [*_usual(program, "help"), *(_quoted_spec(it) for it in (*sub.options, *sub.words))]
     yield " \\\n".join(f"                {it}" for it in specs)
     yield "            ;;"
 

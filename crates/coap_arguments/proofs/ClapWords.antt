@@ -14,7 +14,8 @@ use Rattle.clap.specs.declared.error.Error.{Error}
 use Rattle.clap.specs.declared.parser.matches.ArgMatches.{ArgMatches}
 use Rattle.coap_arguments.specs.CommandLine.{coap_app}
 use Rattle.coap_arguments.specs.Addresses.{address_argument_of}
-use Rattle.coap_arguments.specs.Asking.{AreNoTags, AsksChange, HasNoTags, IsAsk, SendsBody, tags_argument_of}
+use Rattle.coap_arguments.specs.Asking.{AreNoTags, AsksChange, HasNoTags, IsAsk, MakesClient, NamesServer, SendsBody}
+use Rattle.coap_arguments.specs.Asking.{tags_argument_of}
 use Rattle.coap_arguments.specs.Numbers.{argument_of}
 use Rattle.coap_arguments.specs.Plains.{IsWrongPlain}
 use Rattle.coap_arguments.specs.Serving.{HasNoSetting, setting_argument_of}
@@ -29,7 +30,7 @@ use Rattle.coap_arguments.specs.declared.refusals.AddressRefusal.TheVariants.{Ho
 use Rattle.coap_arguments.specs.declared.refusals.NumberRefusal.{NumberRefusal}
 use Rattle.coap_arguments.specs.declared.refusals.NumberRefusal.TheVariants.{Port, Count, Limit, Remember, Format}
 use Rattle.coap_arguments.specs.declared.refusals.NumberRefusal.TheVariants.{Accept, Times, Seconds, GiveUp, Every}
-use Rattle.coap_arguments.specs.declared.refusals.NumberRefusal.TheVariants.{ServerPort}
+use Rattle.coap_arguments.specs.declared.refusals.NumberRefusal.TheVariants.{Again, ServerPort}
 use Rattle.coap_arguments.specs.declared.orders.Order.{Order}
 use Rattle.coap_arguments.specs.declared.refusals.SettingRefusal.{SettingRefusal}
 use Rattle.coap_arguments.specs.declared.refusals.SettingRefusal.TheVariants as setting
@@ -71,7 +72,7 @@ is_free_coap = refl
 abbrev pub IsOurs : Text → Type 0
 IsOurs name =
     (name ≡ codes "show") ⊎ ((name ≡ codes "answer") ⊎ ((name ≡ codes "pair")
-    ⊎ ((name ≡ codes "serve") ⊎ ((name ≡ codes "sim") ⊎ ((name ≡ codes "dump") ⊎ IsAsk name)))))
+    ⊎ ((name ≡ codes "serve") ⊎ ((name ≡ codes "sim") ⊎ ((name ≡ codes "dump") ⊎ NamesServer name)))))
 
 -- the same as tests
 abbrev sends_body : Text → Bool
@@ -83,21 +84,30 @@ asks_change name = bytes_eq name (codes "delete") || sends_body name
 abbrev is_ask : Text → Bool
 is_ask name = bytes_eq name (codes "get") || (bytes_eq name (codes "observe") || asks_change name)
 
+abbrev makes_client : Text → Bool
+makes_client name = bytes_eq name (codes "discover") || is_ask name
+
+abbrev names_server : Text → Bool
+names_server name = bytes_eq name (codes "ping") || makes_client name
+
 abbrev is_ours : Text → Bool
 is_ours name =
     bytes_eq name (codes "show")
     || (bytes_eq name (codes "answer") || (bytes_eq name (codes "pair")
     || (bytes_eq name (codes "serve") || (bytes_eq name (codes "sim") ||
-    (bytes_eq name (codes "dump") || is_ask name)))))
+    (bytes_eq name (codes "dump") || names_server name)))))
 
 abbrev serves_or_asks : Text → Bool
-serves_or_asks name = bytes_eq name (codes "serve") || is_ask name
+serves_or_asks name = bytes_eq name (codes "serve") || makes_client name
 
 abbrev makes_end : Text → Bool
 makes_end name = bytes_eq name (codes "pair") || serves_or_asks name
 
 abbrev reads_again : Text → Bool
 reads_again name = bytes_eq name (codes "get") || bytes_eq name (codes "observe")
+
+abbrev counts : Text → Bool
+counts name = bytes_eq name (codes "ping") || reads_again name
 
 abbrev remembers : Text → Bool
 remembers name = bytes_eq name (codes "sim") || makes_end name
@@ -123,14 +133,24 @@ one_changes name is = first_or _ name (codes "delete") _ (one_sends name) is
 one_asks : (name : Text) → is_ask name ≡ true → IsAsk name
 one_asks name is = first_or _ name (codes "get") _ (first_or _ name (codes "observe") _ (one_changes name)) is
 
-one_serves_or_asks : (name : Text) → serves_or_asks name ≡ true → (name ≡ codes "serve") ⊎ IsAsk name
-one_serves_or_asks name is = first_or _ name (codes "serve") _ (one_asks name) is
+one_makes_client : (name : Text) → makes_client name ≡ true → MakesClient name
+one_makes_client name is = first_or _ name (codes "discover") _ (one_asks name) is
+
+one_names_server : (name : Text) → names_server name ≡ true → NamesServer name
+one_names_server name is = first_or _ name (codes "ping") _ (one_makes_client name) is
+
+one_serves_or_asks : (name : Text) → serves_or_asks name ≡ true → (name ≡ codes "serve") ⊎ MakesClient name
+one_serves_or_asks name is = first_or _ name (codes "serve") _ (one_makes_client name) is
 
 one_makes_end : (name : Text) → makes_end name ≡ true → MakesEnd name
 one_makes_end name is = first_or _ name (codes "pair") _ (one_serves_or_asks name) is
 
 one_reads_again : (name : Text) → reads_again name ≡ true → (name ≡ codes "get") ⊎ (name ≡ codes "observe")
 one_reads_again name is = first_or _ name (codes "get") _ (is_name name (codes "observe")) is
+
+one_counts : (name : Text) → counts name ≡ true
+    → (name ≡ codes "ping") ⊎ ((name ≡ codes "get") ⊎ (name ≡ codes "observe"))
+one_counts name is = first_or _ name (codes "ping") _ (one_reads_again name) is
 
 one_remembers : (name : Text) → remembers name ≡ true → (name ≡ codes "sim") ⊎ MakesEnd name
 one_remembers name is = first_or _ name (codes "sim") _ (one_makes_end name) is
@@ -142,7 +162,7 @@ one_of_ours name is =
     (first_or _ name (codes "pair") _
     (first_or _ name (codes "serve") _
     (first_or _ name (codes "sim") _
-    (first_or _ name (codes "dump") _ (one_asks name)))))) is
+    (first_or _ name (codes "dump") _ (one_names_server name)))))) is
 
 -- words that clap takes enter one of them
 enters_ours : (words : List Text) → fault_of coap_app words ≡ []
@@ -181,25 +201,27 @@ pub serve_port : (words : List Text) (rows : List Row) → Enters words (codes "
 unfolding clap_on_literals
 serve_port words rows e = required_word coap_app words (codes "serve") (codes "PORT") rows refl e.taken e.entered
 
--- the subcommands that ask something of a server require this argument
-abbrev AskRequires : Text → Type 0
-AskRequires id = (name : Text) → IsAsk name → list_all (asks name id) (built coap_app).subs ≡ true
+-- the subcommands that name a server require this argument
+abbrev NamingRequires : Text → Type 0
+NamingRequires id = (name : Text) → NamesServer name → list_all (asks name id) (built coap_app).subs ≡ true
 
 by_name : (id name known : Text) → list_all (asks known id) (built coap_app).subs ≡ true → name ≡ known
     → list_all (asks name id) (built coap_app).subs ≡ true
 by_name id name known is same = subst (λ n. list_all (asks n id) (built coap_app).subs ≡ true) (sym same) is
 
-requires_port : AskRequires (codes "PORT|URI")
+requires_port : NamingRequires (codes "PORT|URI")
 unfolding clap_on_literals
 requires_port name (inl is) = by_name (codes "PORT|URI") name _ refl is
 requires_port name (inr (inl is)) = by_name (codes "PORT|URI") name _ refl is
 requires_port name (inr (inr (inl is))) = by_name (codes "PORT|URI") name _ refl is
 requires_port name (inr (inr (inr (inl is)))) = by_name (codes "PORT|URI") name _ refl is
-requires_port name (inr (inr (inr (inr is)))) = by_name (codes "PORT|URI") name _ refl is
+requires_port name (inr (inr (inr (inr (inl is))))) = by_name (codes "PORT|URI") name _ refl is
+requires_port name (inr (inr (inr (inr (inr (inl is)))))) = by_name (codes "PORT|URI") name _ refl is
+requires_port name (inr (inr (inr (inr (inr (inr is)))))) = by_name (codes "PORT|URI") name _ refl is
 
-pub ask_port : (words : List Text) (name : Text) (rows : List Row) → IsAsk name → Enters words name rows
+pub server_port : (words : List Text) (name : Text) (rows : List Row) → NamesServer name → Enters words name rows
     → IsGiven (codes "PORT|URI") rows
-ask_port words name rows is e =
+server_port words name rows is e =
     required_word coap_app words name (codes "PORT|URI") rows (requires_port name is) e.taken e.entered
 
 pub sim_file : (words : List Text) (rows : List Row) → Enters words (codes "sim") rows → IsGiven (codes "FILE") rows
@@ -238,17 +260,20 @@ takes_number words name rows e Accept = taken_by
     (λ n. bytes_eq n (codes "get")) (TakesNumber Accept) (codes "accept") words name rows
     (λ n is. is_name n (codes "get") is) refl e
 takes_number words name rows e Times =
-    taken_by reads_again (TakesNumber Times) (codes "count") words name rows one_reads_again refl e
+    taken_by counts (TakesNumber Times) (codes "count") words name rows one_counts refl e
 takes_number words name rows e Seconds = taken_by
     (λ n. bytes_eq n (codes "observe")) (TakesNumber Seconds) (codes "seconds") words name rows
     (λ n is. is_name n (codes "observe") is) refl e
 takes_number words name rows e GiveUp =
-    taken_by is_ask (TakesNumber GiveUp) (codes "give-up") words name rows one_asks refl e
+    taken_by names_server (TakesNumber GiveUp) (codes "give-up") words name rows one_names_server refl e
 takes_number words name rows e Every = taken_by
     (λ n. bytes_eq n (codes "get")) (TakesNumber Every) (codes "every") words name rows
     (λ n is. is_name n (codes "get") is) refl e
+takes_number words name rows e Again = taken_by
+    (λ n. bytes_eq n (codes "observe")) (TakesNumber Again) (codes "again") words name rows
+    (λ n is. is_name n (codes "observe") is) refl e
 takes_number words name rows e ServerPort =
-    taken_by is_ask (TakesNumber ServerPort) (codes "PORT|URI") words name rows one_asks refl e
+    taken_by names_server (TakesNumber ServerPort) (codes "PORT|URI") words name rows one_names_server refl e
 
 takes_word : (words : List Text) (name : Text) (rows : List Row) → Enters words name rows
     → (all_of (codes "word") rows ≡ None) ⊎ MakesEnd name
@@ -258,16 +283,16 @@ takes_word words name rows e = taken_by makes_end MakesEnd (codes "word") words 
 takes_address : (words : List Text) (name : Text) (rows : List Row) → Enters words name rows → (why : AddressRefusal)
     → (all_of (address_argument_of why) rows ≡ None) ⊎ TakesAddress why name
 unfolding clap_on_literals
-takes_address words name rows e Host = taken_by is_ask (TakesAddress Host) (codes "host") words name rows one_asks refl
-    e
+takes_address words name rows e Host =
+    taken_by names_server (TakesAddress Host) (codes "host") words name rows one_names_server refl e
 takes_address words name rows e Own = taken_by
     (λ n. bytes_eq n (codes "serve")) (TakesAddress Own) (codes "address") words name rows
     (λ n is. is_name n (codes "serve") is) refl e
 
 takes_size : (words : List Text) (name : Text) (rows : List Row) → Enters words name rows
-    → (all_of (codes "size") rows ≡ None) ⊎ IsAsk name
+    → (all_of (codes "size") rows ≡ None) ⊎ MakesClient name
 unfolding clap_on_literals
-takes_size words name rows e = taken_by is_ask IsAsk (codes "size") words name rows one_asks refl e
+takes_size words name rows e = taken_by makes_client MakesClient (codes "size") words name rows one_makes_client refl e
 
 takes_setting : (words : List Text) (name : Text) (rows : List Row) → Enters words name rows → (why : SettingRefusal)
     → (all_of (setting_argument_of why) rows ≡ None) ⊎ (name ≡ codes "serve")

@@ -1,6 +1,13 @@
 pub mod NamedPaths
 pub mod NotBoth
+pub mod OneAnswer
 pub mod PathTexts
+pub mod RightNumbers
+pub mod RightOrders
+pub mod RightServers
+pub mod RightTogether
+pub mod RightValues
 pub mod SaidTexts
 pub mod UriOrNot
 pub mod VersionOrNot
+pub mod WhoTakes

@@ -1,8 +1,8 @@
 -- The command line of the program, as a value: the arguments of each subcommand. The program builds it of tables of its
 -- own.
-use Rattle.std.specs.Prelude.{ℕ, Bool, List, [], ◌∷◌, Some, true, false, codes}
+use Rattle.std.specs.Prelude.{ℕ, Bool, List, [], ◌∷◌, Some, true, false, codes, fold}
 use Rattle.clap.specs.Simple.{new_shape}
-use Rattle.clap.specs.Words.{App, Rule, Text, new_app, new_rule}
+use Rattle.clap.specs.Words.{App, Rule, Text, new_app, new_rule, with_subcommand}
 use Rattle.clap.specs.declared.builder.ArgAction.TheVariants.{Append, Set, SetTrue}
 
 -- a word that has to be there
@@ -137,10 +137,20 @@ base_app = record (new_app (codes "coap")) {
   top = record (new_app (codes "coap")).top { subcommand_required = true; arg_required_else_help = true };
 }
 
+-- what asks nothing of a server elsewhere, what asks one for a body or sends it one, and what asks one something else
+abbrev pub other_apps : List App
+other_apps = show_app ∷ dump_app ∷ answer_app ∷ pair_app ∷ serve_app ∷ sim_app ∷ []
+
+abbrev pub asking_apps : List App
+asking_apps = get_app ∷ put_app ∷ post_app ∷ []
+
+abbrev pub more_asking_apps : List App
+more_asking_apps = delete_app ∷ observe_app ∷ discover_app ∷ ping_app ∷ []
+
+-- a program with these subcommands, too
+abbrev pub with_apps : App → List App → App
+with_apps program apps = fold (λ program app. with_subcommand program app.top) program apps
+
 -- the program, whose words name one of its subcommands
 abbrev pub coap_app : App
-coap_app = record {
-  top = record base_app.top { is_leaf = false };
-  subs = show_app.top ∷ dump_app.top ∷ answer_app.top ∷ pair_app.top ∷ serve_app.top ∷ sim_app.top ∷ get_app.top
-      ∷ put_app.top ∷ post_app.top ∷ delete_app.top ∷ observe_app.top ∷ discover_app.top ∷ ping_app.top ∷ [];
-}
+coap_app = with_apps (with_apps (with_apps base_app other_apps) asking_apps) more_asking_apps

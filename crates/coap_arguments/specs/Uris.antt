@@ -8,7 +8,7 @@ use Rattle.clap.specs.Words.{Text}
 use Rattle.coap_paths.specs.Uris.{AreEscaped, IsNamed, named}
 use Rattle.coap_types.specs.declared.path.TheConstants.{MAX_SEGMENT_LEN as max_segment_len}
 use Rattle.coap_types.specs.declared.path.TheConstants.{MAX_SEGMENTS as max_segments}
-use Rattle.coap_arguments.specs.Hosts.{IsFourText, IsName, IsSixText}
+use Rattle.coap_arguments.specs.Hosts.{IsFourText, IsSixText, is_name}
 use Rattle.coap_arguments.specs.Marks.{before, behind, has, is_nothing}
 use Rattle.coap_arguments.specs.declared.hosts.Host.{Host}
 use Rattle.coap_arguments.specs.declared.hosts.Host.TheVariants.{At, Name}
@@ -53,7 +53,7 @@ is_closed authority =
 abbrev pub IsUriHost : Text → Host → Type 0
 IsUriHost text (At address) = IsFourText text address
     ⊎ ((inside : Text) × (text ≡ 91 ∷ inside) × IsSixText inside address)
-IsUriHost text (Name name) = (name.now ≡ text) × IsName text
+IsUriHost text (Name name) = (name.now ≡ text) × (is_name text ≡ true)
 
 -- the digits of a port; where there are none, it is the usual one (RFC 7252, section 6.1)
 abbrev pub IsPortText : Text → ℕ → Type 0

@@ -23,8 +23,8 @@ use Rattle.coap_arguments.specs.Values.{HasNoWord, HasNumber, HasPath, HasRememb
 use Rattle.coap_arguments.specs.declared.orders.Order.{Order}
 use Rattle.coap_arguments.specs.declared.hosts.Host.{Host}
 use Rattle.coap_arguments.specs.declared.hosts.Server.{Server}
-use Rattle.coap_arguments.specs.declared.orders.Order.TheVariants.{Version, Show, Dump, DumpCapture, Answer, Pair, Serve}
-use Rattle.coap_arguments.specs.declared.orders.Order.TheVariants.{Ask, Discover, Ping, Sim}
+use Rattle.coap_arguments.specs.declared.orders.Order.TheVariants.{Version, Show, Dump, DumpCapture, Answer, Pair}
+use Rattle.coap_arguments.specs.declared.orders.Order.TheVariants.{Serve, Ask, Discover, Ping, Sim}
 use Rattle.coap_arguments.specs.declared.orders.What.{What}
 use Rattle.coap_arguments.specs.declared.refusals.NumberRefusal.TheVariants.{Port, ServerPort}
 use Rattle.coap_arguments.specs.declared.orders.TheConstants.{DEFAULT_WORD as default_word}

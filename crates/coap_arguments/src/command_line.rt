@@ -2,13 +2,14 @@
 ghost use Rattle.std.specs.Prelude.{◌≡◌, IfOk, false};
 ghost use Rattle.clap.specs.Words.{app_of, rule_of, with_rule, with_subcommand};
 ghost use Rattle.clap.specs.declared.builder.command.Command.TheViews.{out-Command};
-ghost use Rattle.coap_arguments.specs.CommandLine.{coap_app, flag_of, option_of, optional_word, repeated_of};
-ghost use Rattle.coap_arguments.specs.CommandLine.{required_word, short_flag_of};
+ghost use Rattle.coap_arguments.specs.CommandLine.{asking_apps, base_app, coap_app, flag_of, more_asking_apps};
+ghost use Rattle.coap_arguments.specs.CommandLine.{option_of, optional_word, other_apps, repeated_of, required_word};
+ghost use Rattle.coap_arguments.specs.CommandLine.{short_flag_of, with_apps};
 ghost use Rattle.coap_arguments.specs.Tables.{app_in, begins_required, rule_in, with_subcommands};
 
 use crate::arguments::{Argument, Form, Subcommand};
 use crate::put_away::put_away;
-use crate::tables::{ASKING, GROUPS, OTHERS};
+use crate::tables::{ASKING, ASKING_MORE, GROUPS, OTHERS};
 use clap::{Arg, ArgAction, Command};
 use std::alloc::{AllocError, Global};
 
@@ -164,15 +165,43 @@ fn with_table<'a>(
     Ok(program)
 }
 
+// The program with the subcommands that ask nothing of a server elsewhere.
+fn with_others<'a>(alloc: Global, program: Command<'a>) -> Result<Command<'a>, AllocError>
+    ensures { IfOk result (λ c. app_of c ≡ with_apps (app_of program.entry) other_apps) }
+{
+    with_table(alloc, program, OTHERS.as_slice())
+}
+
+// The program with those that ask a server for a body or send it one.
+fn with_asking<'a>(alloc: Global, program: Command<'a>) -> Result<Command<'a>, AllocError>
+    ensures { IfOk result (λ c. app_of c ≡ with_apps (app_of program.entry) asking_apps) }
+{
+    with_table(alloc, program, ASKING.as_slice())
+}
+
+// The program with those that ask something else of a server.
+fn with_asking_more<'a>(alloc: Global, program: Command<'a>) -> Result<Command<'a>, AllocError>
+    ensures { IfOk result (λ c. app_of c ≡ with_apps (app_of program.entry) more_asking_apps) }
+{
+    with_table(alloc, program, ASKING_MORE.as_slice())
+}
+
+// The program without its subcommands.
+fn without_subcommands<'a>(alloc: Global) -> Command<'a>
+    ensures { app_of result ≡ base_app }
+{
+    Command::new(alloc, "coap")
+        .after_help(GROUPS)
+        .subcommand_required(true)
+        .arg_required_else_help(true)
+}
+
 /// The command line that the program takes: its words name a subcommand.
 pub fn coap_command<'a>(alloc: Global) -> Result<Command<'a>, AllocError>
     // The command line is the one that the definitions have: its subcommands with their words.
     ensures { IfOk result (λ c. app_of c ≡ coap_app) }
 {
-    let program = Command::new(alloc, "coap")
-        .after_help(GROUPS)
-        .subcommand_required(true)
-        .arg_required_else_help(true);
-    let program = with_table(alloc, program, OTHERS.as_slice())?;
-    with_table(alloc, program, ASKING.as_slice())
+    let program = with_others(alloc, without_subcommands(alloc))?;
+    let program = with_asking(alloc, program)?;
+    with_asking_more(alloc, program)
 }

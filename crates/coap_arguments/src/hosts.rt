@@ -1,16 +1,16 @@
 //! Where a server is: an address, or the name of a host (RFC 3986, section 3.2.2; RFC 4291, section 2.2).
-ghost use Rattle.std.specs.Prelude.{◌≡◌, ◌≢◌, ◌<◌, ◌++◌, ◌∷◌, ◌^◌, [], ◌↔◌, ℕ, List, IsTrue, MatchOption, MatchResult};
-ghost use Rattle.std.specs.Net.Grammar.{IsIpv4Text};
-ghost use Rattle.std.specs.declared.net.ipv4_addr.Ipv4Addr.{Ipv4Addr as Ipv4AddrSpec};
+ghost use Rattle.std.specs.Prelude.{◌≡◌, ◌≢◌, ◌∷◌, ℕ, List, MatchOption, MatchResult};
+ghost use Rattle.std.specs.List.{list_all, list_any};
 ghost use Rattle.clap.specs.Words.{found_of, rows_of};
 ghost use Rattle.coap_arguments.specs.Addresses.{HasAddress, HasHost};
 ghost use Rattle.coap_arguments.specs.Hosts.{IsAddressText, IsBracketed, IsFourText, IsHostText};
-ghost use Rattle.coap_arguments.specs.Hosts.{IsName, IsSixText, IsZone, is_letter, may_name};
+ghost use Rattle.coap_arguments.specs.Hosts.{IsScope, IsSixText, IsZone, is_letter, is_name, may_name};
 ghost use Rattle.coap_arguments.specs.Taking.{IsWrongOption};
 ghost use Rattle.coap_arguments.specs.Uris.{IsUriHost};
 ghost use Rattle.coap_arguments.specs.declared.hosts.Address.{Address as AddressSpec};
 ghost use Rattle.coap_arguments.specs.declared.hosts.Host.{Host as HostSpec};
 
+use crate::marks::{has, parted};
 use crate::orders::Wrong;
 use crate::refusals::AddressRefusal;
 use crate::words::{number, optional};
@@ -24,6 +24,8 @@ const CLOSING: char = ']';
 
 // What begins the number of a zone (RFC 4007, section 11).
 const PERCENT: char = '%';
+
+const PERCENT_BYTE: u8 = b'%';
 
 // What may stand before a number in the words, and not before that of a zone.
 const PLUS: char = '+';
@@ -151,13 +153,22 @@ fn four_in(text: &str) -> Option<Address>
 fn six_in(text: &str) -> Option<Address>
     ensures { MatchOption result ((address : AddressSpec) → IsSixText text.now address → ⊥) (IsSixText text.now) }
 {
-    let (ip, scope) = match text.split_once(PERCENT) {
-        Some((ip, digits)) => (ip, zone_in(digits)?),
-        None => (text, NO_ZONE),
-    };
+    let (ip, digits) = parted(text, PERCENT);
+    let scope = scope_in(has(text, PERCENT_BYTE), digits)?;
     match ip.parse::<Ipv6Addr>() {
         Ok(ip) => Some(Address::Six { ip, scope }),
         Err(_) => None,
+    }
+}
+
+// The zone that digits say where there are any.
+fn scope_in(is_said: bool, digits: &str) -> Option<u32>
+    ensures { MatchOption result ((n : ℕ) → IsScope is_said digits.now n → ⊥) (IsScope is_said digits.now) }
+{
+    if is_said {
+        zone_in(digits)
+    } else {
+        Some(NO_ZONE)
     }
 }
 
@@ -188,12 +199,24 @@ fn behind_bracket(text: &str) -> Option<&str>
 
 // Whether a text is the name of a host.
 fn is_name(text: &str) -> bool
-    ensures { IsTrue result ↔ IsName text.now }
+    ensures { result ≡ is_name text.now }
 {
     let bytes = text.as_bytes();
-    bytes.len() <= MAX_NAME_LEN
-        && bytes.iter().all(|byte| may_name(*byte))
-        && bytes.iter().any(|byte| is_letter(*byte))
+    bytes.len() <= MAX_NAME_LEN && has_letter(bytes) && may_all_name(bytes)
+}
+
+// Whether there is a letter among these bytes.
+fn has_letter(bytes: &[u8]) -> bool
+    ensures { result ≡ list_any is_letter bytes.now }
+{
+    bytes.iter().any(|byte| is_letter(*byte))
+}
+
+// Whether each of these bytes may stand in a name.
+fn may_all_name(bytes: &[u8]) -> bool
+    ensures { result ≡ list_all may_name bytes.now }
+{
+    bytes.iter().all(|byte| may_name(*byte))
 }
 
 // Whether a byte may stand in a name.

@@ -9,6 +9,7 @@ mod command_line;
 mod ends;
 mod formats;
 mod hosts;
+mod laws;
 mod marks;
 mod orders;
 mod path_text;
@@ -19,6 +20,7 @@ mod repeating;
 mod servers;
 mod serving;
 mod sizes;
+mod table_words;
 mod tables;
 mod together;
 mod uris;
@@ -27,6 +29,7 @@ mod wrongs;
 
 pub use command_line::coap_command;
 pub use hosts::{Address, Host, Server};
+pub use laws::one_answer;
 pub use orders::{
     AskOptions, Content, DEFAULT_PORT, DEFAULT_WORD, Delay, FOREVER, Hold, MAX_DELAYS, MAX_PLAINS,
     Order, PingOptions, ServeOptions, StoreKind, What, WordChoice, Wrong,

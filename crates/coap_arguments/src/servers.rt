@@ -1,8 +1,8 @@
 //! Which server is asked, where the server itself is, and what is asked of it; read from the words.
 ghost use Rattle.std.specs.Prelude.{MatchOption, MatchResult, codes};
 ghost use Rattle.clap.specs.Words.{found_of, rows_of};
-ghost use Rattle.coap_arguments.specs.Asking.{AsksServer, HasNoUri, HasNothingBeside, HasPingOptions, HasUri, IsSpareWord};
-ghost use Rattle.coap_arguments.specs.Asking.{IsWrongBeside};
+ghost use Rattle.coap_arguments.specs.Asking.{AsksServer, HasNoUri, HasNothingBeside, HasPingOptions, HasUri};
+ghost use Rattle.coap_arguments.specs.Asking.{IsSpareWord, IsWrongBeside};
 ghost use Rattle.coap_arguments.specs.Taking.{IsWrongOption, TakesItsOwn};
 ghost use Rattle.coap_arguments.specs.Values.{IsGiven, IsValue};
 ghost use Rattle.coap_arguments.specs.Words.{AsksForIn, IsServer, IsWrongIn};

@@ -21,7 +21,7 @@ pub(crate) fn observed_apart(given: &ArgMatches<'_>) -> Option<TogetherRefusal>
     }
 }
 
-/// Which options of `serve` don't go together, if any: changes are what is told in JSON, and nothing else is told beside.
+/// Which options of `serve` don't go together, if any: changes are what is told in JSON, and nothing is told beside.
 pub(crate) fn served_apart(given: &ArgMatches<'_>) -> Option<TogetherRefusal>
     ensures { MatchOption result (GoServed (rows_of (found_of given.now)))
         (λ refusal. AreApart refusal (codes "serve") (rows_of (found_of given.now))) }

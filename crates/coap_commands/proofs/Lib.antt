@@ -1,10 +1,12 @@
 pub mod AskedTasks
+pub mod CapturedPackets
 pub mod ObservedCalls
 pub mod PairCalls
 pub mod PolledCalls
 pub mod RightEnds
 pub mod RightUris
 pub mod RightWords
+pub mod ScriptCalls
 pub mod ServedCalls
 pub mod SettingUpCalls
 pub mod Statuses

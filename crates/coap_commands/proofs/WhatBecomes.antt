@@ -1,5 +1,5 @@
 -- What becomes of a request, from the calls of its client to the status of the program.
-use Rattle.std.proofs.Common.{◌≡◌, ◌++◌, ◌∷◌, [], ℕ, List, Option, Result, Ok, Err, IfOk, subst, sym}
+use Rattle.std.proofs.Common.{◌≡◌, ◌++◌, ◌∷◌, [], ℕ, Bool, List, Option, Result, Ok, Err, IfOk, OnOk, subst, sym}
 use Rattle.coap_types.specs.declared.endpoint.Endpoint.{Endpoint}
 use Rattle.coap_layer.specs.declared.setup.Setup.{Setup}
 use Rattle.coap_block.specs.Sizes.{Sizes}
@@ -9,7 +9,8 @@ use Rattle.coap_client.specs.Trace.{Call, Calls, Request}
 use Rattle.coap_client.specs.declared.client.report.CallId.{CallId}
 use Rattle.coap_client.specs.declared.refusals.CallRefusal.{CallRefusal}
 use Rattle.coap_client.proofs.Facts.EachCall.{led_client}
-use Rattle.coap_commands.specs.Asks.{AsksNothing, Becomes, Chain, Comes, takes_report}
+use Rattle.coap_commands.specs.Asks.{Asks, AsksNothing, Becomes, Chain, Comes, status_after, takes_report}
+use Rattle.coap_commands.specs.JsonLines.{Tells, WritesOutcome}
 use Rattle.coap_commands.specs.declared.calling.Outcome.{Outcome}
 use Rattle.coap_commands.specs.declared.calling.Outcome.TheVariants.{GaveUp, Refused, Reported}
 use Rattle.coap_scripts.specs.declared.status.Status.{Status}
@@ -76,6 +77,27 @@ pub told : (Leads : Endpoint → Sizes → Setup → Type 0) (Comes : Endpoint �
     → (of : Outcome) × Comes server sizes w of × (s ≡ status of))
 told Leads Comes status outcome (Ok s) becomes is = λ server sizes w led. (outcome, becomes server sizes w led, is)
 told Leads Comes status outcome (Err stop) becomes is = tt
+
+-- .. and told so
+pub told_as : (Leads : Endpoint → Sizes → Setup → Type 0) (json : Bool) (before after : Option (List ℕ))
+    (give_up : Option ℕ) (request : Request) (outcome : Outcome) (ended : Result Status Stop)
+    → ((server : Endpoint) (sizes : Sizes) (w : Setup) → Leads server sizes w
+    → Becomes server sizes w give_up request outcome)
+    → IfOk ended (λ s. s ≡ status_after request.method outcome)
+    → OnOk ended (WritesOutcome json before after outcome)
+    → IfOk ended (λ s. (server : Endpoint) (sizes : Sizes) (w : Setup) → Leads server sizes w
+    → Tells json before after server sizes w give_up request s)
+told_as Leads json before after give_up request outcome (Ok s) becomes is written =
+    λ server sizes w led. (outcome, becomes server sizes w led, is, written)
+told_as Leads json before after give_up request outcome (Err stop) becomes is written = tt
+
+-- what is told of was asked
+pub asks_told : (json : Bool) (before after : Option (List ℕ)) (server : Endpoint) (sizes : Sizes) (setup : Setup)
+    (give_up : Option ℕ) (request : Request) (ended : Result Status Stop)
+    → IfOk ended (Tells json before after server sizes setup give_up request)
+    → IfOk ended (Asks server sizes setup give_up request)
+asks_told json before after server sizes setup give_up request (Ok s) h = (h.0, h.1, h.2)
+asks_told json before after server sizes setup give_up request (Err stop) h = tt
 
 -- by a client that began so
 pub began : (Leads : Endpoint → Sizes → Setup → Type 0) (Is : Endpoint → Sizes → Setup → Status → Type 0)

@@ -91,20 +91,20 @@ impl<'n, S: BuildHasher + Copy + Drop, A: Allocator + Copy> Standing for SixStan
     ghost stands = { λ s way peer addresses. IsOfSix s.own way peer addresses };
 
     fn addresses(&self, way: Way, peer: Endpoint) -> Option<Addresses> {
-        let peer = match peer.ip {
+        let six = match peer.ip {
             [0, ..] => endpoint_of(self.names.peer_of(&peer)?),
             _ => mapped(peer),
         };
         let (from, to) = match way {
-            Way::Goes => (self.own, peer),
-            Way::Comes => (peer, self.own),
+            Way::Goes => (self.own, six),
+            Way::Comes => (six, self.own),
         };
         Some(Addresses::V6 { from, to })
     }
 }
 
 /// Writes a record of each datagram on a writer, at once. Once a record could not be written whole, it writes none any
-/// more, so that what is behind its last whole record is never read as one.
+/// more, so that no record stands behind a part of one.
 #[derive(Drop)]
 pub struct CaptureTeller<P, A, T, W> {
     standing: P,
@@ -155,18 +155,22 @@ impl<P: Standing, A: Allocator + Copy, T: Timekeeper, W: Write> CaptureTeller<P,
         let Some(addresses) = self.standing.addresses(way, peer) else {
             return Err(io::Error::from(ErrorKind::AddrNotAvailable));
         };
-        record_bytes(self.alloc, at, &addresses, bytes).map_err(error_of)
+        match record_bytes(self.alloc, at, &addresses, bytes) {
+            Ok(record) => Ok(record),
+            Err(error) => Err(error_of(error)),
+        }
     }
 }
 
 impl<P: Standing, A: Allocator + Copy, T: Timekeeper, W: Write> Teller
     for CaptureTeller<P, A, T, W> {
-    ghost use Rattle.std.specs.Prelude.{◌≡◌, true};
+    ghost use Rattle.std.specs.Prelude.{◌≡◌, ◌⊎◌, true, false};
     ghost use Rattle.coap_commands.specs.Capturing.{IsCaptured};
 
     ghost tells = { λ t way peer bytes told u. (told ≡ true
         → IsCaptured (P.stands t.standing way peer) (W.contents t.out) (W.contents u.out) bytes)
-        × (t.is_torn ≡ true → u.out ≡ t.out) };
+        × (told ≡ false → (u.out ≡ t.out) ⊎ (u.is_torn ≡ true))
+        × (t.is_torn ≡ true → (told ≡ false) × (u.out ≡ t.out)) };
 
     fn tell(&mut self, way: Way, peer: Endpoint, bytes: &[u8]) -> io::Result<()> {
         if self.is_torn {

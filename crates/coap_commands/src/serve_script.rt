@@ -136,10 +136,12 @@ pub fn make_all<H: BuildHasher + Drop>(
     // A line that a server doesn't take is one of those that its script has.
     ensures bad { IfOk result (λ bad. IfSome bad (λ line. (1 ≤ line.0) × (line.0 ≤ length settings.now))) }
 {
-    for (before, setting) in settings.iter().enumerate() {
+    let mut made: usize = 0;
+    for setting in settings {
         if !make(server, setting)? {
-            return Ok(Some(BadLine(before + 1)));
+            return Ok(Some(BadLine(made + 1)));
         }
+        made += 1;
     }
     Ok(None)
 }

@@ -1,13 +1,10 @@
 //! Observing a path, and observing it anew where nothing comes for long or the server ended that (RFC 7641).
-ghost use Rattle.std.specs.Prelude.{◌≡◌, ◌+◌, ◌%◌, ◌^◌, ℕ, Option, [], true, false, Some, Ok, IfErr, IfNone, IfOk, IfSome};
-ghost use Rattle.std.specs.Prelude.{Err};
-ghost use Rattle.coap_layer.specs.declared.setup.Setup.{Setup as SetupSpec};
-ghost use Rattle.coap_client.specs.Led.{Led, State, Step};
-ghost use Rattle.coap_client.specs.Object.Shown.{number_of, shown_report};
+ghost use Rattle.std.specs.Prelude.{◌≡◌, ◌+◌, ℕ, Option, Result, true, false, IfNone, IfOk, IfSome};
+ghost use Rattle.coap_client.specs.Led.{State, Step};
+ghost use Rattle.coap_client.specs.Object.Shown.{shown_report};
 ghost use Rattle.coap_client.specs.Trace.{Report as ReportSpec, is_value};
 ghost use Rattle.coap_client.specs.Trace.{Observes as observes};
 ghost use Rattle.coap_commands.specs.Asks.{Turned, takes_report};
-ghost use Rattle.coap_commands.specs.Observes.{IsOver};
 ghost use Rattle.coap_commands.specs.Terms.{asked_terms, setup_of, sizes_of};
 ghost use Rattle.coap_commands.specs.Waiting.{HasPassed};
 ghost use Rattle.coap_commands.specs.Watches.{IsFollowed, IsLeft, IsLeftBy, IsNext, IsNoEnd, IsRegistered, Leaves};

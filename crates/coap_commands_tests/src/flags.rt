@@ -9,8 +9,20 @@ const NOT_TAKEN: &str = "error: unexpected argument '--trace' found";
 
 #[test]
 fn words_that_trace(rt: HostRuntime) -> Result<(), Fail> {
-    let rows: [(&[&str], &str); 12] = [
+    let rows: [(&[&str], &str); 18] = [
         (&["get", "5683", "t", "--trace"], "fine"),
+        (&["get", "5683", "t", "-v"], "fine"),
+        (&["serve", "-v", "5683", "1"], "fine"),
+        (&["ping", "5683", "-v"], "fine"),
+        (&["discover", "5683", "--trace"], "fine"),
+        (
+            &["get", "5683", "t", "-v", "--trace"],
+            "error: the argument '--trace' cannot be used multiple times",
+        ),
+        (
+            &["pair", "t", "hi", "-v"],
+            "error: unexpected argument '-v' found",
+        ),
         (&["put", "5683", "t", "hi", "--trace"], "fine"),
         (&["post", "--trace", "5683", "t", "hi"], "fine"),
         (&["delete", "5683", "t", "--trace"], "fine"),
@@ -43,9 +55,11 @@ fn traced(alloc: Global, words: &[&str]) -> Result<Option<bool>, AllocError> {
 
 #[test]
 fn traces_that_are_asked_for(rt: HostRuntime) -> Result<(), Fail> {
-    let rows: [(&[&str], bool); 4] = [
+    let rows: [(&[&str], bool); 6] = [
         (&["get", "5683", "t"], false),
         (&["get", "5683", "t", "--trace"], true),
+        (&["get", "5683", "t", "-v"], true),
+        (&["serve", "5683", "1", "-v"], true),
         (&["serve", "5683", "1"], false),
         (&["serve", "5683", "1", "--trace"], true),
     ];

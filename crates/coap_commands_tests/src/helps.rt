@@ -62,6 +62,8 @@ fn each_subcommand_has_an_example_that_is_an_order(rt: HostRuntime) -> Result<()
     check_example(&rt, "post")?;
     check_example(&rt, "delete")?;
     check_example(&rt, "observe")?;
+    check_example(&rt, "discover")?;
+    check_example(&rt, "ping")?;
     Ok(())
 }
 
@@ -69,8 +71,34 @@ fn each_subcommand_has_an_example_that_is_an_order(rt: HostRuntime) -> Result<()
 fn no_word_prints_the_subcommands_by_what_they_are_for(rt: HostRuntime) -> Result<(), Fail> {
     let help = said(&rt, &[])?;
     let text = str::from_utf8(help.as_slice())?;
-    assert!(rt; text.contains("Ask a server: get, put, post, delete, observe\n"));
+    assert!(rt; text.contains("Ask a server: get, put, post, delete, observe, discover, ping\n"));
     assert!(rt; text.contains("Serve: serve, answer\n"));
     assert!(rt; text.contains("Look: show, dump, pair, sim\n"));
+    Ok(())
+}
+
+#[test]
+fn a_subcommand_alone_prints_its_own_help(rt: HostRuntime) -> Result<(), Fail> {
+    let names = [
+        "show", "answer", "pair", "serve", "sim", "get", "put", "post", "delete", "observe",
+        "discover", "ping",
+    ];
+    for name in names {
+        let alone = said(&rt, &[name])?;
+        let help = said(&rt, &[name, "--help"])?;
+        assert_eq!(rt; alone.as_slice(), help.as_slice(), "at {name}");
+        let example = example_in(str::from_utf8(alone.as_slice())?);
+        assert!(rt; example.starts_with(name));
+    }
+    Ok(())
+}
+
+// A word that is none is answered by the nearest that is one.
+#[test]
+fn a_typo_is_answered_by_the_nearest_word(rt: HostRuntime) -> Result<(), Fail> {
+    let typo = said(&rt, &["gte"])?;
+    assert!(rt; str::from_utf8(typo.as_slice())?.contains("'get'"));
+    let typo = said(&rt, &["get", "5683", "t", "--tarce"])?;
+    assert!(rt; str::from_utf8(typo.as_slice())?.contains("'--trace'"));
     Ok(())
 }

@@ -55,6 +55,8 @@ mod serving;
 #[cfg(test)]
 mod sizes;
 #[cfg(test)]
+mod telling;
+#[cfg(test)]
 mod tracing;
 #[cfg(test)]
 mod uris;

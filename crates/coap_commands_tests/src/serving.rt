@@ -28,7 +28,7 @@ const NO_DELAY: &str =
 
 const NO_COUNT: &str = "COUNT is neither forever nor a number from 0 to 18446744073709551615";
 
-const NO_ADDRESS: &str = "--address is no IPv4 address, as 192.0.2.1; a name is none";
+const NO_ADDRESS: &str = "--address is no IP address, as 192.0.2.1 or ::; a name is none";
 
 const TOO_LONG: &str = "1/2/3/4/5/6/7/8/9/10/11/12/13/14/15/16/17";
 

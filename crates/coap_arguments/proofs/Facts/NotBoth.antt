@@ -1,4 +1,4 @@
--- Words that say where the ends of a run stand, or how often a body is asked for, have nothing wrong in this.
+-- Words that say where the ends of a run stand have nothing wrong in this.
 use Rattle.std.proofs.Common.{◌≡◌, ◌∙◌, ap, sym, subst, inl, inr, Option, unwrap_or, List, codes}
 use Rattle.std.specs.Net.Addr.{ipv4_octets}
 use Rattle.std.specs.Net.Socket.{v4_ip, v4_port}
@@ -6,14 +6,11 @@ use Rattle.std.specs.declared.net.socket_addr.SocketAddrV4.{SocketAddrV4}
 use Rattle.std.proofs.NetLemmas.Theorems.{IsSocketV4Text_unique}
 use Rattle.clap.specs.Words.{Row, Text}
 use Rattle.coap_types.specs.declared.endpoint.Endpoint.{Endpoint}
-use Rattle.coap_arguments.specs.Asking.{AreApart, GoTogether}
 use Rattle.coap_arguments.specs.Ends.{AreNoEnds, HasEndpoint, HasEnds, HasNoEndpoint, IsEndpointText, usual_client}
 use Rattle.coap_arguments.specs.Ends.{usual_server}
 use Rattle.coap_arguments.specs.Values.{IsValue}
 use Rattle.coap_arguments.specs.declared.refusals.EndsRefusal.{EndsRefusal}
 use Rattle.coap_arguments.specs.declared.refusals.EndsRefusal.TheVariants.{Client, Server, Same}
-use Rattle.coap_arguments.specs.declared.refusals.TogetherRefusal.{TogetherRefusal}
-use Rattle.coap_arguments.specs.declared.refusals.TogetherRefusal.TheVariants as together
 
 -- a text is that of one endpoint at most
 one_endpoint : (text : Text) (e f : Endpoint) → IsEndpointText text e → IsEndpointText text f → e ≡ f
@@ -49,9 +46,3 @@ ends_or_not Server values client server has none = endpoint_or_not (codes "serve
 ends_or_not Same values client server has (both, one, other) =
     has.2 (has_one (codes "client") usual_client values client both has.0 one
     ∙ sym (has_one (codes "server") usual_server values server both has.1 other))
-
-pub together_or_apart : (why : TogetherRefusal) (values : List Row) → GoTogether values → AreApart why values → ⊥
-together_or_apart together.Count values (inl none) apart = absurd (cc (sym none.1 ∙ apart.2))
-together_or_apart together.Count values (inr some) apart = absurd (cc (sym apart.0 ∙ some.1))
-together_or_apart together.Etag values (inl none) apart = absurd (cc (sym none.0 ∙ apart.2))
-together_or_apart together.Etag values (inr some) apart = absurd (cc (sym some.2 ∙ apart.3))

@@ -1,6 +1,6 @@
 use Rattle.std.proofs.Common.{refl, inl, inr, ◌≡◌, ℕ, List, codes}
 use Rattle.coap_arguments.proofs.ClapWords.{enters_met, ours, said_by, wrong_by, show_hex, answer_hex, answer_path}
-use Rattle.coap_arguments.proofs.ClapWords.{answer_body, ask_port, pair_body, pair_path, serve_port}
+use Rattle.coap_arguments.proofs.ClapWords.{answer_body, pair_body, pair_path, serve_port, server_port}
 use Rattle.coap_arguments.proofs.ClapWords.{IsOurs, refused_by_clap, sim_file, takes_its_own}
 use Rattle.coap_arguments.specs.Asking.{IsAsk}
 use Rattle.coap_arguments.proofs.words.order_of.Goals as goal
@@ -24,7 +24,10 @@ pub returns-in-dump : goal.returns-in-dump
 returns-in-dump c =
     let enters = enters_met _ c.in_ok-coap_command.ensures _ _ c.in_ok-matches.ensures.matches
     c.in_ok-matches.ensures.kinds _ _ _ c.in-dump.is c.in-Some.ensures.name c.in-Some.ensures.rows in
-    record { ok = inr (codes "dump", _, enters, refl); wrong = tt }
+    record {
+      ok = said_by _ _ _ c.dump_order.result enters c.dump_order.ensures;
+      wrong = wrong_by _ _ _ c.dump_order.result enters c.dump_order.ensures;
+    }
 
 pub answer_order-requires : goal.answer_order-requires
 answer_order-requires c =
@@ -86,6 +89,36 @@ returns-in-sim c =
       wrong = wrong_by _ _ _ c.sim_order.result enters c.sim_order.ensures;
     }
 
+pub discover_order-requires : goal.discover_order-requires
+discover_order-requires c =
+    let enters = enters_met _ c.in_ok-coap_command.ensures _ _ c.in_ok-matches.ensures.matches
+    c.in_ok-matches.ensures.kinds _ _ _ c.in-discover.is c.in-Some.ensures.name c.in-Some.ensures.rows in
+    record { port = server_port _ _ _ (inr (inl refl)) enters; own = takes_its_own _ _ _ enters }
+
+pub returns-in-discover : goal.returns-in-discover
+returns-in-discover c =
+    let enters = enters_met _ c.in_ok-coap_command.ensures _ _ c.in_ok-matches.ensures.matches
+    c.in_ok-matches.ensures.kinds _ _ _ c.in-discover.is c.in-Some.ensures.name c.in-Some.ensures.rows in
+    record {
+      ok = said_by _ _ _ c.discover_order.result enters c.discover_order.ensures;
+      wrong = wrong_by _ _ _ c.discover_order.result enters c.discover_order.ensures;
+    }
+
+pub ping_order-requires : goal.ping_order-requires
+ping_order-requires c =
+    let enters = enters_met _ c.in_ok-coap_command.ensures _ _ c.in_ok-matches.ensures.matches
+    c.in_ok-matches.ensures.kinds _ _ _ c.in-ping.is c.in-Some.ensures.name c.in-Some.ensures.rows in
+    record { port = server_port _ _ _ (inl refl) enters; own = takes_its_own _ _ _ enters }
+
+pub returns-in-ping : goal.returns-in-ping
+returns-in-ping c =
+    let enters = enters_met _ c.in_ok-coap_command.ensures _ _ c.in_ok-matches.ensures.matches
+    c.in_ok-matches.ensures.kinds _ _ _ c.in-ping.is c.in-Some.ensures.name c.in-Some.ensures.rows in
+    record {
+      ok = said_by _ _ _ c.ping_order.result enters c.ping_order.ensures;
+      wrong = wrong_by _ _ _ c.ping_order.result enters c.ping_order.ensures;
+    }
+
 pub returns-in_err-matches-clause-wrong : goal.returns-in_err-matches-clause-wrong
 returns-in_err-matches-clause-wrong c =
     refused_by_clap _ c.in_ok-coap_command.ensures _ _ _ c.requires c.from_residual-in_err-matches.ensures.1
@@ -93,14 +126,16 @@ returns-in_err-matches-clause-wrong c =
 
 is_ask : (name : List ℕ) → IsOurs name → (name ≡ codes "show" → ⊥) → (name ≡ codes "answer" → ⊥)
     → (name ≡ codes "pair" → ⊥) → (name ≡ codes "serve" → ⊥) → (name ≡ codes "sim" → ⊥) → (name ≡ codes "dump" → ⊥)
-    → IsAsk name
-is_ask name (inl is) a b c d e f = absurd (a is)
-is_ask name (inr (inl is)) a b c d e f = absurd (b is)
-is_ask name (inr (inr (inl is))) a b c d e f = absurd (c is)
-is_ask name (inr (inr (inr (inl is)))) a b c d e f = absurd (d is)
-is_ask name (inr (inr (inr (inr (inl is))))) a b c d e f = absurd (e is)
-is_ask name (inr (inr (inr (inr (inr (inl is)))))) a b c d e f = absurd (f is)
-is_ask name (inr (inr (inr (inr (inr (inr is)))))) a b c d e f = is
+    → (name ≡ codes "discover" → ⊥) → (name ≡ codes "ping" → ⊥) → IsAsk name
+is_ask name (inl is) a b c d e f g h = absurd (a is)
+is_ask name (inr (inl is)) a b c d e f g h = absurd (b is)
+is_ask name (inr (inr (inl is))) a b c d e f g h = absurd (c is)
+is_ask name (inr (inr (inr (inl is)))) a b c d e f g h = absurd (d is)
+is_ask name (inr (inr (inr (inr (inl is))))) a b c d e f g h = absurd (e is)
+is_ask name (inr (inr (inr (inr (inr (inl is)))))) a b c d e f g h = absurd (f is)
+is_ask name (inr (inr (inr (inr (inr (inr (inl is))))))) a b c d e f g h = absurd (h is)
+is_ask name (inr (inr (inr (inr (inr (inr (inr (inl is)))))))) a b c d e f g h = absurd (g is)
+is_ask name (inr (inr (inr (inr (inr (inr (inr (inr is)))))))) a b c d e f g h = is
 
 pub ask_order-requires : goal.ask_order-requires
 ask_order-requires c =
@@ -108,10 +143,10 @@ ask_order-requires c =
     c.in_ok-matches.ensures.kinds _ _ _ refl c.in-Some.ensures.name c.in-Some.ensures.rows in
     let d = c.in_default-subcommand in
     let ask = is_ask _ (ours _ _ _ enters) d.not-show d.not-answer d.not-pair d.not-serve d.not-sim
-    d.not-dump in
+    d.not-dump d.not-discover d.not-ping in
     record {
       name = ask;
-      port = ask_port _ _ _ ask enters;
+      port = server_port _ _ _ (inr (inr ask)) enters;
       own = takes_its_own _ _ _ enters;
     }
 

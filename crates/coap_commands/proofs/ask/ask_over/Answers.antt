@@ -2,7 +2,7 @@ use Rattle.std.proofs.Common.{[], subst}
 use Rattle.coap_layer.specs.declared.setup.Setup.{Setup}
 use Rattle.coap_client.specs.Led.{Led}
 use Rattle.coap_client.specs.Object.CallShown.{shown_request}
-use Rattle.coap_commands.specs.Asks.{Asks}
+use Rattle.coap_commands.specs.JsonLines.{Tells}
 use Rattle.coap_commands.specs.Terms.{setup_of, sizes_of}
 use Rattle.coap_commands.proofs.WhatBecomes.{began}
 use Rattle.coap_commands.proofs.ask.ask_over.Goals as goal
@@ -10,8 +10,10 @@ use Rattle.coap_commands.proofs.ask.ask_over.Goals as goal
 pub returns : goal.returns
 returns g c =
     let terms = c.args.terms.now in
+    let contents = g.O.Write.contents in
     began (λ server sizes w. Led server sizes w [] c.fresh_client-client.result)
-    (λ server sizes w. Asks server sizes w terms.give_up (shown_request c.args.request))
+    (λ server sizes w. Tells terms.json (contents c.args.out.now) (contents c.ask_and_tell-ended.new.out) server sizes w
+    terms.give_up (shown_request c.args.request))
     c.ask_and_tell-ended.result c.args.server (sizes_of terms) (setup_of terms)
     (subst (λ (w : Setup). Led c.args.server (sizes_of terms) w [] c.fresh_client-client.result) c.setup.ensures
     c.fresh_client-client.ensures) c.ask_and_tell-ended.ensures

@@ -11,5 +11,5 @@ pub returns-then-branch-clause-more : goal.returns-then-branch-clause-more
 returns-then-branch-clause-more g c = λ options begin s h.
     observed_value options begin c.args.id.0 c.args.values.now c.saturating_add.result (shown_report c.in-Some.report) s
     _ _ h
-    c.in-Some.ensures.some (sym c.in_ok-print_value.ensures ∙ c.if-branch.true)
+    c.in-Some.ensures.some (sym c.in_ok-print_value.ensures.value ∙ c.if-branch.true)
     (omega (arith, c.saturating_add.ensures))

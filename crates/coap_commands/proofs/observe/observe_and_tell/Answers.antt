@@ -8,4 +8,4 @@ pub returns : goal.returns
 returns g c =
     told (λ server sizes w. Led server sizes w [] c.args.client.now)
     (λ server sizes w. ObserveBecomes server sizes w c.args.path.now c.args.options.now) observed_status
-    c.in_ok-outcome.outcome c.tell.result c.in_ok-outcome.ensures c.tell.ensures
+    c.in_ok-outcome.outcome c.tell.result c.in_ok-outcome.ensures c.tell.ensures.status
