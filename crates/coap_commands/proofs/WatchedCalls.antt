@@ -1,6 +1,5 @@
 -- What becomes of a path that is observed anew, from the calls of its clients to the status of the program.
 use Rattle.std.proofs.Common.{◌≡◌, ◌+◌, ◌∙◌, ◌↔◌, ℕ, Bool, List, Option, Some, None, ap, refl, sym, subst, true, false}
-use Rattle.std.proofs.Common.{is_none}
 use Rattle.std.specs.declared.alloc.Global.{Global}
 use Rattle.coap_types.specs.declared.endpoint.Endpoint.{Endpoint}
 use Rattle.coap_types.specs.declared.endpoint.Moment.{Moment}
@@ -115,26 +114,18 @@ left_by options again since number values heard now s t r ended h is =
 
 -- ---- one registration after the other
 
-pub follows_none : (again begin : ℕ) (v : Option Status) (next : ℕ) → is_none v ≡ true → HasPassed again begin next
-    → Follows again begin v next
-follows_none again begin None next is h = h
-follows_none again begin (Some s) next is h = tt
-
-pub follows_some : (again begin : ℕ) (v : Option Status) (next : ℕ) → is_none v ≡ false → Follows again begin v next
-follows_some again begin None next is = absurd (cc is)
-follows_some again begin (Some s) next is = tt
-
-pub followed : (options : AskOptions) (again : ℕ) (since since_now : Moment) (begin : ℕ) (ended : Left) (values : ℕ)
-    (v : Option Status) (now : ℕ) (is_over : Bool) (next : ℕ) → since_now ≡ since
-    → ((is_over ≡ true) ↔ IsOver options since_now.0 values now) → v ≡ verdict ended is_over
-    → Follows again begin v next → IsFollowed options again since.0 begin ended values v values next
-followed options again since since_now begin ended values v now is_over next same over is follows = (
+pub followed : (options : AskOptions) (again : ℕ) (since : Moment) (begin : ℕ) (ended : Left) (heard after : Heard)
+    (v w : Option Status) (now : ℕ) (is_over : Bool) → heard.since ≡ since
+    → ((is_over ≡ true) ↔ IsOver options heard.since.0 heard.values now) → v ≡ verdict ended is_over
+    → (w ≡ v) × Follows again begin v after.last.0 → after.values ≡ heard.values
+    → IsFollowed options again since.0 begin ended heard.values w after.values after.last.0
+followed options again since begin ended heard after v w now is_over same over is follows values = (
   now,
   is_over,
-  subst (λ (m : Moment). (is_over ≡ true) ↔ IsOver options m.0 values now) same over,
-  is,
-  refl,
-  follows,
+  subst (λ (m : Moment). (is_over ≡ true) ↔ IsOver options m.0 heard.values now) same over,
+  follows.0 ∙ is,
+  values,
+  subst (λ (o : Option Status). Follows again begin o after.last.0) (sym follows.0) follows.1,
 )
 
 module _ (IsServer : Endpoint → Type 0) (word : ℕ) (path : List (List ℕ)) (options : AskOptions) (again : ℕ) where
