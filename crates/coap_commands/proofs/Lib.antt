@@ -3,9 +3,6 @@ pub mod CapturedPackets
 pub mod ObservedCalls
 pub mod PairCalls
 pub mod PolledCalls
-pub mod RightEnds
-pub mod RightUris
-pub mod RightWords
 pub mod ScriptCalls
 pub mod ServedCalls
 pub mod SettingUpCalls
@@ -13,4 +10,3 @@ pub mod Statuses
 pub mod TurnCalls
 pub mod WatchedCalls
 pub mod WhatBecomes
-pub mod WhoTakes

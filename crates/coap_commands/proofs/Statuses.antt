@@ -1,4 +1,4 @@
--- What is wrong in words is one thing, and with which status it is answered.
+-- With which status words are answered that ask for an order, or have something wrong.
 use Rattle.std.proofs.Common.{◌≡◌, ◌≢◌, ◌∙◌, inl, inr, ap, sym, subst, ℕ, ◌≤◌, List, [], ◌∷◌, Option, None, Some}
 use Rattle.std.proofs.Common.{codes, refl, ◌⊎◌, arith, Result, Ok, Err, IfOk}
 use Rattle.std.specs.Borrow.{Bor}
@@ -22,7 +22,7 @@ use Rattle.coap_commands.specs.declared.calling.Outcome.TheVariants as outcome
 use Rattle.coap_commands.specs.Statuses.{CarriesOut, Ends, IsAnswered, IsCarriedOut, IsCarriedTo, IsTold, ReadsText}
 use Rattle.coap_commands.specs.Statuses.{status_of}
 use Rattle.coap_scripts.specs.StatusNumbers.{status_number}
-use Rattle.coap_arguments.specs.Words.{AsksFor, EntersWrong, IsWrong, IsWrongIn}
+use Rattle.coap_arguments.specs.Words.{AsksFor, EntersWrong, IsWrong}
 use Rattle.coap_scripts.specs.declared.status.Status.{Status}
 use Rattle.coap_scripts.specs.declared.status.Status.TheVariants as status
 use Rattle.coap_scripts.specs.declared.status.Stop.{Stop}
@@ -40,70 +40,7 @@ use Rattle.coap_arguments.specs.declared.orders.Wrong.TheVariants.{Words, Path, 
 use Rattle.coap_arguments.specs.declared.orders.Wrong.TheVariants.{Setting, Body, Store, Plains, Ends as NoEnds}
 use Rattle.coap_arguments.specs.declared.orders.Wrong.TheVariants.{Together, NoPath, Uri, Beside, Hex, Memory}
 use Rattle.coap_commands.proofs.PairCalls.{paired_carried}
-use Rattle.coap_commands.proofs.RightEnds.{not_ends, not_together}
-use Rattle.coap_commands.proofs.RightUris.{not_beside, not_no_path, not_uri}
-use Rattle.coap_commands.proofs.RightWords.{none_wrong, not_plains, not_path, not_number, not_word, not_address}
-use Rattle.coap_commands.proofs.RightWords.{not_size, not_tags, not_setting, not_body, not_store, not_hex}
-use Rattle.coap_commands.proofs.WhoTakes.{enters_one, differ, path_or_not, not_refused, sends_none, show_asks_none}
-use Rattle.coap_commands.proofs.WhoTakes.{answer_asks_none, takes_none, makes_none, counts_none, addresses_none}
-use Rattle.coap_commands.proofs.WhoTakes.{tags_none, hexless, asks_hexless, plain_hexless}
-
--- ---- one wrong: bad hex and nothing else
-
--- what takes HEX takes none of what else can be wrong in a value
-not_both : (wrong : Wrong) (name : Text) (v : List Row) → IsWrongIn name v Hex → IsWrongIn name v wrong
-    → (wrong ≡ Hex) ⊎ (wrong ≡ Memory)
-not_both (Words error) name v bad is = absurd is
-not_both (Path why) name v (fine, none) (inl wrong) = elim fine [
-  | inl shows ↦ absurd (takes_none (codes "show") name v show_asks_none refl refl shows wrong.0)
-  | inr h ↦ absurd (path_or_not v h.1 why h.2 h.3 wrong.1)
-]
-not_both (Path why) name v (fine, none) (inr wrong) = absurd (plain_hexless name v wrong.0 fine)
-not_both (Number why) name v (fine, none) (takes, other) = elim fine [
-  | inl shows ↦ absurd (counts_none (codes "show") name why show_asks_none refl refl (λ e. refl) shows takes)
-  | inr h ↦ absurd (counts_none (codes "answer") name why answer_asks_none refl refl (λ e. refl) h.0 takes)
-]
-not_both Word name v (fine, none) (takes, other) = elim fine [
-  | inl shows ↦ absurd (makes_none (codes "show") name show_asks_none refl refl shows takes)
-  | inr h ↦ absurd (makes_none (codes "answer") name answer_asks_none refl refl h.0 takes)
-]
-not_both (Address why) name v (fine, none) (takes, other) = elim fine [
-  | inl shows ↦ absurd (addresses_none (codes "show") name why show_asks_none refl shows takes)
-  | inr h ↦ absurd (addresses_none (codes "answer") name why answer_asks_none refl h.0 takes)
-]
-not_both Size name v (fine, none) (asks, other) = absurd (asks_hexless name v asks fine)
-not_both (Tags why) name v (fine, none) (takes, other) = elim fine [
-  | inl shows ↦ absurd (tags_none (codes "show") name why show_asks_none shows takes)
-  | inr h ↦ absurd (tags_none (codes "answer") name why answer_asks_none h.0 takes)
-]
-not_both (Setting why) name v (fine, none) (serves, other) = absurd (hexless (codes "serve") name v refl refl serves
-    fine)
-not_both Body name v (fine, none) (sends, word, is, other) = elim fine [
-  | inl shows ↦ absurd (sends_none (codes "show") name refl refl shows sends)
-  | inr h ↦ absurd (sends_none (codes "answer") name refl refl h.0 sends)
-]
-not_both Store name v (fine, none) (sim, other) = elim fine [
-  | inl shows ↦ absurd (differ (codes "sim") (codes "show") name refl sim shows)
-  | inr h ↦ absurd (differ (codes "sim") (codes "answer") name refl sim h.0)
-]
-not_both Plains name v (fine, none) (takes, other) = absurd (plain_hexless name v takes fine)
-not_both (NoEnds why) name v (fine, none) (sim, other) = absurd (hexless (codes "sim") name v refl refl sim fine)
-not_both (Together why) name v (fine, none) (get, other) = absurd (hexless (codes "get") name v refl refl get fine)
-not_both NoPath name v (fine, none) (asks, uriless, other) = absurd (asks_hexless name v asks fine)
-not_both (Uri why) name v (fine, none) (asks, text, rest, uri, other) =
-    absurd (asks_hexless name v asks fine)
-not_both (Beside why) name v (fine, none) (asks, text, rest, uri, other) =
-    absurd (asks_hexless name v asks fine)
-not_both Hex name v bad is = inl refl
-not_both Memory name v bad is = inr refl
-
--- words that are wrong in two ways enter one subcommand
-both_wrong : (words : List Text) (wrong : Wrong) → EntersWrong words Hex → EntersWrong words wrong
-    → (wrong ≡ Hex) ⊎ (wrong ≡ Memory)
-both_wrong words wrong (own, v, e, bad) (name, u, f, is) =
-    let one = enters_one words own name v u e f in
-    not_both wrong name u
-    (subst (λ (n : Text). IsWrongIn n u Hex) one.0 (subst (λ (r : List Row). IsWrongIn own r Hex) one.1 bad)) is
+use Rattle.coap_arguments.proofs.Facts.OneAnswer.{hex_or_wrong, order_or_wrong}
 
 -- ---- the statuses
 
@@ -158,63 +95,18 @@ with_4 Hex n is = inr (inr is)
 with_4 Memory n is = tt
 
 -- bad hex that can't be printed, and nothing else is wrong
-hex_alone : (words : List Text) (wrong : Wrong) (n : ℕ) → EntersWrong words Hex → EntersWrong words wrong → n ≡ 3
+with_3 : (words : List Text) (wrong : Wrong) (n : ℕ) → EntersWrong words Hex → IsWrong words wrong → n ≡ 3
     → IsAnswered wrong n
-hex_alone words wrong n bad is three = elim (both_wrong words wrong bad is) [
+with_3 words wrong n bad is three = elim (hex_or_wrong words wrong bad is) [
   | inl hex ↦ subst (λ (w : Wrong). IsAnswered w n) (sym hex) (inr (inl three))
   | inr memory ↦ subst (λ (w : Wrong). IsAnswered w n) (sym memory) tt
 ]
 
-with_3 : (words : List Text) (wrong : Wrong) (n : ℕ) → EntersWrong words Hex → IsWrong words wrong → n ≡ 3
-    → IsAnswered wrong n
-with_3 words (Words error) n (name, v, e, bad) is three = absurd (not_refused words error e.taken is)
-with_3 words (Path why) n bad is three = hex_alone words (Path why) n bad is three
-with_3 words (Number why) n bad is three = hex_alone words (Number why) n bad is three
-with_3 words Word n bad is three = hex_alone words Word n bad is three
-with_3 words (Address why) n bad is three = hex_alone words (Address why) n bad is three
-with_3 words Size n bad is three = hex_alone words Size n bad is three
-with_3 words (Tags why) n bad is three = hex_alone words (Tags why) n bad is three
-with_3 words (Setting why) n bad is three = hex_alone words (Setting why) n bad is three
-with_3 words Body n bad is three = hex_alone words Body n bad is three
-with_3 words Store n bad is three = hex_alone words Store n bad is three
-with_3 words Plains n bad is three = hex_alone words Plains n bad is three
-with_3 words (NoEnds why) n bad is three = hex_alone words (NoEnds why) n bad is three
-with_3 words (Together why) n bad is three = hex_alone words (Together why) n bad is three
-with_3 words NoPath n bad is three = hex_alone words NoPath n bad is three
-with_3 words (Uri why) n bad is three = hex_alone words (Uri why) n bad is three
-with_3 words (Beside why) n bad is three = hex_alone words (Beside why) n bad is three
-with_3 words Hex n bad is three = inr (inl three)
-with_3 words Memory n bad is three = tt
-
+-- an order is asked for, and nothing is wrong
 order_answered : (words : List Text) (order : Order) (wrong : Wrong) (n : ℕ) → AsksFor words order → IsWrong words wrong
     → IsAnswered wrong n
-order_answered words order (Words error) n (inl version) is = absurd (is.0 version.0)
-order_answered words order (Words error) n (inr (name, v, e, asks)) is = absurd (not_refused words error e.taken is)
-order_answered words order (Path why) n asks is = absurd (none_wrong words order (Path why) (not_path order why) asks
-    is)
-order_answered words order (Number why) n asks is =
-    absurd (none_wrong words order (Number why) (not_number order why) asks is)
-order_answered words order Word n asks is = absurd (none_wrong words order Word (not_word order) asks is)
-order_answered words order (Address why) n asks is =
-    absurd (none_wrong words order (Address why) (not_address order why) asks is)
-order_answered words order Size n asks is = absurd (none_wrong words order Size (not_size order) asks is)
-order_answered words order (Tags why) n asks is = absurd (none_wrong words order (Tags why) (not_tags order why) asks
-    is)
-order_answered words order (Setting why) n asks is =
-    absurd (none_wrong words order (Setting why) (not_setting order why) asks is)
-order_answered words order Body n asks is = absurd (none_wrong words order Body (not_body order) asks is)
-order_answered words order Store n asks is = absurd (none_wrong words order Store (not_store order) asks is)
-order_answered words order Plains n asks is = absurd (none_wrong words order Plains (not_plains order) asks is)
-order_answered words order (NoEnds why) n asks is =
-    absurd (none_wrong words order (NoEnds why) (not_ends order why) asks is)
-order_answered words order (Together why) n asks is =
-    absurd (none_wrong words order (Together why) (not_together order why) asks is)
-order_answered words order NoPath n asks is = absurd (none_wrong words order NoPath (not_no_path order) asks is)
-order_answered words order (Uri why) n asks is = absurd (none_wrong words order (Uri why) (not_uri order why) asks is)
-order_answered words order (Beside why) n asks is =
-    absurd (none_wrong words order (Beside why) (not_beside order why) asks is)
-order_answered words order Hex n asks is = absurd (none_wrong words order Hex (not_hex order) asks is)
-order_answered words order Memory n asks is = tt
+order_answered words order wrong n asks is =
+    subst (λ (w : Wrong). IsAnswered w n) (sym (order_or_wrong words order wrong asks is)) tt
 
 wrong_answered : (words : List Text) (ended : Result Status Stop) (own wrong : Wrong) → IsWrong words own
     → IsTold own ended → IsWrong words wrong → IsAnswered wrong (number ended)

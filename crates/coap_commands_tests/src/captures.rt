@@ -104,7 +104,7 @@ fn captures_that_are_drawn(rt: HostRuntime) -> Result<(), Fail> {
     assert_eq!(rt; shown(rt.alloc(), &bytes, true, &mut told)?, 0);
     let wanted = concat!(
         "      ms 192.0.2.1:40001                                                           192.0.2.200:5683\n",
-        "       0 |--- CON 0.00 0001 [] Empty                                                         --->|\n",
+        "       0 |--- CON 0.00 0001 [] Empty                                                          --->|\n",
         "      10 |<---                                                          RST 0.00 0001 [] Empty ---|\n",
     );
     assert_eq!(rt; told.as_slice(), wanted.as_bytes());

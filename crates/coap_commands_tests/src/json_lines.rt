@@ -33,7 +33,7 @@ fn what_is_told_in_json(rt: HostRuntime) -> Result<(), Fail> {
             CONTENT,
             (
                 0,
-                "{\"ms\":30,\"report\":\"body\",\"code\":\"2.05\",\"etag\":null,\"format\":0,\"bytes\":2,\"text\":\"hi\"}\n",
+                "{\"ms\":40,\"report\":\"body\",\"code\":\"2.05\",\"etag\":null,\"format\":0,\"bytes\":2,\"text\":\"hi\"}\n",
             ),
         ),
         (
@@ -42,7 +42,7 @@ fn what_is_told_in_json(rt: HostRuntime) -> Result<(), Fail> {
             NO_TEXT,
             (
                 0,
-                "{\"ms\":30,\"report\":\"body\",\"code\":\"2.05\",\"etag\":null,\"format\":null,\"bytes\":2,\"hex\":\"ff00\"}\n",
+                "{\"ms\":40,\"report\":\"body\",\"code\":\"2.05\",\"etag\":null,\"format\":null,\"bytes\":2,\"hex\":\"ff00\"}\n",
             ),
         ),
         (
@@ -51,7 +51,7 @@ fn what_is_told_in_json(rt: HostRuntime) -> Result<(), Fail> {
             NO_BODY,
             (
                 0,
-                "{\"ms\":30,\"report\":\"body\",\"code\":\"2.05\",\"etag\":\"0a01\",\"format\":null,\"bytes\":0,\"text\":\"\"}\n",
+                "{\"ms\":40,\"report\":\"body\",\"code\":\"2.05\",\"etag\":\"0a01\",\"format\":null,\"bytes\":0,\"text\":\"\"}\n",
             ),
         ),
         (
@@ -60,7 +60,7 @@ fn what_is_told_in_json(rt: HostRuntime) -> Result<(), Fail> {
             QUOTES,
             (
                 0,
-                "{\"ms\":30,\"report\":\"body\",\"code\":\"2.05\",\"etag\":null,\"format\":null,\"bytes\":4,\"text\":\"\\\"\\\\\\u0000\\n\"}\n",
+                "{\"ms\":40,\"report\":\"body\",\"code\":\"2.05\",\"etag\":null,\"format\":null,\"bytes\":4,\"text\":\"\\\"\\\\\\u0000\\n\"}\n",
             ),
         ),
         (
@@ -69,26 +69,26 @@ fn what_is_told_in_json(rt: HostRuntime) -> Result<(), Fail> {
             VALID,
             (
                 1,
-                "{\"ms\":30,\"report\":\"valid\",\"code\":\"2.03\",\"etag\":\"0a01\"}\n",
+                "{\"ms\":40,\"report\":\"valid\",\"code\":\"2.03\",\"etag\":\"0a01\"}\n",
             ),
         ),
         (
             &["get", "5683", "t", "--json"],
             GET,
             NOT_FOUND,
-            (1, "{\"ms\":30,\"report\":\"failed\",\"code\":\"4.04\"}\n"),
+            (1, "{\"ms\":40,\"report\":\"failed\",\"code\":\"4.04\"}\n"),
         ),
         (
             &["put", "5683", "t", "hi", "--json"],
             PUT,
             CHANGED,
-            (0, "{\"ms\":30,\"report\":\"done\",\"code\":\"2.04\"}\n"),
+            (0, "{\"ms\":40,\"report\":\"done\",\"code\":\"2.04\"}\n"),
         ),
         (
             &["put", "5683", "t", "hi", "--json"],
             PUT,
             RESET,
-            (1, "{\"ms\":30,\"report\":\"reset\"}\n"),
+            (1, "{\"ms\":40,\"report\":\"reset\"}\n"),
         ),
         // What a client doesn't take.
         (

@@ -70,7 +70,7 @@ fn words_of_a_uri_of_a_server(rt: HostRuntime) -> Result<(), Fail> {
         (&["ping", "coap://localhost", "--count", "3"], "fine"),
         (&["discover", "coap://127.0.0.1:5684/"], "fine"),
         (&["discover", "coap://[fe80::1%2]"], "fine"),
-        (&["discover", "coap://127.0.0.1/a/.."], PATH),
+        (&["discover", "coap://127.0.0.1/a/.."], "fine"),
         (&["ping", "coap://127.0.0.1/t"], PATH),
         (&["discover", "coap://127.0.0.1/.well-known/core"], PATH),
         (&["discover", "coap://127.0.0.1//"], PATH),

@@ -1,18 +1,23 @@
 -- A line says one setting at most, and none where its word or what follows is not as it has to be.
 use Rattle.std.proofs.Common.{◌≡◌, ◌≢◌, ◌⊎◌, ◌∙◌, ap, sym, refl, subst, ℕ, Bool, true, false, ◌<◌, ◌≤◌, ◌^◌, List, [], ◌∷◌}
-use Rattle.std.proofs.Common.{◌++◌, Result, Ok, Err, IfOk, IfErr, inl, inr, arith, codes}
+use Rattle.std.proofs.Common.{◌++◌, ◌+◌, inl, inr, arith, map, length, true≢false}
 use Rattle.std.proofs.lemmas.List.Elements.{All-head, All-tail}
 use Rattle.coap_types.specs.declared.body_limit.TheConstants.{MAX_BODY_LIMIT as max_body_limit}
 use Rattle.coap_arguments.specs.PathText.{IsNoPath}
-use Rattle.coap_scripts.specs.Script.{Begins}
+use Rattle.std.proofs.lemmas.List.{length-map}
+use Rattle.coap_scripts.specs.Script.{Begins, lines_of}
+use Rattle.coap_scripts.specs.ScriptRefusals.{of_line}
 use Rattle.coap_scripts.specs.ScriptWords.{IsCut, IsWord, Lacks, SaysNumber}
 use Rattle.coap_scripts.specs.Settings.{NamesPath, SaysContent, SaysDelay, SaysFront, SaysHold, SaysLimit}
-use Rattle.coap_scripts.specs.Settings.{SaysNoSetting, SaysPlain, SaysSetting, Setting, is_comment, setting_word}
+use Rattle.coap_scripts.specs.Settings.{IsFirstBad, SaysNoSetting, SaysPlain, SaysSetting, Setting, is_comment, setting_word}
 use Rattle.coap_scripts.specs.Settings.{Nothing, Hold, Delay, Plain, Limit}
 use Rattle.coap_scripts.specs.declared.script.refusal.LineRefusal.{LineRefusal}
 use Rattle.coap_scripts.specs.declared.script.refusal.LineRefusal.TheVariants as refusal
 use Rattle.coap_scripts.specs.declared.script.setting_words.SettingKind.{SettingKind}
 use Rattle.coap_scripts.specs.declared.script.setting_words.SettingKind.TheVariants as kind
+use Rattle.coap_scripts.specs.declared.script.refusal.ScriptRefusal.{ScriptRefusal}
+use Rattle.coap_scripts.specs.declared.script.refusal.ScriptRefusal.TheVariants as script
+use Rattle.coap_scripts.proofs.ScriptLines.{IsFirst, Reads, as_many, first_line}
 use Rattle.coap_scripts.proofs.ScriptWords.{cut_has}
 
 -- ---- a text is cut in one way
@@ -56,52 +61,57 @@ SaysNone kind.Delay rest = (path : List (List ℕ)) (ms : ℕ) → SaysDelay pat
 SaysNone kind.Plain rest = (path : List (List ℕ)) → SaysPlain path rest → ⊥
 SaysNone kind.Limit rest = (most : ℕ) → SaysLimit most rest → ⊥
 
+-- the words differ in their first letters
+first_of : List ℕ → ℕ
+first_of [] = 0
+first_of (b ∷ bs) = b
+
 -- a setting is of the kind whose word the line begins with
 of_kind : (k : SettingKind) (s : Setting) (line word rest : List ℕ) → is_comment line ≡ false → IsCut 32 line word rest
     → word ≡ setting_word k → SaysNone k rest → SaysSetting s line → ⊥
-of_kind k Nothing line word rest uncommented cut is none says = cc (uncommented, says)
+of_kind k Nothing line word rest uncommented cut is none says = true≢false (sym says ∙ uncommented)
 of_kind kind.Hold (Hold path format body) line word rest uncommented cut is none says =
     none path format body (begins_so line word rest (setting_word kind.Hold) (SaysHold path format body) cut says).1
 of_kind kind.Delay (Hold path format body) line word rest uncommented cut is none says =
     let so = begins_so line word rest (setting_word kind.Hold) (SaysHold path format body) cut says in
-    let both : setting_word kind.Delay ≡ setting_word kind.Hold = sym is ∙ so.0 in cc both
+    let n : 100 ≡ 104 = ap first_of (sym is ∙ so.0) in absurd (omega (arith, n))
 of_kind kind.Plain (Hold path format body) line word rest uncommented cut is none says =
     let so = begins_so line word rest (setting_word kind.Hold) (SaysHold path format body) cut says in
-    let both : setting_word kind.Plain ≡ setting_word kind.Hold = sym is ∙ so.0 in cc both
+    let n : 112 ≡ 104 = ap first_of (sym is ∙ so.0) in absurd (omega (arith, n))
 of_kind kind.Limit (Hold path format body) line word rest uncommented cut is none says =
     let so = begins_so line word rest (setting_word kind.Hold) (SaysHold path format body) cut says in
-    let both : setting_word kind.Limit ≡ setting_word kind.Hold = sym is ∙ so.0 in cc both
+    let n : 108 ≡ 104 = ap first_of (sym is ∙ so.0) in absurd (omega (arith, n))
 of_kind kind.Hold (Delay path ms) line word rest uncommented cut is none says =
     let so = begins_so line word rest (setting_word kind.Delay) (SaysDelay path ms) cut says in
-    let both : setting_word kind.Hold ≡ setting_word kind.Delay = sym is ∙ so.0 in cc both
+    let n : 104 ≡ 100 = ap first_of (sym is ∙ so.0) in absurd (omega (arith, n))
 of_kind kind.Delay (Delay path ms) line word rest uncommented cut is none says =
     none path ms (begins_so line word rest (setting_word kind.Delay) (SaysDelay path ms) cut says).1
 of_kind kind.Plain (Delay path ms) line word rest uncommented cut is none says =
     let so = begins_so line word rest (setting_word kind.Delay) (SaysDelay path ms) cut says in
-    let both : setting_word kind.Plain ≡ setting_word kind.Delay = sym is ∙ so.0 in cc both
+    let n : 112 ≡ 100 = ap first_of (sym is ∙ so.0) in absurd (omega (arith, n))
 of_kind kind.Limit (Delay path ms) line word rest uncommented cut is none says =
     let so = begins_so line word rest (setting_word kind.Delay) (SaysDelay path ms) cut says in
-    let both : setting_word kind.Limit ≡ setting_word kind.Delay = sym is ∙ so.0 in cc both
+    let n : 108 ≡ 100 = ap first_of (sym is ∙ so.0) in absurd (omega (arith, n))
 of_kind kind.Hold (Plain path) line word rest uncommented cut is none says =
     let so = begins_so line word rest (setting_word kind.Plain) (SaysPlain path) cut says in
-    let both : setting_word kind.Hold ≡ setting_word kind.Plain = sym is ∙ so.0 in cc both
+    let n : 104 ≡ 112 = ap first_of (sym is ∙ so.0) in absurd (omega (arith, n))
 of_kind kind.Delay (Plain path) line word rest uncommented cut is none says =
     let so = begins_so line word rest (setting_word kind.Plain) (SaysPlain path) cut says in
-    let both : setting_word kind.Delay ≡ setting_word kind.Plain = sym is ∙ so.0 in cc both
+    let n : 100 ≡ 112 = ap first_of (sym is ∙ so.0) in absurd (omega (arith, n))
 of_kind kind.Plain (Plain path) line word rest uncommented cut is none says =
     none path (begins_so line word rest (setting_word kind.Plain) (SaysPlain path) cut says).1
 of_kind kind.Limit (Plain path) line word rest uncommented cut is none says =
     let so = begins_so line word rest (setting_word kind.Plain) (SaysPlain path) cut says in
-    let both : setting_word kind.Limit ≡ setting_word kind.Plain = sym is ∙ so.0 in cc both
+    let n : 108 ≡ 112 = ap first_of (sym is ∙ so.0) in absurd (omega (arith, n))
 of_kind kind.Hold (Limit most) line word rest uncommented cut is none says =
     let so = begins_so line word rest (setting_word kind.Limit) (SaysLimit most) cut says in
-    let both : setting_word kind.Hold ≡ setting_word kind.Limit = sym is ∙ so.0 in cc both
+    let n : 104 ≡ 108 = ap first_of (sym is ∙ so.0) in absurd (omega (arith, n))
 of_kind kind.Delay (Limit most) line word rest uncommented cut is none says =
     let so = begins_so line word rest (setting_word kind.Limit) (SaysLimit most) cut says in
-    let both : setting_word kind.Delay ≡ setting_word kind.Limit = sym is ∙ so.0 in cc both
+    let n : 100 ≡ 108 = ap first_of (sym is ∙ so.0) in absurd (omega (arith, n))
 of_kind kind.Plain (Limit most) line word rest uncommented cut is none says =
     let so = begins_so line word rest (setting_word kind.Limit) (SaysLimit most) cut says in
-    let both : setting_word kind.Plain ≡ setting_word kind.Limit = sym is ∙ so.0 in cc both
+    let n : 112 ≡ 108 = ap first_of (sym is ∙ so.0) in absurd (omega (arith, n))
 of_kind kind.Limit (Limit most) line word rest uncommented cut is none says =
     none most (begins_so line word rest (setting_word kind.Limit) (SaysLimit most) cut says).1
 
@@ -114,11 +124,11 @@ pub none_uncut : (line : List ℕ) → is_comment line ≡ false → IsWord line
 none_uncut line uncommented whole = go
   where
     go : (s : Setting) → SaysSetting s line → ⊥
-    go Nothing says = cc (uncommented, says)
-    go (Hold path format body) says = cut_has 32 line _ _ says.1 whole
-    go (Delay path ms) says = cut_has 32 line _ _ says.1 whole
-    go (Plain path) says = cut_has 32 line _ _ says.1 whole
-    go (Limit most) says = cut_has 32 line _ _ says.1 whole
+    go Nothing says = true≢false (sym says ∙ uncommented)
+    go (Hold path format body) says = cut_has 32 line (setting_word kind.Hold) says.0 says.1 whole
+    go (Delay path ms) says = cut_has 32 line (setting_word kind.Delay) says.0 says.1 whole
+    go (Plain path) says = cut_has 32 line (setting_word kind.Plain) says.0 says.1 whole
+    go (Limit most) says = cut_has 32 line (setting_word kind.Limit) says.0 says.1 whole
 
 -- .. nor does one whose word names no kind
 pub none_named : (line word rest : List ℕ) → is_comment line ≡ false → IsCut 32 line word rest
@@ -126,7 +136,7 @@ pub none_named : (line word rest : List ℕ) → is_comment line ≡ false → I
 none_named line word rest uncommented cut unnamed = go
   where
     go : (s : Setting) → SaysSetting s line → ⊥
-    go Nothing says = cc (uncommented, says)
+    go Nothing says = true≢false (sym says ∙ uncommented)
     go (Hold path format body) says =
         unnamed kind.Hold (cut_once 32 line word rest (setting_word kind.Hold) says.0 cut says.1).0
     go (Delay path ms) says =
@@ -139,7 +149,7 @@ none_named line word rest uncommented cut unnamed = go
 -- ---- a path in front of a rest
 
 pub no_front : (line : List ℕ) → IsWord line → (path : List (List ℕ)) (rest : List ℕ) → SaysFront path rest line → ⊥
-no_front line whole path rest says = cut_has 32 line _ _ says.1 whole
+no_front line whole path rest says = cut_has 32 line says.0 rest says.1 whole
 
 pub no_empty_front : (line word left : List ℕ) → IsCut 32 line word left → word ≡ []
     → (path : List (List ℕ)) (rest : List ℕ) → SaysFront path rest line → ⊥
@@ -172,7 +182,7 @@ no_number_delay line own rest front none path ms says =
 -- ---- a format in front of a body
 
 pub no_content : (line : List ℕ) → IsWord line → (format : ℕ) (body : List ℕ) → SaysContent format body line → ⊥
-no_content line whole format body says = cut_has 32 line _ _ says.1 whole
+no_content line whole format body says = cut_has 32 line says.0 body says.1 whole
 
 pub no_format : (line digits left : List ℕ) → IsCut 32 line digits left
     → ((n : ℕ) → SaysNumber digits n → n < 2 ^ 16 → ⊥)
@@ -184,3 +194,45 @@ no_format line digits left cut none format body says =
 -- a word says one number
 pub one_number : (word : List ℕ) (n m : ℕ) → SaysNumber word n → SaysNumber word m → n ≡ m
 one_number word n m a b = sym a.1 ∙ b.1
+
+-- ---- why a line is refused
+
+-- for want of memory, or since what is said is none
+abbrev pub Refuses : Type 0 → LineRefusal → Type 0
+Refuses None e = (e ≡ refusal.Memory) ⊎ ((e ≡ refusal.Unreadable) × None)
+
+pub refuses_on : (P Q : Type 0) (e : LineRefusal) → (P → Q) → Refuses P e → Refuses Q e
+refuses_on P Q e on (inl memory) = inl memory
+refuses_on P Q e on (inr h) = inr (h.0, on h.1)
+
+pub no_front_delay : (line : List ℕ) → ((path : List (List ℕ)) (rest : List ℕ) → SaysFront path rest line → ⊥)
+    → (path : List (List ℕ)) (ms : ℕ) → SaysDelay path ms line → ⊥
+no_front_delay line none path ms says = none path says.0 says.1
+
+pub no_front_hold : (line : List ℕ) → ((path : List (List ℕ)) (rest : List ℕ) → SaysFront path rest line → ⊥)
+    → (path : List (List ℕ)) (format : ℕ) (body : List ℕ) → SaysHold path format body line → ⊥
+no_front_hold line none path format body says = none path says.0 says.1
+
+-- a line that says none is the first, where those before it say settings
+pub bad_at : {X : Type 0} (view : X → Setting) (script left line behind : List ℕ) (xs : List X) (n : ℕ)
+    (r : LineRefusal) (e : ScriptRefusal) → left ≢ [] → IsFirst left line behind → Reads SaysSetting view script left xs
+    → n ≡ length xs + 1 → Refuses (SaysNoSetting line) r → e ≡ of_line n r
+    → (e ≡ script.Memory) ⊎ ((number : ℕ) × (e ≡ script.Line number) × IsFirstBad (lines_of script) number)
+bad_at view script left line behind xs n r e some first so counted (inl memory) is = inl (is ∙ ap (of_line n) memory)
+bad_at view script left line behind xs n r e some first so counted (inr h) is =
+    let many : length so.done ≡ length (map view xs) = as_many SaysSetting so.done (map view xs) so.says in
+    let same : length (map view xs) ≡ length xs = length-map xs view in
+    inr (
+      n,
+      is ∙ ap (of_line n) h.0,
+      record {
+        before = so.done;
+        line = line;
+        behind = lines_of behind;
+        settings = map view xs;
+        are = sym so.joined ∙ ap (λ l. so.done ++ l) (first_line left line behind some first);
+        counted = omega (arith, counted, many, same);
+        read = so.says;
+        bad = h.1;
+      },
+    )

@@ -1,5 +1,5 @@
 -- Words have one answer: those that ask for an order are wrong in nothing, and where HEX is wrong nothing else is.
-use Rattle.std.proofs.Common.{◌≡◌, ◌⊎◌, inl, inr, refl, sym, subst, List, [], ◌∷◌, codes}
+use Rattle.std.proofs.Common.{◌≡◌, ◌⊎◌, inl, inr, refl, sym, subst, true, List, [], ◌∷◌, codes}
 use Rattle.clap.specs.Kinds.{Kinds}
 use Rattle.clap.specs.Words.{IsAmong, Row, Text, fault_of, kind_of}
 use Rattle.clap.specs.declared.error.Error.{Error}
@@ -92,18 +92,18 @@ no_bad_path name v why (inl shows) takes none =
 no_bad_path name v why (inr answers) takes none = path_or_not v answers.1 why answers.2 answers.3 none
 
 together_hexless : (why : TogetherRefusal) (name : Text) (v : List Row) → IsPathFine name v → AreApart why name v → ⊥
-together_hexless Count name v fine (is, apart) =
-    no_hex (alone (codes "get")) name v refl fine (is_alone (codes "get") name is)
-together_hexless ReadTag name v fine (is, apart) =
-    no_hex (alone (codes "get")) name v refl fine (is_alone (codes "get") name is)
-together_hexless InHex name v fine (is, apart) =
-    no_hex (alone (codes "observe")) name v refl fine (is_alone (codes "observe") name is)
-together_hexless Json name v fine (is, apart) =
-    no_hex (alone (codes "serve")) name v refl fine (is_alone (codes "serve") name is)
-together_hexless Trace name v fine (is, apart) =
-    no_hex (alone (codes "serve")) name v refl fine (is_alone (codes "serve") name is)
-together_hexless Chart name v fine (is, apart) =
-    no_hex (alone (codes "dump")) name v refl fine (is_alone (codes "dump") name is)
+together_hexless Count name v fine apart =
+    no_hex (alone (codes "get")) name v refl fine (is_alone (codes "get") name apart.0)
+together_hexless ReadTag name v fine apart =
+    no_hex (alone (codes "get")) name v refl fine (is_alone (codes "get") name apart.0)
+together_hexless InHex name v fine apart =
+    no_hex (alone (codes "observe")) name v refl fine (is_alone (codes "observe") name apart.0)
+together_hexless Json name v fine apart =
+    no_hex (alone (codes "serve")) name v refl fine (is_alone (codes "serve") name apart.0)
+together_hexless Trace name v fine apart =
+    no_hex (alone (codes "serve")) name v refl fine (is_alone (codes "serve") name apart.0)
+together_hexless Chart name v fine apart =
+    no_hex (alone (codes "dump")) name v refl fine (is_alone (codes "dump") name apart.0)
 
 -- what takes HEX takes none of what else can be wrong in a value
 not_both : (wrong : Wrong) (name : Text) (v : List Row) → IsWrongIn name v Hex → IsWrongIn name v wrong

@@ -110,41 +110,47 @@ pub is_alone : (known name : Text) → name ≡ known → is_in (alone known) na
 is_alone known name is = first_in known name [] is
 
 pub is_sender : (name : Text) → SendsBody name → is_in senders name ≡ true
-is_sender name = one_or _ (codes "put") name _ (is_alone (codes "post") name)
+is_sender name = one_or _ (codes "put") name (alone (codes "post")) (is_alone (codes "post") name)
 
 pub is_changer : (name : Text) → AsksChange name → is_in changers name ≡ true
-is_changer name = one_or _ (codes "delete") name _ (is_sender name)
+is_changer name = one_or _ (codes "delete") name senders (is_sender name)
 
 pub is_asker : (name : Text) → IsAsk name → is_in askers name ≡ true
-is_asker name = one_or _ (codes "get") name _ (one_or _ (codes "observe") name _ (is_changer name))
+is_asker name =
+    one_or _ (codes "get") name (codes "observe" ∷ changers) (one_or _ (codes "observe") name changers (is_changer name))
 
 pub is_client : (name : Text) → MakesClient name → is_in clients name ≡ true
-is_client name = one_or _ (codes "discover") name _ (is_asker name)
+is_client name = one_or _ (codes "discover") name askers (is_asker name)
 
 pub is_server : (name : Text) → NamesServer name → is_in servers name ≡ true
-is_server name = one_or _ (codes "ping") name _ (is_client name)
+is_server name = one_or _ (codes "ping") name clients (is_client name)
 
 pub is_end : (name : Text) → MakesEnd name → is_in ends name ≡ true
-is_end name = one_or _ (codes "pair") name _ (one_or _ (codes "serve") name _ (is_client name))
+is_end name =
+    one_or _ (codes "pair") name (codes "serve" ∷ clients) (one_or _ (codes "serve") name clients (is_client name))
 
 pub has_path : (name : Text) (v : List Row) → TakesPath name v → is_in with_path name ≡ true
-has_path name v = one_or _ (codes "answer") name _ (one_or _ (codes "pair") name _ (λ asks. is_asker name asks.0))
+has_path name v =
+    one_or _ (codes "answer") name (codes "pair" ∷ askers)
+    (one_or _ (codes "pair") name askers (λ asks. is_asker name asks.0))
 
 pub has_plains : (name : Text) → TakesPlains name → is_in with_plains name ≡ true
-has_plains name = one_or _ (codes "sim") name _ (is_alone (codes "serve") name)
+has_plains name = one_or _ (codes "sim") name (alone (codes "serve")) (is_alone (codes "serve") name)
 
 pub has_hex : (name : Text) (v : List Row) → IsPathFine name v → is_in with_hex name ≡ true
-has_hex name v = one_or _ (codes "show") name _ (λ answers. is_alone (codes "answer") name answers.0)
+has_hex name v =
+    one_or _ (codes "show") name (alone (codes "answer")) (λ answers. is_alone (codes "answer") name answers.0)
 
 pub has_number : (name : Text) (why : NumberRefusal) → TakesNumber why name → is_in (with_number why) name ≡ true
 has_number name Port takes = is_alone (codes "serve") name takes
 has_number name Count takes = is_alone (codes "serve") name takes
 has_number name Limit takes = is_end name takes
-has_number name Remember takes = one_or _ (codes "sim") name _ (is_end name) takes
+has_number name Remember takes = one_or _ (codes "sim") name ends (is_end name) takes
 has_number name Format takes = is_sender name takes
 has_number name Accept takes = is_alone (codes "get") name takes
 has_number name Times takes =
-    one_or _ (codes "ping") name _ (one_or _ (codes "get") name _ (is_alone (codes "observe") name)) takes
+    one_or _ (codes "ping") name (codes "get" ∷ codes "observe" ∷ [])
+    (one_or _ (codes "get") name (alone (codes "observe")) (is_alone (codes "observe") name)) takes
 has_number name Seconds takes = is_alone (codes "observe") name takes
 has_number name GiveUp takes = is_server name takes
 has_number name Every takes = is_alone (codes "get") name takes
@@ -159,14 +165,15 @@ both_hold false b h = absurd (true≢false (sym h))
 within : (some all : List Text) (name : Text) → list_all (is_in all) some ≡ true → is_in some name ≡ true
     → is_in all name ≡ true
 within [] all name h on = absurd (true≢false (sym on))
-within (known ∷ some) all name h on = go (bytes_eq known name) refl on
+within (known ∷ some) all name h on =
+    go (bytes_eq known name) refl on (within some all name (both_hold (is_in all known) _ h).1)
   where
-    parts : (is_in all known ≡ true) × (list_all (is_in all) some ≡ true)
-    parts = both_hold (is_in all known) (list_all (is_in all) some) h
-
-    go : (b : Bool) → bytes_eq known name ≡ b → (b || is_in some name) ≡ true → is_in all name ≡ true
-    go true same here = subst (λ (n : Text). is_in all n ≡ true) ((bytes_eq-Decides known name).0 same) parts.0
-    go false same rest = within some all name parts.1 rest
+    go : (b : Bool) → bytes_eq known name ≡ b → (b || is_in some name) ≡ true
+        → (is_in some name ≡ true → is_in all name ≡ true) → is_in all name ≡ true
+    go true same here rest =
+        subst (λ (n : Text). is_in all n ≡ true) ((bytes_eq-Decides known name).0 same)
+        (both_hold (is_in all known) _ h).0
+    go false same here rest = rest here
 
 pub any_number : (name : Text) (why : NumberRefusal) → TakesNumber why name → is_in with_numbers name ≡ true
 any_number name Port takes = within (with_number Port) with_numbers name refl (has_number name Port takes)
@@ -221,18 +228,18 @@ no_more : (b : Bool) → not b ≡ true → b ≡ false
 no_more true h = absurd (true≢false (sym h))
 no_more false h = refl
 
-apart : (others names : List Text) (name : Text) → are_apart others names ≡ true → is_in others name ≡ true
+pub apart : (others names : List Text) (name : Text) → are_apart others names ≡ true → is_in others name ≡ true
     → is_in names name ≡ true → ⊥
 apart [] names name h on other = true≢false (sym on)
-apart (known ∷ others) names name h on other = go (bytes_eq known name) refl on
+apart (known ∷ others) names name h on other =
+    go (bytes_eq known name) refl on (λ rest. apart others names name (both_hold (not (is_in names known)) _ h).1 rest other)
   where
-    parts : (not (is_in names known) ≡ true) × (are_apart others names ≡ true)
-    parts = both_hold (not (is_in names known)) (are_apart others names) h
-
-    go : (b : Bool) → bytes_eq known name ≡ b → (b || is_in others name) ≡ true → ⊥
-    go true same here =
-        out names known name (no_more (is_in names known) parts.0) (sym ((bytes_eq-Decides known name).0 same)) other
-    go false same rest = apart others names name parts.1 rest other
+    go : (b : Bool) → bytes_eq known name ≡ b → (b || is_in others name) ≡ true
+        → (is_in others name ≡ true → ⊥) → ⊥
+    go true same here rest =
+        out names known name (no_more (is_in names known) (both_hold (not (is_in names known)) _ h).0)
+        (sym ((bytes_eq-Decides known name).0 same)) other
+    go false same here rest = rest here
 
 -- the names that an order may be asked for by
 abbrev pub names_of : Order → List Text

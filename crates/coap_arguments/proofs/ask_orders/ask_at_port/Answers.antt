@@ -5,7 +5,7 @@ use Rattle.coap_arguments.proofs.ask_orders.ask_at_port.Goals as goal
 pub returns-in_default : goal.returns-in_default
 returns-in_default c =
     let port = c.args.port.now in (
-      c.requires.name,
+      inr (inr c.requires.name),
       (
         port,
         c.requires.port,
