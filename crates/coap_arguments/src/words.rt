@@ -36,17 +36,20 @@ pub fn order<'a>(alloc: Global, words: &'a [String]) -> Result<Order<'a>, Wrong>
     // What is called wrong is wrong. `Words`: they are not `--version` alone, and clap refuses them, with an error of
     // a kind that they call for. `Path`: clap takes them, and PATH or a value of `--plain` is no path, for the reason
     // that is given. `Number`: clap takes them, and an argument is no number in its range. `Word`: clap takes them,
-    // and `--word` is no choice of a word. `Address`: clap takes them, and an argument is no address of IPv4. `Size`:
-    // clap takes them, and `--size` is no size of a block. `Tags`: clap takes them, and an argument is no entity-tag,
-    // or given more than four times. `Setting`: clap takes them, and a value of `--hold` or `--delay` says nothing, or
-    // `--delay` is given more than 16 times. `Body`: clap takes them, and both of BODY and `--file` are there, or
-    // neither. `Store`: clap takes them, and `--store` names no store. `Plains`: clap takes them, and `--plain` names
-    // more than 16 paths. `Ends`: clap takes them, and `--client` or `--server` is no address of IPv4 with a port, or
-    // they are one. `Together`: clap takes them, and `get` has `--count` without `--every`, or both of `--every` and
-    // `--etag`. `NoPath`: clap takes them, and behind PORT there is no PATH. `Uri`: clap takes them, and the URI in
+    // and `--word` is no choice of a word. `Address`: clap takes them, and `--host` is neither an address nor a name,
+    // or `--address` is no address. `Size`: clap takes them, and `--size` is no size of a block. `Tags`: clap takes
+    // them, and an argument is no entity-tag, or given more than four times. `Setting`: clap takes them, and a value
+    // of `--hold` or `--delay` says nothing, or `--delay` is given more than 16 times. `Body`: clap takes them, and
+    // both of BODY and `--file` are there, or neither. `Store`: clap takes them, and `--store` names no store.
+    // `Plains`: clap takes them, and `--plain` names more than 16 paths. `Ends`: clap takes them, and `--client` or
+    // `--server` is no address of IPv4 with a port, or they are one. `Together`: clap takes them, and options don't go
+    // together: of `get`, `--count` without `--every`, or both of `--every` and `--etag`; of `observe`, both of
+    // `--json` and `--hex`; of `serve`, `--json` without `--changes` or with `--trace`; of `dump`, `--chart` without
+    // `--pcap`. `NoPath`: clap takes them, and behind PORT there is no PATH. `Uri`: clap takes them, and the URI in
     // the place of PORT names nothing that is asked for, for the reason that is given. `Beside`: clap takes them, and
-    // beside the URI there is a word too many, or `--host`. `Hex`: clap takes them, PATH is a path where there is one,
-    // and HEX is the hex of no bytes. `Memory` says nothing of the words.
+    // beside the URI there is a word too many, or `--host`; or `ping` and `discover` have one with a path. `Hex`: clap
+    // takes them, PATH is a path where there is one, and HEX is the hex of no bytes. `Memory` says nothing of the
+    // words.
     ensures wrong { IfErr result (IsWrong (map string_bytes words.now)) }
 {
     if is_version(words) {

@@ -1,5 +1,5 @@
 -- Words have one answer: those that ask for an order are wrong in nothing, and where HEX is wrong nothing else is.
-use Rattle.std.proofs.Common.{◌≡◌, ◌⊎◌, inl, inr, refl, sym, subst, true, List, [], ◌∷◌, codes}
+use Rattle.std.proofs.Common.{◌≡◌, ◌⊎◌, inl, inr, refl, subst, true, List, [], ◌∷◌, codes}
 use Rattle.clap.specs.Kinds.{Kinds}
 use Rattle.clap.specs.Words.{IsAmong, Row, Text, fault_of, kind_of}
 use Rattle.clap.specs.declared.error.Error.{Error}
@@ -26,9 +26,7 @@ use Rattle.coap_arguments.specs.declared.orders.Wrong.{Wrong}
 use Rattle.coap_arguments.specs.declared.orders.Wrong.TheVariants.{Words, Path, Number, Word, Address, Size, Tags}
 use Rattle.coap_arguments.specs.declared.orders.Wrong.TheVariants.{Setting, Body, Store, Plains, Ends as NoEnds}
 use Rattle.coap_arguments.specs.declared.orders.Wrong.TheVariants.{Together, NoPath, Uri, Beside, Hex, Memory}
-use Rattle.coap_arguments.specs.declared.refusals.AddressRefusal.{AddressRefusal}
 use Rattle.coap_arguments.specs.declared.refusals.AddressRefusal.TheVariants.{Host, Address as Own}
-use Rattle.coap_arguments.specs.declared.refusals.TagsRefusal.{TagsRefusal}
 use Rattle.coap_arguments.specs.declared.refusals.TagsRefusal.TheVariants.{Etag, IfMatch}
 use Rattle.coap_arguments.specs.declared.refusals.TogetherRefusal.{TogetherRefusal}
 use Rattle.coap_arguments.specs.declared.refusals.TogetherRefusal.TheVariants.{Count, Etag as ReadTag, Hex as InHex}

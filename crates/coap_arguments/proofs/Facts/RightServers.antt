@@ -1,6 +1,6 @@
 -- An order that names a server has nothing wrong in that: there is a PATH behind a PORT, and the URI and what stands
 -- beside it are right.
-use Rattle.std.proofs.Common.{◌≡◌, ◌∙◌, ◌≤◌, ◌⊎◌, sym, inl, inr, ap, subst, ℕ, List, [], codes, refl}
+use Rattle.std.proofs.Common.{◌≡◌, ◌∙◌, ◌≤◌, ◌⊎◌, sym, inl, inr, ℕ, List, [], refl}
 use Rattle.clap.specs.Words.{Row, Text}
 use Rattle.coap_arguments.proofs.Facts.RightValues.{host_or_not}
 use Rattle.coap_arguments.proofs.Facts.UriOrNot.{beside_or_not, uri_or_not}
@@ -18,7 +18,6 @@ use Rattle.coap_arguments.specs.declared.orders.What.{What}
 use Rattle.coap_arguments.specs.declared.orders.Wrong.TheVariants.{NoPath, Uri, Beside}
 use Rattle.coap_arguments.specs.declared.refusals.AddressRefusal.TheVariants as address
 use Rattle.coap_arguments.specs.declared.refusals.BesideRefusal.{BesideRefusal}
-use Rattle.coap_arguments.specs.declared.refusals.BesideRefusal.TheVariants as beside
 use Rattle.coap_arguments.specs.declared.refusals.NumberRefusal.TheVariants.{ServerPort}
 use Rattle.coap_arguments.specs.declared.refusals.UriRefusal.{UriRefusal}
 

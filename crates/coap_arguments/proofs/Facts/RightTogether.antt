@@ -1,11 +1,10 @@
 -- The options of an order go together.
-use Rattle.std.proofs.Common.{◌≡◌, ◌∙◌, ◌⊎◌, inl, inr, sym, refl, ℕ, List, codes, true≢false}
+use Rattle.std.proofs.Common.{◌≡◌, ◌∙◌, inl, inr, sym, refl, List, codes, true≢false}
 use Rattle.clap.specs.Words.{Row, Text}
 use Rattle.coap_arguments.proofs.Facts.WhoTakes.{alone, another, is_alone, out}
 use Rattle.coap_arguments.specs.Asking.{IsWhat}
-use Rattle.coap_arguments.specs.Together.{AreApart, GoObserved, GoServed, GoTogether, IsSet}
-use Rattle.coap_arguments.specs.Words.{AsksByPort, AsksByUri, AsksForIn, IsWrongIn}
-use Rattle.coap_arguments.specs.declared.hosts.Server.{Server}
+use Rattle.coap_arguments.specs.Together.{AreApart, GoObserved, GoServed, GoTogether}
+use Rattle.coap_arguments.specs.Words.{AsksForIn, IsWrongIn}
 use Rattle.coap_arguments.specs.declared.orders.Order.{Order}
 use Rattle.coap_arguments.specs.declared.orders.Order.TheVariants.{Version, Show, Dump, DumpCapture, Answer, Pair}
 use Rattle.coap_arguments.specs.declared.orders.Order.TheVariants.{Serve, Ask, Discover, Ping, Sim}

@@ -1,7 +1,7 @@
 -- clap takes no words that ask for the version: what they enter is nothing.
 use Rattle.std.proofs.Common.{◌≡◌, ◌∙◌, ap, sym, refl, List, [], ◌∷◌, codes}
 use Rattle.clap.proofs.OnLiterals.{clap_on_literals}
-use Rattle.clap.specs.Words.{Kinds, Text, fault_of}
+use Rattle.clap.specs.Words.{Text, fault_of}
 use Rattle.clap.specs.declared.error.kind.ErrorKind.TheVariants as kind
 use Rattle.coap_arguments.specs.CommandLine.{coap_app}
 use Rattle.coap_arguments.specs.Words.{IsVersion}

@@ -117,7 +117,8 @@ is_changer name = one_or _ (codes "delete") name senders (is_sender name)
 
 pub is_asker : (name : Text) → IsAsk name → is_in askers name ≡ true
 is_asker name =
-    one_or _ (codes "get") name (codes "observe" ∷ changers) (one_or _ (codes "observe") name changers (is_changer name))
+    one_or _ (codes "get") name (codes "observe" ∷ changers)
+    (one_or _ (codes "observe") name changers (is_changer name))
 
 pub is_client : (name : Text) → MakesClient name → is_in clients name ≡ true
 is_client name = one_or _ (codes "discover") name askers (is_asker name)
@@ -232,7 +233,8 @@ pub apart : (others names : List Text) (name : Text) → are_apart others names 
     → is_in names name ≡ true → ⊥
 apart [] names name h on other = true≢false (sym on)
 apart (known ∷ others) names name h on other =
-    go (bytes_eq known name) refl on (λ rest. apart others names name (both_hold (not (is_in names known)) _ h).1 rest other)
+    go (bytes_eq known name) refl on
+    (λ rest. apart others names name (both_hold (not (is_in names known)) _ h).1 rest other)
   where
     go : (b : Bool) → bytes_eq known name ≡ b → (b || is_in others name) ≡ true
         → (is_in others name ≡ true → ⊥) → ⊥
