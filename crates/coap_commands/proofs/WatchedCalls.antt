@@ -1,25 +1,23 @@
 -- What becomes of a path that is observed anew, from the calls of its clients to the status of the program.
-use Rattle.std.proofs.Common.{◌≡◌, ◌+◌, ◌∙◌, ℕ, List, [], Option, Some, None, Result, Ok, Err, IfOk, ap, refl, sym, subst, false}
-use Rattle.coap_client.specs.Led.{Led, State, Step}
-use Rattle.coap_client.specs.Object.Shown.{number_of, shown_report}
-use Rattle.coap_client.specs.Trace.{Report, is_value}
-use Rattle.coap_client.specs.Trace.{Observes as observes}
-use Rattle.coap_client.specs.declared.client.report.CallId.{CallId}
-use Rattle.coap_client.specs.declared.client.report.Report as R
-use Rattle.coap_client.specs.declared.refusals.CallRefusal.{CallRefusal}
+use Rattle.std.proofs.Common.{◌≡◌, ◌+◌, ◌∙◌, ◌↔◌, ℕ, Bool, List, Option, Some, None, ap, refl, sym, subst, true, false}
 use Rattle.std.specs.declared.alloc.Global.{Global}
+use Rattle.coap_types.specs.declared.endpoint.Endpoint.{Endpoint}
+use Rattle.coap_types.specs.declared.endpoint.Moment.{Moment}
+use Rattle.coap_client.specs.Led.{State, Step}
+use Rattle.coap_client.specs.Object.Shown.{shown_report}
+use Rattle.coap_client.specs.Trace.{Report, is_value}
+use Rattle.coap_client.specs.declared.client.report.Report as R
 use Rattle.coap_arguments.specs.declared.orders.AskOptions.{AskOptions}
 use Rattle.coap_commands.specs.Asks.{Turned, takes_report}
-use Rattle.coap_commands.specs.Watches.{Again, Ends, Goes, IsFollowed, IsLeft, IsLeftBy, IsNext, IsNoEnd, LastTurn}
-use Rattle.coap_commands.specs.Watches.{LeavesAt, MayCancel, Takes, TakesReport, TurnsAt, Watches, anew, further, heard_at}
-use Rattle.coap_commands.specs.Watches.{taken}
-use Rattle.coap_commands.specs.declared.calling.Outcome.{Outcome}
+use Rattle.coap_commands.specs.Observes.{IsOver}
+use Rattle.coap_commands.specs.Waiting.{HasPassed}
+use Rattle.coap_commands.specs.Watches.{Again, Follows, Goes, IsFollowed, IsLeft, IsNext, IsNoEnd, LastTurn, LeavesAt}
+use Rattle.coap_commands.specs.Watches.{MayCancel, TakesReport, TurnsAt, Watches, anew, further, heard_at, taken, verdict}
 use Rattle.coap_commands.specs.declared.calling.Outcome.TheVariants.{GaveUp, Refused, Reported}
 use Rattle.coap_commands.specs.declared.watching.Heard.{Heard}
 use Rattle.coap_commands.specs.declared.watching.Left.{Left}
 use Rattle.coap_commands.specs.declared.watching.Left.TheVariants.{Ended, Silent}
 use Rattle.coap_scripts.specs.declared.status.Status.{Status}
-use Rattle.coap_scripts.specs.declared.status.Stop.{Stop}
 
 -- what a turn takes behind it, where that is no last report: of what was heard before it and after it
 abbrev pub More : ℕ → ℕ → Heard → Heard → State → State → Type 0
@@ -79,13 +77,88 @@ module _ (options : AskOptions) (again number : ℕ) (first : Heard) (s : State)
         (Ended (Reported report)) h.values) (sym same)
         (heard.last.0, m, going.0, now, n, (t, turned, step), is)
 
+-- ---- in one turn
+
+valued : (r : Report) → is_value r ≡ true → taken (Some r) ≡ 1
+valued r is = rw is
+
+heard_now : (now heard : ℕ) (r : Report) → is_value r ≡ true → heard_at now (Some r) heard ≡ now
+heard_now now heard r is = rw is
+
+-- a value is taken and counted
+pub more_value : (number : ℕ) (before after : Heard) (now : Moment) (t n : State) (r : Report)
+    → Step t (takes_report number r) n → is_value r ≡ true
+    → after ≡ record before { values = before.values + 1; last = now } → More number now.0 before after t n
+more_value number before after now t n r step is same = (
+  Some r,
+  step,
+  is,
+  ap (λ (h : Heard). h.values) same ∙ ap (λ (k : ℕ). before.values + k) (sym (valued r is)),
+  ap (λ (h : Heard). h.last.0) same ∙ sym (heard_now now.0 before.last.0 r is),
+  ap (λ (h : Heard). h.since) same,
+)
+
+-- the observation is not left
+pub not_left : (options : AskOptions) (again since number values heard now : ℕ) (s t : State) (r : Option Left)
+    → LeavesAt options again since number values heard now s r t → r ≡ None
+    → MayCancel options since number now values s t
+not_left options again since number values heard now s t r h is =
+    subst (λ (o : Option Left). LeavesAt options again since number values heard now s o t) is h
+
+-- .. or it is
+pub left_by : (options : AskOptions) (again since number values heard now : ℕ) (s t : State) (r : Option Left)
+    (ended : Left) → LeavesAt options again since number values heard now s r t → r ≡ Some ended
+    → LeavesAt options again since number values heard now s (Some ended) t
+left_by options again since number values heard now s t r ended h is =
+    subst (λ (o : Option Left). LeavesAt options again since number values heard now s o t) is h
+
 -- ---- one registration after the other
 
-module _ (IsServer : _ → Type 0) (word : ℕ) (path : List (List ℕ)) (options : AskOptions) (again since : ℕ) where
-  pub one_more : (n before begin : ℕ) (ended : Left) (values more next : ℕ)
-      → Again IsServer word path options again since n before begin
-      → IsNext IsServer word path options again since n begin before ended values
-      → IsFollowed options again since begin ended values None more next
-      → Again IsServer word path options again since (n + 1) more next
-  one_more n before begin ended values more next h next_is followed =
-      anew n before begin ended values more next h next_is followed
+pub followed : (options : AskOptions) (again : ℕ) (since : Moment) (begin : ℕ) (ended : Left) (heard after : Heard)
+    (v w : Option Status) (now : ℕ) (is_over : Bool) → heard.since ≡ since
+    → ((is_over ≡ true) ↔ IsOver options heard.since.0 heard.values now) → v ≡ verdict ended is_over
+    → (w ≡ v) × Follows again begin v after.last.0 → after.values ≡ heard.values
+    → IsFollowed options again since.0 begin ended heard.values w after.values after.last.0
+followed options again since begin ended heard after v w now is_over same over is follows values = (
+  now,
+  is_over,
+  subst (λ (m : Moment). (is_over ≡ true) ↔ IsOver options m.0 heard.values now) same over,
+  follows.0 ∙ is,
+  values,
+  subst (λ (o : Option Status). Follows again begin o after.last.0) (sym follows.0) follows.1,
+)
+
+module _ (IsServer : Endpoint → Type 0) (word : ℕ) (path : List (List ℕ)) (options : AskOptions) (again : ℕ) where
+  -- the registration after so many, and what follows it
+  abbrev pub NextOf : Moment → ℕ → Heard → Option Status → Heard → Type 0
+  NextOf since n heard v after =
+      (left : Left) × (values : ℕ)
+      × IsNext IsServer word path options again since.0 n heard.last.0 heard.values left values
+      × IsFollowed options again since.0 heard.last.0 left values v after.values after.last.0
+
+  next_as : (since other : Moment) (n : ℕ) (heard after : Heard) (v w : Option Status) → other ≡ since → v ≡ w
+      → NextOf other n heard v after → NextOf since n heard w after
+  next_as since other n heard after v w same is h =
+      subst (λ (o : Option Status). NextOf since n heard o after) is
+      (subst (λ (m : Moment). NextOf m n heard v after) same h)
+
+  -- so many are left, and this was heard
+  abbrev pub AgainAt : Moment → ℕ → Heard → Type 0
+  AgainAt since n heard =
+      Again IsServer word path options again since.0 n heard.values heard.last.0 × (heard.since ≡ since)
+
+  pub again_on : (since : Moment) (n : ℕ) (heard after : Heard) (v : Option Status) → AgainAt since n heard
+      → NextOf heard.since n heard v after → after.since ≡ heard.since → v ≡ None → AgainAt since (n + 1) after
+  again_on since n heard after v before h same is =
+      let k : NextOf since n heard None after = next_as since heard.since n heard after v None before.1 is h in (
+        anew n heard.values heard.last.0 k.0 k.1 after.values after.last.0 before.0 k.2 k.3,
+        same ∙ before.1,
+      )
+
+  pub ends : (since : Moment) (n : ℕ) (heard after : Heard) (v : Option Status) (s : Status) → AgainAt since n heard
+      → NextOf heard.since n heard v after → v ≡ Some s → Watches IsServer word path options again s
+  ends since n heard after v s before h is =
+      let k : NextOf since n heard (Some s) after = next_as since heard.since n heard after v (Some s) before.1 is h in (
+        since.0,
+        (n, heard.values, heard.last.0, before.0, k.0, k.1, k.2, after.values, after.last.0, k.3),
+      )

@@ -1,5 +1,5 @@
 //! What `--json` prints: an object a line, at once.
-ghost use Rattle.std.specs.Prelude.{◌≡◌, ◌×◌, IfOk, OnOk};
+ghost use Rattle.std.specs.Prelude.{◌≡◌, IfOk, OnOk};
 ghost use Rattle.std.specs.Io.KnownBytes.{Appends};
 ghost use Rattle.coap_client.specs.Object.Shown.{shown_report};
 ghost use Rattle.coap_json.specs.Objects.{IsLineOf};

@@ -1,16 +1,14 @@
 //! Observing a path, and observing it anew where nothing comes for long or the server ended that (RFC 7641).
-ghost use Rattle.std.specs.Prelude.{◌≡◌, ◌+◌, ◌%◌, ◌^◌, ℕ, Option, [], true, false, Some, Ok, IfErr, IfNone, IfOk, IfSome};
-ghost use Rattle.std.specs.Prelude.{Err};
-ghost use Rattle.coap_layer.specs.declared.setup.Setup.{Setup as SetupSpec};
-ghost use Rattle.coap_client.specs.Led.{Led, State, Step};
-ghost use Rattle.coap_client.specs.Object.Shown.{number_of, shown_report};
+ghost use Rattle.std.specs.Prelude.{◌≡◌, ◌+◌, ℕ, Option, Result, true, false, IfNone, IfOk, IfSome};
+ghost use Rattle.coap_client.specs.Led.{State, Step};
+ghost use Rattle.coap_client.specs.Object.Shown.{shown_report};
 ghost use Rattle.coap_client.specs.Trace.{Report as ReportSpec, is_value};
 ghost use Rattle.coap_client.specs.Trace.{Observes as observes};
 ghost use Rattle.coap_commands.specs.Asks.{Turned, takes_report};
-ghost use Rattle.coap_commands.specs.Observes.{IsOver};
 ghost use Rattle.coap_commands.specs.Terms.{asked_terms, setup_of, sizes_of};
 ghost use Rattle.coap_commands.specs.Waiting.{HasPassed};
-ghost use Rattle.coap_commands.specs.Watches.{IsFollowed, IsLeft, IsLeftBy, IsNext, IsNoEnd, IsRegistered, Leaves};
+ghost use Rattle.coap_commands.specs.Watches.{Follows, IsFollowed, IsLeft, IsLeftBy, IsNext, IsNoEnd, IsRegistered};
+ghost use Rattle.coap_commands.specs.Watches.{Leaves};
 ghost use Rattle.coap_commands.specs.Watches.{LeavesAt, MayCancel, TakesReport, Watches, heard_at, taken, verdict};
 ghost use Rattle.coap_commands.specs.Watches.{verdict_of};
 ghost use Rattle.coap_commands.specs.declared.watching.Left.{Left as LeftSpec};
@@ -366,6 +364,28 @@ fn pause<L: Link, T: Timekeeper>(
     Err(Stop::Failed)
 }
 
+// What follows a registration that began at this moment: the end of the program with this status; or, where there is
+// none, another registration once so many seconds have passed, at the moment that is heard last then.
+fn follow<L: Link, T: Timekeeper, E: Write>(
+    connection: &mut Connection<'_, '_, '_, L, T, E>,
+    watching: &Watching<'_, '_>,
+    begin: Moment,
+    heard: &mut Heard,
+    verdict: Option<Status>,
+) -> Result<Option<Status>, Stop>
+    ensures follows { IfOk result (λ ended. (ended ≡ verdict)
+        × Follows watching.now.again begin.0 verdict heard.new.last.0) }
+    ensures values { heard.new.values ≡ heard.old.values }
+    ensures since { heard.new.since ≡ heard.old.since }
+{
+    if verdict.is_some() {
+        return Ok(verdict);
+    }
+    let next = pause(connection.link, connection.time, begin, watching.again)?;
+    heard.last = next;
+    Ok(None)
+}
+
 // Has a client of its own observe the path, and says how that is left: the status with which the program ends, or None
 // where the path is observed anew, at the moment that is heard last then.
 fn observed_and_told<H: BuildHasher + Drop, L: Link, T: Timekeeper, E: Write, W: Write>(
@@ -393,24 +413,14 @@ fn observed_and_told<H: BuildHasher + Drop, L: Link, T: Timekeeper, E: Write, W:
     let now = connection.time.now()?;
     let is_over = is_over(watching.options, heard.since, heard.values, now);
     let verdict = verdict(&left, is_over);
+    let is_json = watching.options.json;
     let told = match verdict {
-        Some(_) => tell_last(
-            alloc,
-            &left,
-            watching.options.json,
-            connection.time,
-            out,
-            connection.err,
-        ),
+        Some(_) => tell_last(alloc, &left, is_json, connection.time, out, connection.err),
         None => say_anew(alloc, &left, watching.again, connection.err),
     };
     put_away(left);
     told?;
-    if verdict.is_none() {
-        let next = pause(connection.link, connection.time, begin, watching.again)?;
-        heard.last = next;
-    }
-    Ok(verdict)
+    follow(connection, watching, begin, heard, verdict)
 }
 
 // The same, over a link of its own, after so many others.

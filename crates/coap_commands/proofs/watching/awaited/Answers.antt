@@ -1,7 +1,7 @@
 use Rattle.std.proofs.Common.{◌≡◌, Option, Some, None, IfNone, IfSome, refl, subst}
 use Rattle.coap_commands.specs.Watches.{registered}
 use Rattle.coap_commands.proofs.TurnCalls.{client_turned_at}
-use Rattle.coap_commands.proofs.WatchedCalls.{left_in_turn, left_reported, turn_on}
+use Rattle.coap_commands.proofs.WatchedCalls.{left_by, left_in_turn, left_reported, not_left, turn_on}
 use Rattle.coap_commands.proofs.watching.awaited.Goals as goal
 
 none_is : {X : Type 0} (P : Type 0) (o : Option X) → IfNone o P → o ≡ None → P
@@ -15,4 +15,27 @@ pub loop-turn-init : goal.loop-turn-init
 loop-turn-init g c = (registered, refl)
 
 pub loop-turn-preserved : goal.loop-turn-preserved
-loop-turn-preserved g c = let h = c in ?
+loop-turn-preserved g c =
+    let options = c.args.watching.now.options.now in
+    let again = c.args.watching.now.again in
+    let heard = c.last_report.new.heard in
+    turn_on options again c.args.id.0 _ _ _ _ _ _ _ _ c.loop-turn.invariant
+    (client_turned_at _ _ _ _ _ _ _ _ _ _ _ _ _ c.get_turn.ensures) _
+    (none_is _ _ c.in_ok-report.ensures.more c.in_default.is)
+    (not_left options again heard.since.0 c.args.id.0 heard.values heard.last.0 c.in_ok-now.now.0 _ _ _ c.left_at.ensures c.in_default-left_at.is)
+
+pub returns-in-Some-clause-left : goal.returns-in-Some-clause-left
+returns-in-Some-clause-left g c =
+    let last = some_is _ _ c.in-Some.report c.in_ok-report.ensures.last c.in-Some.is in
+    left_reported c.args.watching.now.options.now c.args.watching.now.again c.args.id.0 _ _ _ _ _ _ _ _ c.loop-turn.invariant
+    (client_turned_at _ _ _ _ _ _ _ _ _ _ _ _ _ c.get_turn.ensures) c.in-Some.report last.0 last.1 last.2
+
+pub returns-in-Some-left_at-clause-left : goal.returns-in-Some-left_at-clause-left
+returns-in-Some-left_at-clause-left g c =
+    let options = c.args.watching.now.options.now in
+    let again = c.args.watching.now.again in
+    let heard = c.last_report.new.heard in
+    left_in_turn options again c.args.id.0 _ _ _ _ _ _ _ _ c.loop-turn.invariant
+    (client_turned_at _ _ _ _ _ _ _ _ _ _ _ _ _ c.get_turn.ensures) c.in-Some-left_at.left _
+    (none_is _ _ c.in_ok-report.ensures.more c.in_default.is)
+    (left_by options again heard.since.0 c.args.id.0 heard.values heard.last.0 c.in_ok-now.now.0 _ _ _ c.in-Some-left_at.left c.left_at.ensures c.in-Some-left_at.is)

@@ -3,4 +3,5 @@ use Rattle.coap_commands.proofs.watching.awaited.Given as goal
 
 -- so far the observation goes on
 abbrev pub invariant-loop-turn : goal.invariant-loop-turn
-invariant-loop-turn g l = Going l.fn.watching.options.now l.fn.id.0 l.fn.heard l.fn.client l.heard l.client
+invariant-loop-turn g l =
+    Going l.fn.watching.options.now l.fn.watching.again l.fn.id.0 l.fn.heard l.fn.client l.heard l.client
