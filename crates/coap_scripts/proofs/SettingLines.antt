@@ -4,12 +4,11 @@ use Rattle.std.proofs.Common.{◌++◌, ◌+◌, inl, inr, arith, map, length, t
 use Rattle.std.proofs.lemmas.List.Elements.{All-head, All-tail}
 use Rattle.coap_types.specs.declared.body_limit.TheConstants.{MAX_BODY_LIMIT as max_body_limit}
 use Rattle.coap_arguments.specs.PathText.{IsNoPath}
-use Rattle.std.proofs.lemmas.List.{length-map}
-use Rattle.coap_scripts.specs.Script.{Begins, lines_of}
+use Rattle.coap_scripts.specs.Script.{Begins, IsFirstBad, NamesPath, lines_of}
 use Rattle.coap_scripts.specs.ScriptRefusals.{of_line}
 use Rattle.coap_scripts.specs.ScriptWords.{IsCut, IsWord, Lacks, SaysNumber}
-use Rattle.coap_scripts.specs.Settings.{NamesPath, SaysContent, SaysDelay, SaysFront, SaysHold, SaysLimit}
-use Rattle.coap_scripts.specs.Settings.{IsFirstBad, SaysNoSetting, SaysPlain, SaysSetting, Setting, is_comment, setting_word}
+use Rattle.coap_scripts.specs.Settings.{SaysContent, SaysDelay, SaysFront, SaysHold, SaysLimit}
+use Rattle.coap_scripts.specs.Settings.{SaysNoSetting, SaysPlain, SaysSetting, Setting, is_comment, setting_word}
 use Rattle.coap_scripts.specs.Settings.{Nothing, Hold, Delay, Plain, Limit}
 use Rattle.coap_scripts.specs.declared.script.refusal.LineRefusal.{LineRefusal}
 use Rattle.coap_scripts.specs.declared.script.refusal.LineRefusal.TheVariants as refusal
@@ -17,7 +16,7 @@ use Rattle.coap_scripts.specs.declared.script.setting_words.SettingKind.{Setting
 use Rattle.coap_scripts.specs.declared.script.setting_words.SettingKind.TheVariants as kind
 use Rattle.coap_scripts.specs.declared.script.refusal.ScriptRefusal.{ScriptRefusal}
 use Rattle.coap_scripts.specs.declared.script.refusal.ScriptRefusal.TheVariants as script
-use Rattle.coap_scripts.proofs.ScriptLines.{IsFirst, Reads, as_many, first_line}
+use Rattle.coap_scripts.proofs.ScriptLines.{IsFirst, Reads, first_bad}
 use Rattle.coap_scripts.proofs.ScriptWords.{cut_has}
 
 -- ---- a text is cut in one way
@@ -217,22 +216,11 @@ no_front_hold line none path format body says = none path says.0 says.1
 pub bad_at : {X : Type 0} (view : X → Setting) (text left line behind : List ℕ) (xs : List X) (n : ℕ)
     (r : LineRefusal) (e : ScriptRefusal) → left ≢ [] → IsFirst left line behind → Reads SaysSetting view text left xs
     → n ≡ length xs + 1 → Refuses (SaysNoSetting line) r → e ≡ of_line n r
-    → (e ≡ script.Memory) ⊎ ((number : ℕ) × (e ≡ script.Line number) × IsFirstBad (lines_of text) number)
+    → (e ≡ script.Memory) ⊎ ((number : ℕ) × (e ≡ script.Line number) × IsFirstBad SaysSetting (lines_of text) number)
 bad_at view text left line behind xs n r e some first so counted (inl memory) is = inl (is ∙ ap (of_line n) memory)
 bad_at view text left line behind xs n r e some first so counted (inr h) is =
-    let many : length so.done ≡ length (map view xs) = as_many SaysSetting so.done (map view xs) so.says in
-    let same : length (map view xs) ≡ length xs = length-map xs view in
     inr (
       n,
       is ∙ ap (of_line n) h.0,
-      record {
-        before = so.done;
-        line = line;
-        behind = lines_of behind;
-        settings = map view xs;
-        are = sym so.joined ∙ ap (λ l. so.done ++ l) (first_line left line behind some first);
-        counted = omega (arith, counted, many, same);
-        read = so.says;
-        bad = h.1;
-      },
+      first_bad SaysSetting view text left line behind xs n some first counted h.1 so,
     )

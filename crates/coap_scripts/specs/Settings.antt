@@ -1,12 +1,8 @@
 -- What a script says of how a server is set up: a setting a line, or nothing.
-use Rattle.std.specs.Prelude.{◌≡◌, ◌≢◌, ◌≤◌, ◌<◌, ◌+◌, ◌^◌, ◌==◌, ◌++◌, ℕ, Bool, true, List, [], ◌∷◌, length, codes}
-use Rattle.coap_types.specs.Path.{HoldsAtMost}
+use Rattle.std.specs.Prelude.{◌≡◌, ◌≢◌, ◌≤◌, ◌<◌, ◌^◌, ◌==◌, ℕ, Bool, true, List, [], ◌∷◌, codes}
 use Rattle.coap_types.specs.declared.body_limit.TheConstants.{MAX_BODY_LIMIT as max_body_limit}
-use Rattle.coap_types.specs.declared.path.TheConstants.{MAX_SEGMENT_LEN as max_segment_len}
-use Rattle.coap_types.specs.declared.path.TheConstants.{MAX_SEGMENTS as max_segments}
-use Rattle.coap_arguments.specs.PathText.{IsPathText}
-use Rattle.coap_scripts.specs.Script.{Begins, EachOf}
-use Rattle.coap_scripts.specs.ScriptWords.{IsCut, IsWord, SaysNumber}
+use Rattle.coap_scripts.specs.Script.{Begins, NamesPath, SaysPath}
+use Rattle.coap_scripts.specs.ScriptWords.{IsCut, SaysNumber}
 use Rattle.coap_scripts.specs.declared.script.settings.Setting as S
 use Rattle.coap_scripts.specs.declared.script.settings.Setting.TheVariants as setting
 use Rattle.coap_scripts.specs.declared.script.setting_words.SettingKind.{SettingKind}
@@ -42,10 +38,6 @@ abbrev pub is_comment : List ℕ → Bool
 is_comment [] = true
 is_comment (b ∷ bs) = b == 35
 
--- the word is a path that a server can have
-abbrev pub NamesPath : List ℕ → List (List ℕ) → Type 0
-NamesPath word path = IsPathText word path × HoldsAtMost max_segments max_segment_len path
-
 -- a word, which is a path, and what comes behind the space after it
 abbrev pub SaysFront : List (List ℕ) → List ℕ → List ℕ → Type 0
 SaysFront path rest line = (word : List ℕ) × IsCut 32 line word rest × (word ≢ []) × NamesPath word path
@@ -65,7 +57,7 @@ SaysDelay path ms line = (rest : List ℕ) × SaysFront path rest line × SaysNu
 
 -- a path that ends the line
 abbrev pub SaysPlain : List (List ℕ) → List ℕ → Type 0
-SaysPlain path line = IsWord line × NamesPath line path
+SaysPlain path line = SaysPath line path
 
 -- the longest body, in bytes
 abbrev pub SaysLimit : ℕ → List ℕ → Type 0
@@ -82,14 +74,3 @@ SaysSetting (Limit most) line = Begins (setting_word kind.Limit) (SaysLimit most
 -- it says none
 abbrev pub SaysNoSetting : List ℕ → Type 0
 SaysNoSetting line = (s : Setting) → SaysSetting s line → ⊥
-
--- the line of this number, from 1, is the first that says none
-pub record IsFirstBad (lines : List (List ℕ)) (number : ℕ) : Type 0 where
-  pub before : List (List ℕ)
-  pub line : List ℕ
-  pub behind : List (List ℕ)
-  pub settings : List Setting
-  pub are : lines ≡ before ++ line ∷ behind
-  pub counted : number ≡ length before + 1
-  pub read : EachOf SaysSetting before settings
-  pub bad : SaysNoSetting line

@@ -2,7 +2,7 @@
 ghost use Rattle.std.specs.Prelude.{◌≡◌, ◌≢◌, ◌⊎◌, ◌<◌, ◌≤◌, ◌^◌, ℕ, List, [], IfErr, IfOk};
 ghost use Rattle.coap_types.specs.declared.body_limit.TheConstants.{MAX_BODY_LIMIT as max_body_limit};
 ghost use Rattle.coap_scripts.specs.ScriptWords.{SaysNumber};
-ghost use Rattle.coap_scripts.specs.Settings.{NamesPath, SaysContent, SaysDelay, SaysFront, SaysHold, SaysLimit};
+ghost use Rattle.coap_scripts.specs.Settings.{SaysContent, SaysDelay, SaysFront, SaysHold, SaysLimit};
 ghost use Rattle.coap_scripts.specs.Settings.{SaysNoSetting, SaysPlain, SaysSetting, is_comment, setting_of};
 
 use crate::script::fields::{cut, last_word, number, path};

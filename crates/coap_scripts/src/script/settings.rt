@@ -1,7 +1,7 @@
 //! A server's script: how it is set up as text, a setting a line.
 ghost use Rattle.std.specs.Prelude.{◌≡◌, ◌⊎◌, ℕ, IfErr, IfOk, map};
-ghost use Rattle.coap_scripts.specs.Script.{EachOf, lines_of};
-ghost use Rattle.coap_scripts.specs.Settings.{IsFirstBad, SaysSetting, setting_of};
+ghost use Rattle.coap_scripts.specs.Script.{EachOf, IsFirstBad, lines_of};
+ghost use Rattle.coap_scripts.specs.Settings.{SaysSetting, setting_of};
 ghost use Rattle.coap_scripts.specs.declared.script.refusal.ScriptRefusal.TheVariants as refusal;
 
 use crate::script::first_line;
@@ -36,7 +36,7 @@ pub fn settings_of<A: Allocator + Copy>(
     ensures said { IfOk result (λ settings. EachOf SaysSetting (lines_of script.now) (map setting_of settings.items)) }
     // A server's script is refused for its first line that says no setting, or for want of memory.
     ensures refused { IfErr result (λ e. (e ≡ refusal.Memory)
-        ⊎ ((number : ℕ) × (e ≡ refusal.Line number) × IsFirstBad (lines_of script.now) number)) }
+        ⊎ ((number : ℕ) × (e ≡ refusal.Line number) × IsFirstBad SaysSetting (lines_of script.now) number)) }
 {
     let mut settings = Vec::new(alloc);
     let mut left = script;
