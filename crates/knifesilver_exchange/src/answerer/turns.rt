@@ -1,5 +1,9 @@
 //! What a server is handed, and hands out: datagrams and moments.
-ghost use Rattle.std.specs.Prelude.{◌≡◌, ◌≢◌, ◌<◌, ◌⊎◌, length, Some};
+ghost use Rattle.std.specs.Prelude.{◌≡◌, ◌≢◌, ◌<◌, ◌⊎◌, length, max, false, Some, []};
+ghost use Rattle.coap_layer.specs.Machine.State.{copies, made};
+ghost use Rattle.coap_layer.specs.Machine.Ups.{IsQuiet};
+ghost use Rattle.coap_layer.specs.Trace.{Receive as Arrives};
+ghost use Rattle.coap_exchange.specs.Machine.WhatIsDue.{takes_response};
 ghost use Rattle.knifesilver_exchange.specs.Answers.{IsAnswered, IsRefused, IsUsual};
 ghost use Rattle.knifesilver_exchange.specs.Calls.{IsDue, IsFeed, IsNextOut, IsTick};
 ghost use Rattle.knifesilver_exchange.specs.Held.{Holds, HoldsIn, IsIn, Made};
@@ -24,6 +28,8 @@ fn feed(held: &mut Held, now: u64, from: Endpoint, datagram: &[u8], request: &mu
     ensures kept { IsRefused result → held.new ≡ held.old }
     ensures live { Holds (Some held.old) → result ≢ NOT_LIVE }
     ensures why { IsRefused result → IsUsual result }
+    ensures quiet { IsIn (λ s. IsQuiet (made s.state.layer now (Arrives from datagram.now))) held.old
+        → IsAnswered result }
 {
     match held {
         Held::Answerer(server) => match server.feed(Moment(now), from, datagram) {
@@ -58,6 +64,10 @@ pub extern "C" fn ks_answerer_feed(
     ensures why { IsRefused result → IsUsual result }
     // `feed` never says of a handle with an answerer that it holds none.
     ensures live { Holds handle.old.held → result ≢ NOT_LIVE }
+    // A datagram for which the message layer sends nothing and hands nothing up is not refused by an answerer.
+    ensures quiet { HoldsIn (λ s. IsQuiet (made s.state.layer now
+        (Arrives (record { ip = from.now.ip; port = from.now.port }) datagram.now))) handle.old.held
+        → IsAnswered result }
 {
     let Some(mut held) = handle.take(alloc) else {
         return NOT_LIVE;
@@ -74,6 +84,8 @@ fn tick(held: &mut Held, now: u64, asked: &mut KsAsked) -> i32
     ensures kept { IsRefused result → held.new ≡ held.old }
     ensures live { Holds (Some held.old) → result ≢ NOT_LIVE }
     ensures why { IsRefused result → IsUsual result }
+    ensures quiet { IsIn (λ s. (copies (max s.state.own.clock now) s.state.layer.open_cons ≡ [])
+        × (takes_response s.state now ≡ false)) held.old → IsAnswered result }
 {
     match held {
         Held::Answerer(server) => match server.tick(Moment(now)) {
@@ -106,6 +118,9 @@ pub extern "C" fn ks_answerer_tick(
     ensures why { IsRefused result → IsUsual result }
     // `tick` never says of a handle with an answerer that it holds none.
     ensures live { Holds handle.old.held → result ≢ NOT_LIVE }
+    // A tick of an answerer at which no copy is due, and no deferred request can be answered, is not refused.
+    ensures quiet { HoldsIn (λ s. (copies (max s.state.own.clock now) s.state.layer.open_cons ≡ [])
+        × (takes_response s.state now ≡ false)) handle.old.held → IsAnswered result }
 {
     let Some(mut held) = handle.take(alloc) else {
         return NOT_LIVE;
