@@ -1,41 +1,24 @@
 -- What clap's clauses say of the words of this program.
 use Rattle.std.proofs.Common.{◌≡◌, ◌∙◌, ◌⊎◌, ap, ap₂, sym, refl, subst, Bool, true, false, ◌||◌, List, [], Option}
-use Rattle.std.proofs.Common.{arith, length, Some, None, option_map, unwrap_or, codes, inl, inr, Result, Ok, Err}
-use Rattle.std.specs.List.{find, list_all}
-use Rattle.std.specs.Prelude.{option_and_then, slice_get}
+use Rattle.std.proofs.Common.{Some, None, option_map, unwrap_or, codes, inl, inr, Result, Ok, Err}
+use Rattle.std.specs.List.{list_all}
 use Rattle.std.specs.Str.{bytes_eq}
 use Rattle.std.specs.Result.{IfErr, IfOk, IsErrAnd, MatchResult}
 use Rattle.std.proofs.lemmas.Slice.Eq.{bytes_eq-Decides}
 use Rattle.clap.proofs.OnLiterals.{clap_on_literals}
 use Rattle.clap.specs.Simple.{built}
-use Rattle.clap.specs.Words.{App, HasKind, HasMatchesOf, IsAmong, Kinds, Row, Text, all_of, fault_of, is_simple}
+use Rattle.clap.specs.Words.{App, HasKind, HasMatchesOf, IsAmong, Kinds, Row, Text, fault_of, is_simple}
 use Rattle.clap.specs.Words.{is_simple_and_free, kind_of, subcommand_name_of, subcommand_of, subcommand_rows_of}
 use Rattle.clap.specs.declared.error.Error.{Error}
 use Rattle.clap.specs.declared.parser.matches.ArgMatches.{ArgMatches}
+use Rattle.coap_arguments.specs.Asking.{IsAsk, SendsBody}
 use Rattle.coap_arguments.specs.CommandLine.{coap_app}
-use Rattle.coap_arguments.specs.Addresses.{address_argument_of}
-use Rattle.coap_arguments.specs.Asking.{AreNoTags, AsksChange, HasNoTags, IsAsk, MakesClient, NamesServer, SendsBody}
-use Rattle.coap_arguments.specs.Asking.{tags_argument_of}
-use Rattle.coap_arguments.specs.Numbers.{argument_of}
 use Rattle.coap_arguments.specs.Plains.{IsWrongPlain}
-use Rattle.coap_arguments.specs.Serving.{HasNoSetting, setting_argument_of}
-use Rattle.coap_arguments.specs.Taking.{IsWrongOption, IsWrongServing, MakesEnd, TakesAddress, TakesItsOwn, TakesNumber}
-use Rattle.coap_arguments.specs.Taking.{TakesPlains, TakesTags}
-use Rattle.coap_arguments.specs.Texts.{texts_of}
-use Rattle.coap_arguments.specs.Values.{Enters, IsGiven, IsValue}
+use Rattle.coap_arguments.specs.Values.{Enters, IsGiven}
 use Rattle.coap_arguments.specs.Words.{AsksFor, AsksForIn, IsVersion, IsWrong, IsWrongIn}
+use Rattle.coap_arguments.specs.WrongOptions.{IsWrongOption, IsWrongServing}
 use Rattle.coap_arguments.specs.Wrongs.{IsWrongOfClap}
-use Rattle.coap_arguments.specs.declared.refusals.AddressRefusal.{AddressRefusal}
-use Rattle.coap_arguments.specs.declared.refusals.AddressRefusal.TheVariants.{Host, Address as Own}
-use Rattle.coap_arguments.specs.declared.refusals.NumberRefusal.{NumberRefusal}
-use Rattle.coap_arguments.specs.declared.refusals.NumberRefusal.TheVariants.{Port, Count, Limit, Remember, Format}
-use Rattle.coap_arguments.specs.declared.refusals.NumberRefusal.TheVariants.{Accept, Times, Seconds, GiveUp, Every}
-use Rattle.coap_arguments.specs.declared.refusals.NumberRefusal.TheVariants.{Again, ServerPort}
 use Rattle.coap_arguments.specs.declared.orders.Order.{Order}
-use Rattle.coap_arguments.specs.declared.refusals.SettingRefusal.{SettingRefusal}
-use Rattle.coap_arguments.specs.declared.refusals.SettingRefusal.TheVariants as setting
-use Rattle.coap_arguments.specs.declared.refusals.TagsRefusal.{TagsRefusal}
-use Rattle.coap_arguments.specs.declared.refusals.TagsRefusal.TheVariants.{Etag, IfMatch}
 use Rattle.coap_arguments.specs.declared.orders.Wrong.{Wrong}
 use Rattle.coap_arguments.specs.declared.orders.Wrong.TheVariants.{Words, Path, Number, Word, Address, Size, Tags}
 use Rattle.coap_arguments.specs.declared.orders.Wrong.TheVariants.{Setting, Body, Store, Plains, Ends, Together}
@@ -43,7 +26,6 @@ use Rattle.coap_arguments.specs.declared.orders.Wrong.TheVariants.{NoPath, Uri, 
 use Rattle.coap_arguments.specs.declared.orders.Wrong.TheVariants.{Hex, Memory}
 use Rattle.coap_arguments.proofs.Entered.{enters}
 use Rattle.coap_arguments.proofs.GivenWords.{asks, required_word}
-use Rattle.coap_arguments.proofs.OwnRows.{lacks, taken_or_not}
 
 -- ---- a name and its rows, where each is known by itself
 
@@ -68,6 +50,10 @@ is_free_coap : is_simple_and_free coap_app ≡ true
 unfolding clap_on_literals
 is_free_coap = refl
 
+-- it names a server
+abbrev pub NamesServer : Text → Type 0
+NamesServer name = (name ≡ codes "ping") ⊎ ((name ≡ codes "discover") ⊎ IsAsk name)
+
 -- the names of the subcommands, but for `help`
 abbrev pub IsOurs : Text → Type 0
 IsOurs name =
@@ -78,17 +64,12 @@ IsOurs name =
 abbrev sends_body : Text → Bool
 sends_body name = bytes_eq name (codes "put") || bytes_eq name (codes "post")
 
-abbrev asks_change : Text → Bool
-asks_change name = bytes_eq name (codes "delete") || sends_body name
-
 abbrev is_ask : Text → Bool
-is_ask name = bytes_eq name (codes "get") || (bytes_eq name (codes "observe") || asks_change name)
-
-abbrev makes_client : Text → Bool
-makes_client name = bytes_eq name (codes "discover") || is_ask name
+is_ask name = bytes_eq name (codes "get") || (bytes_eq name (codes "observe")
+    || (bytes_eq name (codes "delete") || sends_body name))
 
 abbrev names_server : Text → Bool
-names_server name = bytes_eq name (codes "ping") || makes_client name
+names_server name = bytes_eq name (codes "ping") || (bytes_eq name (codes "discover") || is_ask name)
 
 abbrev is_ours : Text → Bool
 is_ours name =
@@ -96,21 +77,6 @@ is_ours name =
     || (bytes_eq name (codes "answer") || (bytes_eq name (codes "pair")
     || (bytes_eq name (codes "serve") || (bytes_eq name (codes "sim") ||
     (bytes_eq name (codes "dump") || names_server name)))))
-
-abbrev serves_or_asks : Text → Bool
-serves_or_asks name = bytes_eq name (codes "serve") || makes_client name
-
-abbrev makes_end : Text → Bool
-makes_end name = bytes_eq name (codes "pair") || serves_or_asks name
-
-abbrev reads_again : Text → Bool
-reads_again name = bytes_eq name (codes "get") || bytes_eq name (codes "observe")
-
-abbrev counts : Text → Bool
-counts name = bytes_eq name (codes "ping") || reads_again name
-
-abbrev remembers : Text → Bool
-remembers name = bytes_eq name (codes "sim") || makes_end name
 
 -- the name is this one, or the other test holds
 first_or : (P : Type 0) (name known : Text) (rest : Bool) → (rest ≡ true → P) → (bytes_eq name known || rest) ≡ true
@@ -127,33 +93,12 @@ is_name name known is = (bytes_eq-Decides name known).0 is
 one_sends : (name : Text) → sends_body name ≡ true → SendsBody name
 one_sends name is = first_or _ name (codes "put") _ (is_name name (codes "post")) is
 
-one_changes : (name : Text) → asks_change name ≡ true → AsksChange name
-one_changes name is = first_or _ name (codes "delete") _ (one_sends name) is
-
 one_asks : (name : Text) → is_ask name ≡ true → IsAsk name
-one_asks name is = first_or _ name (codes "get") _ (first_or _ name (codes "observe") _ (one_changes name)) is
-
-one_makes_client : (name : Text) → makes_client name ≡ true → MakesClient name
-one_makes_client name is = first_or _ name (codes "discover") _ (one_asks name) is
+one_asks name is = first_or _ name (codes "get") _
+    (first_or _ name (codes "observe") _ (first_or _ name (codes "delete") _ (one_sends name))) is
 
 one_names_server : (name : Text) → names_server name ≡ true → NamesServer name
-one_names_server name is = first_or _ name (codes "ping") _ (one_makes_client name) is
-
-one_serves_or_asks : (name : Text) → serves_or_asks name ≡ true → (name ≡ codes "serve") ⊎ MakesClient name
-one_serves_or_asks name is = first_or _ name (codes "serve") _ (one_makes_client name) is
-
-one_makes_end : (name : Text) → makes_end name ≡ true → MakesEnd name
-one_makes_end name is = first_or _ name (codes "pair") _ (one_serves_or_asks name) is
-
-one_reads_again : (name : Text) → reads_again name ≡ true → (name ≡ codes "get") ⊎ (name ≡ codes "observe")
-one_reads_again name is = first_or _ name (codes "get") _ (is_name name (codes "observe")) is
-
-one_counts : (name : Text) → counts name ≡ true
-    → (name ≡ codes "ping") ⊎ ((name ≡ codes "get") ⊎ (name ≡ codes "observe"))
-one_counts name is = first_or _ name (codes "ping") _ (one_reads_again name) is
-
-one_remembers : (name : Text) → remembers name ≡ true → (name ≡ codes "sim") ⊎ MakesEnd name
-one_remembers name is = first_or _ name (codes "sim") _ (one_makes_end name) is
+one_names_server name is = first_or _ name (codes "ping") _ (first_or _ name (codes "discover") _ (one_asks name)) is
 
 one_of_ours : (name : Text) → is_ours name ≡ true → IsOurs name
 one_of_ours name is =
@@ -228,198 +173,53 @@ pub sim_file : (words : List Text) (rows : List Row) → Enters words (codes "si
 unfolding clap_on_literals
 sim_file words rows e = required_word coap_app words (codes "sim") (codes "FILE") rows refl e.taken e.entered
 
--- ---- and what is given is an argument of the subcommand
+-- ---- what is wrong
 
--- an argument that only these subcommands take is given in one of them, or not at all
-taken_by : (p : Text → Bool) (P : Text → Type 0) (id : Text) (words : List Text) (name : Text) (rows : List Row)
-    → ((n : Text) → p n ≡ true → P n)
-    → list_all (lacks p id) (built coap_app).subs ≡ true → Enters words name rows
-    → (all_of id rows ≡ None) ⊎ P name
-taken_by p P id words name rows means all e =
-    elim (taken_or_not p id coap_app words name rows all e.entered) [
-      | inl none ↦ inl none
-      | inr is ↦ inr (means name is)
-    ]
+-- in the value of an option is wrong in the subcommand
+pub value_wrong : (name : Text) (rows : List Row) (w : Wrong) → IsWrongOption rows w → IsWrongIn name rows w
+value_wrong name rows (Words error) h = absurd h
+value_wrong name rows (Path refusal) h = absurd h
+value_wrong name rows (Number refusal) h = h
+value_wrong name rows Word h = h
+value_wrong name rows (Address refusal) h = h
+value_wrong name rows Size h = h
+value_wrong name rows (Tags refusal) h = h
+value_wrong name rows (Setting refusal) h = h
+value_wrong name rows Body h = absurd h
+value_wrong name rows Store h = absurd h
+value_wrong name rows Plains h = absurd h
+value_wrong name rows (Ends refusal) h = absurd h
+value_wrong name rows (Together refusal) h = absurd h
+value_wrong name rows NoPath h = absurd h
+value_wrong name rows (Uri refusal) h = absurd h
+value_wrong name rows (Beside refusal) h = absurd h
+value_wrong name rows Hex h = absurd h
+value_wrong name rows Memory h = tt
 
-takes_number : (words : List Text) (name : Text) (rows : List Row) → Enters words name rows → (why : NumberRefusal)
-    → (all_of (argument_of why) rows ≡ None) ⊎ TakesNumber why name
-unfolding clap_on_literals
-takes_number words name rows e Port = taken_by
-    (λ n. bytes_eq n (codes "serve")) (TakesNumber Port) (codes "PORT") words name rows
-    (λ n is. is_name n (codes "serve") is) refl e
-takes_number words name rows e Count = taken_by
-    (λ n. bytes_eq n (codes "serve")) (TakesNumber Count) (codes "COUNT") words name rows
-    (λ n is. is_name n (codes "serve") is) refl e
-takes_number words name rows e Limit =
-    taken_by makes_end (TakesNumber Limit) (codes "limit") words name rows one_makes_end refl e
-takes_number words name rows e Remember =
-    taken_by remembers (TakesNumber Remember) (codes "remember") words name rows one_remembers refl e
-takes_number words name rows e Format =
-    taken_by sends_body (TakesNumber Format) (codes "format") words name rows one_sends refl e
-takes_number words name rows e Accept = taken_by
-    (λ n. bytes_eq n (codes "get")) (TakesNumber Accept) (codes "accept") words name rows
-    (λ n is. is_name n (codes "get") is) refl e
-takes_number words name rows e Times =
-    taken_by counts (TakesNumber Times) (codes "count") words name rows one_counts refl e
-takes_number words name rows e Seconds = taken_by
-    (λ n. bytes_eq n (codes "observe")) (TakesNumber Seconds) (codes "seconds") words name rows
-    (λ n is. is_name n (codes "observe") is) refl e
-takes_number words name rows e GiveUp =
-    taken_by names_server (TakesNumber GiveUp) (codes "give-up") words name rows one_names_server refl e
-takes_number words name rows e Every = taken_by
-    (λ n. bytes_eq n (codes "get")) (TakesNumber Every) (codes "every") words name rows
-    (λ n is. is_name n (codes "get") is) refl e
-takes_number words name rows e Again = taken_by
-    (λ n. bytes_eq n (codes "observe")) (TakesNumber Again) (codes "again") words name rows
-    (λ n is. is_name n (codes "observe") is) refl e
-takes_number words name rows e ServerPort =
-    taken_by names_server (TakesNumber ServerPort) (codes "PORT|URI") words name rows one_names_server refl e
-
-takes_word : (words : List Text) (name : Text) (rows : List Row) → Enters words name rows
-    → (all_of (codes "word") rows ≡ None) ⊎ MakesEnd name
-unfolding clap_on_literals
-takes_word words name rows e = taken_by makes_end MakesEnd (codes "word") words name rows one_makes_end refl e
-
-takes_address : (words : List Text) (name : Text) (rows : List Row) → Enters words name rows → (why : AddressRefusal)
-    → (all_of (address_argument_of why) rows ≡ None) ⊎ TakesAddress why name
-unfolding clap_on_literals
-takes_address words name rows e Host =
-    taken_by names_server (TakesAddress Host) (codes "host") words name rows one_names_server refl e
-takes_address words name rows e Own = taken_by
-    (λ n. bytes_eq n (codes "serve")) (TakesAddress Own) (codes "address") words name rows
-    (λ n is. is_name n (codes "serve") is) refl e
-
-takes_size : (words : List Text) (name : Text) (rows : List Row) → Enters words name rows
-    → (all_of (codes "size") rows ≡ None) ⊎ MakesClient name
-unfolding clap_on_literals
-takes_size words name rows e = taken_by makes_client MakesClient (codes "size") words name rows one_makes_client refl e
-
-takes_setting : (words : List Text) (name : Text) (rows : List Row) → Enters words name rows → (why : SettingRefusal)
-    → (all_of (setting_argument_of why) rows ≡ None) ⊎ (name ≡ codes "serve")
-unfolding clap_on_literals
-takes_setting words name rows e setting.Hold = taken_by
-    (λ n. bytes_eq n (codes "serve")) (λ n. n ≡ codes "serve") (codes "hold") words name rows
-    (λ n is. is_name n (codes "serve") is) refl e
-takes_setting words name rows e setting.Delay = taken_by
-    (λ n. bytes_eq n (codes "serve")) (λ n. n ≡ codes "serve") (codes "delay") words name rows
-    (λ n is. is_name n (codes "serve") is) refl e
-
-takes_tags : (words : List Text) (name : Text) (rows : List Row) → Enters words name rows → (why : TagsRefusal)
-    → (all_of (tags_argument_of why) rows ≡ None) ⊎ TakesTags why name
-unfolding clap_on_literals
-takes_tags words name rows e Etag = taken_by
-    (λ n. bytes_eq n (codes "get")) (TakesTags Etag) (codes "etag") words name rows
-    (λ n is. is_name n (codes "get") is) refl e
-takes_tags words name rows e IfMatch =
-    taken_by asks_change (TakesTags IfMatch) (codes "if-match") words name rows one_changes refl e
-
-pub takes_its_own : (words : List Text) (name : Text) (rows : List Row) → Enters words name rows
-    → TakesItsOwn name rows
-takes_its_own words name rows e =
-    record {
-      numbers = takes_number words name rows e;
-      word = takes_word words name rows e;
-      addresses = takes_address words name rows e;
-      size = takes_size words name rows e;
-      settings = takes_setting words name rows e;
-      tags = takes_tags words name rows e;
-    }
-
--- what has a value was given
-is_there : (id : Text) (rows : List Row) (text : Text) → IsValue id rows text → all_of id rows ≡ None → ⊥
-is_there id rows text is none = go (find (λ r. bytes_eq r.id id) rows) is none
-  where
-    go : (o : Option Row) → option_and_then (λ r. slice_get r.values 0) o ≡ Some text
-        → option_map (λ (r : Row). r.values) o ≡ None → ⊥
-    go None is none = cc
-    go (Some r) is none = cc
-
-no_tags_there : (why : TagsRefusal) (rows : List Row) → HasNoTags why rows → all_of (tags_argument_of why) rows ≡ None
-    → ⊥
-no_tags_there why rows h none =
-    let texts : texts_of (tags_argument_of why) rows ≡ [] = ap (λ (o : Option (List Text)). unwrap_or o []) none in
-    elim (subst AreNoTags texts h) [
-      | inl more ↦ absurd (omega (arith, more))
-      | inr some ↦ absurd (omega (arith, some.2))
-    ]
-
-no_setting_there : (why : SettingRefusal) (rows : List Row) → HasNoSetting why rows
-    → all_of (setting_argument_of why) rows ≡ None → ⊥
-no_setting_there setting.Hold rows h none =
-    let texts : texts_of (codes "hold") rows ≡ [] = ap (λ (o : Option (List Text)). unwrap_or o []) none in
-    let fewer : length (texts_of (codes "hold") rows) ≡ 0 = ap length texts in
-    absurd (omega (arith, fewer, h.2))
-no_setting_there setting.Delay rows h none =
-    let texts : texts_of (codes "delay") rows ≡ [] = ap (λ (o : Option (List Text)). unwrap_or o []) none in
-    let fewer : length (texts_of (codes "delay") rows) ≡ 0 = ap length texts in
-    elim h [ inl more ↦ absurd (omega (arith, fewer, more)) | inr some ↦ absurd (omega (arith, fewer, some.2)) ]
-
--- what is wrong in the value of an option is wrong in the subcommand, which takes it
-pub value_wrong : (name : Text) (rows : List Row) (w : Wrong) → TakesItsOwn name rows → IsWrongOption rows w
-    → IsWrongIn name rows w
-value_wrong name rows (Words error) own h = absurd h
-value_wrong name rows (Path refusal) own h = absurd h
-value_wrong name rows (Number refusal) own h = elim (own.numbers refusal) [
-  | inl none ↦ absurd (is_there (argument_of refusal) rows h.0 h.1 none)
-  | inr takes ↦ (takes, h)
-]
-value_wrong name rows Word own h = elim own.word [
-  | inl none ↦ absurd (is_there (codes "word") rows h.0 h.1 none)
-  | inr takes ↦ (takes, h)
-]
-value_wrong name rows (Address refusal) own h = elim (own.addresses refusal) [
-  | inl none ↦ absurd (is_there (address_argument_of refusal) rows h.0 h.1 none)
-  | inr takes ↦ (takes, h)
-]
-value_wrong name rows Size own h = elim own.size [
-  | inl none ↦ absurd (is_there (codes "size") rows h.0 h.1 none)
-  | inr takes ↦ (takes, h)
-]
-value_wrong name rows (Tags refusal) own h = elim (own.tags refusal) [
-  | inl none ↦ absurd (no_tags_there refusal rows h none)
-  | inr takes ↦ (takes, h)
-]
-value_wrong name rows (Setting refusal) own h = elim (own.settings refusal) [
-  | inl none ↦ absurd (no_setting_there refusal rows h none)
-  | inr takes ↦ (takes, h)
-]
-value_wrong name rows Body own h = absurd h
-value_wrong name rows Store own h = absurd h
-value_wrong name rows Plains own h = absurd h
-value_wrong name rows (Ends refusal) own h = absurd h
-value_wrong name rows (Together refusal) own h = absurd h
-value_wrong name rows NoPath own h = absurd h
-value_wrong name rows (Uri refusal) own h = absurd h
-value_wrong name rows (Beside refusal) own h = absurd h
-value_wrong name rows Hex own h = absurd h
-value_wrong name rows Memory own h = tt
-
-plain_wrong : (name : Text) (rows : List Row) (w : Wrong) → TakesPlains name → IsWrongPlain rows w
-    → IsWrongIn name rows w
-plain_wrong name rows (Words error) takes h = absurd h
-plain_wrong name rows (Path refusal) takes h = inr (takes, h)
-plain_wrong name rows (Number refusal) takes h = absurd h
-plain_wrong name rows Word takes h = absurd h
-plain_wrong name rows (Address refusal) takes h = absurd h
-plain_wrong name rows Size takes h = absurd h
-plain_wrong name rows (Tags refusal) takes h = absurd h
-plain_wrong name rows (Setting refusal) takes h = absurd h
-plain_wrong name rows Body takes h = absurd h
-plain_wrong name rows Store takes h = absurd h
-plain_wrong name rows Plains takes h = (takes, h)
-plain_wrong name rows (Ends refusal) takes h = absurd h
-plain_wrong name rows (Together refusal) takes h = absurd h
-plain_wrong name rows NoPath takes h = absurd h
-plain_wrong name rows (Uri refusal) takes h = absurd h
-plain_wrong name rows (Beside refusal) takes h = absurd h
-plain_wrong name rows Hex takes h = absurd h
-plain_wrong name rows Memory takes h = tt
+plain_wrong : (name : Text) (rows : List Row) (w : Wrong) → IsWrongPlain rows w → IsWrongIn name rows w
+plain_wrong name rows (Words error) h = absurd h
+plain_wrong name rows (Path refusal) h = inr h
+plain_wrong name rows (Number refusal) h = absurd h
+plain_wrong name rows Word h = absurd h
+plain_wrong name rows (Address refusal) h = absurd h
+plain_wrong name rows Size h = absurd h
+plain_wrong name rows (Tags refusal) h = absurd h
+plain_wrong name rows (Setting refusal) h = absurd h
+plain_wrong name rows Body h = absurd h
+plain_wrong name rows Store h = absurd h
+plain_wrong name rows Plains h = h
+plain_wrong name rows (Ends refusal) h = absurd h
+plain_wrong name rows (Together refusal) h = absurd h
+plain_wrong name rows NoPath h = absurd h
+plain_wrong name rows (Uri refusal) h = absurd h
+plain_wrong name rows (Beside refusal) h = absurd h
+plain_wrong name rows Hex h = absurd h
+plain_wrong name rows Memory h = tt
 
 -- so is what is wrong in the values by which a server is set up
-pub serving_wrong : (rows : List Row) (w : Wrong) → TakesItsOwn (codes "serve") rows → IsWrongServing rows w
-    → IsWrongIn (codes "serve") rows w
-serving_wrong rows w own (inl h) = value_wrong (codes "serve") rows w own h
-serving_wrong rows w own (inr h) = plain_wrong (codes "serve") rows w (inr refl) h
+pub serving_wrong : (name : Text) (rows : List Row) (w : Wrong) → IsWrongServing rows w → IsWrongIn name rows w
+serving_wrong name rows w (inl h) = value_wrong name rows w h
+serving_wrong name rows w (inr h) = plain_wrong name rows w h
 
 -- ---- a parse that succeeds
 

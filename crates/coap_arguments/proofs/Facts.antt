@@ -3,11 +3,13 @@ pub mod NotBoth
 pub mod OneAnswer
 pub mod PathTexts
 pub mod RightNumbers
+pub mod RightOptions
 pub mod RightOrders
 pub mod RightServers
 pub mod RightTogether
 pub mod RightValues
 pub mod SaidTexts
+pub mod Takes
 pub mod UriOrNot
 pub mod VersionOrNot
 pub mod WhoTakes

@@ -33,21 +33,10 @@ use Rattle.coap_arguments.specs.declared.orders.WordChoice.TheVariants.{Random}
 abbrev pub SendsBody : Text → Type 0
 SendsBody subcommand = (subcommand ≡ codes "put") ⊎ (subcommand ≡ codes "post")
 
--- it asks for a change
-abbrev pub AsksChange : Text → Type 0
-AsksChange subcommand = (subcommand ≡ codes "delete") ⊎ SendsBody subcommand
-
--- it asks something of a server
+-- it asks for a resource of a server
 abbrev pub IsAsk : Text → Type 0
-IsAsk subcommand = (subcommand ≡ codes "get") ⊎ ((subcommand ≡ codes "observe") ⊎ AsksChange subcommand)
-
--- it makes a client
-abbrev pub MakesClient : Text → Type 0
-MakesClient subcommand = (subcommand ≡ codes "discover") ⊎ IsAsk subcommand
-
--- it names a server
-abbrev pub NamesServer : Text → Type 0
-NamesServer subcommand = (subcommand ≡ codes "ping") ⊎ MakesClient subcommand
+IsAsk subcommand = (subcommand ≡ codes "get") ⊎ ((subcommand ≡ codes "observe") ⊎ ((subcommand ≡ codes "delete")
+    ⊎ SendsBody subcommand))
 
 -- it asks the server itself, and not for a resource that the words name
 abbrev pub AsksServer : Text → Type 0

@@ -8,13 +8,12 @@ use Rattle.coap_types.specs.declared.path.TheConstants.{MAX_SEGMENTS as max_segm
 use Rattle.coap_arguments.specs.Addresses.{HasHost, HasNoAddress}
 use Rattle.coap_arguments.specs.Asking.{HasFile, HasFlag, HasNoContent, HasNoTags, HasNoUri, HasNothingBeside}
 use Rattle.coap_arguments.specs.Asking.{HasOptions, HasPingOptions, HasUri, IsAsk, IsBodyWord, IsWhat, IsWrongBeside}
-use Rattle.coap_arguments.specs.Asking.{MakesClient, NamesServer, SendsBody}
+use Rattle.coap_arguments.specs.Asking.{SendsBody}
 use Rattle.coap_arguments.specs.CommandLine.{coap_app}
 use Rattle.coap_arguments.specs.Ends.{AreNoEnds, HasEnds}
 use Rattle.coap_arguments.specs.Plains.{HasNoPlain, HasPlains, HasTooManyPlains}
 use Rattle.coap_arguments.specs.Serving.{HasNoSetting, HasServeOptions, serving_word}
 use Rattle.coap_arguments.specs.Sizes.{HasNoSize}
-use Rattle.coap_arguments.specs.Taking.{MakesEnd, TakesAddress, TakesNumber, TakesPath, TakesPlains, TakesTags}
 use Rattle.coap_arguments.specs.Together.{AreApart, GoServed}
 use Rattle.coap_arguments.specs.Uris.{IsPlace, IsWrongUri}
 use Rattle.coap_arguments.specs.Values.{Enters, HasBytes, HasCount, HasLimit, HasNoBytes, HasNoNumber, HasNoPath}
@@ -86,6 +85,11 @@ AsksForIn subcommand values (Sim file store plains remembered chart client serve
     × HasPlains values plains.items × HasRemembered values remembered × HasFlag (codes "chart") values chart
     × HasEnds values client server × HasFile (codes "pcap") values pcap
 
+-- the subcommand with these values takes a PATH: one that asks, where no URI stands in its place
+abbrev pub TakesPath : Text → List Row → Type 0
+TakesPath subcommand values = (subcommand ≡ codes "answer")
+    ⊎ ((subcommand ≡ codes "pair") ⊎ (IsAsk subcommand × HasNoUri values))
+
 -- the words are the program's name and `--version`
 abbrev pub IsVersion : List Text → Type 0
 IsVersion words = (name : Text) × (words ≡ name ∷ codes "--version" ∷ [])
@@ -106,31 +110,32 @@ IsPathFine subcommand values = (subcommand ≡ codes "show")
 abbrev pub IsRefusedBy : Error → List Text → Type 0
 IsRefusedBy error words = (IsVersion words → ⊥) × IsAmong (kind_of error) (fault_of coap_app words)
 
--- this is wrong in the values of the subcommand; of memory that is refused they say nothing
+-- this is wrong in the values of the subcommand, which are those of arguments that it takes; of memory that is refused
+-- they say nothing
 abbrev pub IsWrongIn : Text → List Row → Wrong → Type 0
 IsWrongIn subcommand values (Words error) = ⊥
 -- the PATH, or a value of `--plain`, is a text of no path, for this reason
 IsWrongIn subcommand values (Path refusal) = (TakesPath subcommand values × HasNoPath values refusal)
-    ⊎ (TakesPlains subcommand × HasNoPlain values refusal)
+    ⊎ HasNoPlain values refusal
 -- this argument is no number in its range
-IsWrongIn subcommand values (Number refusal) = TakesNumber refusal subcommand × HasNoNumber refusal values
+IsWrongIn subcommand values (Number refusal) = HasNoNumber refusal values
 -- `--word` is no choice of a word
-IsWrongIn subcommand values Word = MakesEnd subcommand × HasNoWord values
+IsWrongIn subcommand values Word = HasNoWord values
 -- this argument is no address, and no name where it may be one
-IsWrongIn subcommand values (Address refusal) = TakesAddress refusal subcommand × HasNoAddress refusal values
+IsWrongIn subcommand values (Address refusal) = HasNoAddress refusal values
 -- `--size` is no size of a block
-IsWrongIn subcommand values Size = MakesClient subcommand × HasNoSize values
+IsWrongIn subcommand values Size = HasNoSize values
 -- this argument is no entity-tag, or is given too often
-IsWrongIn subcommand values (Tags refusal) = TakesTags refusal subcommand × HasNoTags refusal values
+IsWrongIn subcommand values (Tags refusal) = HasNoTags refusal values
 -- this argument says nothing of how a server is set up, or is given too often
-IsWrongIn subcommand values (Setting refusal) = (subcommand ≡ codes "serve") × HasNoSetting refusal values
+IsWrongIn subcommand values (Setting refusal) = HasNoSetting refusal values
 -- both of the body as a word and `--file` are there, or neither
 IsWrongIn subcommand values Body = SendsBody subcommand × (word : Text) × IsBodyWord word values
     × HasNoContent word values
 -- `--store` names no store
-IsWrongIn subcommand values Store = (subcommand ≡ codes "sim") × HasNoStore values
+IsWrongIn subcommand values Store = HasNoStore values
 -- `--plain` names more paths than a server takes
-IsWrongIn subcommand values Plains = TakesPlains subcommand × HasTooManyPlains values
+IsWrongIn subcommand values Plains = HasTooManyPlains values
 -- the ends of the run have no place to stand at, or one for both
 IsWrongIn subcommand values (Ends refusal) = (subcommand ≡ codes "sim") × AreNoEnds refusal values
 -- options don't go together
@@ -138,10 +143,9 @@ IsWrongIn subcommand values (Together refusal) = AreApart refusal subcommand val
 -- behind a PORT there is no PATH
 IsWrongIn subcommand values NoPath = IsAsk subcommand × HasNoUri values × (first_of (codes "PATH") values ≡ None)
 -- the URI says no resource that is asked for, for this reason
-IsWrongIn subcommand values (Uri refusal) = NamesServer subcommand × (text rest : Text) × HasUri values text rest
-    × IsWrongUri refusal text rest
+IsWrongIn subcommand values (Uri refusal) = (text rest : Text) × HasUri values text rest × IsWrongUri refusal text rest
 -- beside a URI stands what it says itself
-IsWrongIn subcommand values (Beside refusal) = NamesServer subcommand × (text rest : Text) × HasUri values text rest
+IsWrongIn subcommand values (Beside refusal) = (text rest : Text) × HasUri values text rest
     × IsWrongBeside refusal subcommand values
 -- a PATH is a text of a path, and HEX is the hex of no list of bytes
 IsWrongIn subcommand values Hex = IsPathFine subcommand values × HasNoBytes values

@@ -3,7 +3,6 @@ ghost use Rattle.std.specs.Prelude.{MatchResult};
 ghost use Rattle.std.specs.Prelude.{codes};
 ghost use Rattle.clap.specs.Words.{found_of, rows_of};
 ghost use Rattle.coap_arguments.specs.Asking.{HasNoUri, HasUri, IsAsk, IsBodyWord, IsWhat};
-ghost use Rattle.coap_arguments.specs.Taking.{TakesItsOwn};
 ghost use Rattle.coap_arguments.specs.Values.{IsGiven, IsValue};
 ghost use Rattle.coap_arguments.specs.Words.{AsksForIn, IsWrongIn};
 
@@ -29,7 +28,6 @@ pub(crate) fn ask_order<'a>(
 ) -> Result<Order<'a>, Wrong>
     requires name { IsAsk subcommand.now }
     requires port { IsGiven (codes "PORT|URI") (rows_of (found_of given.now)) }
-    requires own { TakesItsOwn subcommand.now (rows_of (found_of given.now)) }
     ensures { MatchResult result (AsksForIn subcommand.now (rows_of (found_of given.now)))
         (IsWrongIn subcommand.now (rows_of (found_of given.now))) }
 {
@@ -51,7 +49,6 @@ fn ask_at_port<'a>(
     requires name { IsAsk subcommand.now }
     requires port { IsValue (codes "PORT|URI") (rows_of (found_of given.now)) port.now }
     requires words { HasNoUri (rows_of (found_of given.now)) }
-    requires own { TakesItsOwn subcommand.now (rows_of (found_of given.now)) }
     ensures { MatchResult result (AsksForIn subcommand.now (rows_of (found_of given.now)))
         (IsWrongIn subcommand.now (rows_of (found_of given.now))) }
 {
@@ -85,7 +82,6 @@ fn ask_at_uri<'a>(
 ) -> Result<Order<'a>, Wrong>
     requires name { IsAsk subcommand.now }
     requires uri { HasUri (rows_of (found_of given.now)) text.now rest.now }
-    requires own { TakesItsOwn subcommand.now (rows_of (found_of given.now)) }
     ensures { MatchResult result (AsksForIn subcommand.now (rows_of (found_of given.now)))
         (IsWrongIn subcommand.now (rows_of (found_of given.now))) }
 {

@@ -6,7 +6,7 @@ ghost use Rattle.coap_arguments.specs.Asking.{HasTags};
 ghost use Rattle.coap_arguments.specs.Asking.{IsTagText};
 ghost use Rattle.coap_arguments.specs.Formats.{IsFormatName};
 ghost use Rattle.coap_arguments.specs.Numbers.{IsWordFor, least_of, most_of};
-ghost use Rattle.coap_arguments.specs.Taking.{IsWrongOption};
+ghost use Rattle.coap_arguments.specs.WrongOptions.{IsWrongOption};
 
 use crate::formats::format_in;
 use crate::orders::{AskOptions, Content, WordChoice, Wrong};

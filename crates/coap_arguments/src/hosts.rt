@@ -5,7 +5,7 @@ ghost use Rattle.clap.specs.Words.{found_of, rows_of};
 ghost use Rattle.coap_arguments.specs.Addresses.{HasAddress, HasHost};
 ghost use Rattle.coap_arguments.specs.Hosts.{IsAddressText, IsBracketed, IsFourText, IsHostText};
 ghost use Rattle.coap_arguments.specs.Hosts.{IsScope, IsSixText, IsZone, is_letter, is_name, may_name};
-ghost use Rattle.coap_arguments.specs.Taking.{IsWrongOption};
+ghost use Rattle.coap_arguments.specs.WrongOptions.{IsWrongOption};
 ghost use Rattle.coap_arguments.specs.Uris.{IsUriHost};
 ghost use Rattle.coap_arguments.specs.declared.hosts.Address.{Address as AddressSpec};
 ghost use Rattle.coap_arguments.specs.declared.hosts.Host.{Host as HostSpec};

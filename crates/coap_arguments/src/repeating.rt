@@ -3,7 +3,7 @@ ghost use Rattle.std.specs.Prelude.{◌≡◌, ◌<◌, ◌≤◌, ◌-◌, ◌^
 ghost use Rattle.clap.specs.Words.{found_of, rows_of};
 ghost use Rattle.coap_arguments.specs.Asking.{HasOptionalNumber};
 ghost use Rattle.coap_arguments.specs.Numbers.{IsNumber, IsWordFor, least_of, most_of};
-ghost use Rattle.coap_arguments.specs.Taking.{IsWrongOption};
+ghost use Rattle.coap_arguments.specs.WrongOptions.{IsWrongOption};
 ghost use Rattle.coap_arguments.specs.Together.{AreApart, GoTogether};
 
 use crate::orders::Wrong;

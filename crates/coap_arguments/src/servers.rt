@@ -3,7 +3,7 @@ ghost use Rattle.std.specs.Prelude.{MatchOption, MatchResult, codes};
 ghost use Rattle.clap.specs.Words.{found_of, rows_of};
 ghost use Rattle.coap_arguments.specs.Asking.{AsksServer, HasNoUri, HasNothingBeside, HasPingOptions, HasUri};
 ghost use Rattle.coap_arguments.specs.Asking.{IsSpareWord, IsWrongBeside};
-ghost use Rattle.coap_arguments.specs.Taking.{IsWrongOption, TakesItsOwn};
+ghost use Rattle.coap_arguments.specs.WrongOptions.{IsWrongOption};
 ghost use Rattle.coap_arguments.specs.Values.{IsGiven, IsValue};
 ghost use Rattle.coap_arguments.specs.Words.{AsksForIn, IsServer, IsWrongIn};
 
@@ -19,8 +19,7 @@ use std::alloc::Global;
 /// `coap discover PORT`; a URI may stand in the place of PORT.
 #[tactic(auto, using(crate::proofs::ClapWords::value_wrong))]
 pub(crate) fn discover_order<'a>(alloc: Global, given: &ArgMatches<'a>) -> Result<Order<'a>, Wrong>
-    requires port { IsGiven (codes "PORT|URI") (rows_of (found_of given.now)) }
-    requires own { TakesItsOwn (codes "discover") (rows_of (found_of given.now)) }
+    requires { IsGiven (codes "PORT|URI") (rows_of (found_of given.now)) }
     ensures { MatchResult result (AsksForIn (codes "discover") (rows_of (found_of given.now)))
         (IsWrongIn (codes "discover") (rows_of (found_of given.now))) }
 {
@@ -36,8 +35,7 @@ pub(crate) fn discover_order<'a>(alloc: Global, given: &ArgMatches<'a>) -> Resul
 /// `coap ping PORT`; a URI may stand in the place of PORT.
 #[tactic(auto, using(crate::proofs::ClapWords::value_wrong))]
 pub(crate) fn ping_order<'a>(alloc: Global, given: &ArgMatches<'a>) -> Result<Order<'a>, Wrong>
-    requires port { IsGiven (codes "PORT|URI") (rows_of (found_of given.now)) }
-    requires own { TakesItsOwn (codes "ping") (rows_of (found_of given.now)) }
+    requires { IsGiven (codes "PORT|URI") (rows_of (found_of given.now)) }
     ensures { MatchResult result (AsksForIn (codes "ping") (rows_of (found_of given.now)))
         (IsWrongIn (codes "ping") (rows_of (found_of given.now))) }
 {
@@ -74,7 +72,6 @@ fn server_of<'a>(
 ) -> Result<Server<'a>, Wrong>
     requires name { AsksServer subcommand.now }
     requires port { IsGiven (codes "PORT|URI") (rows_of (found_of given.now)) }
-    requires own { TakesItsOwn subcommand.now (rows_of (found_of given.now)) }
     ensures { MatchResult result (IsServer subcommand.now (rows_of (found_of given.now)))
         (IsWrongIn subcommand.now (rows_of (found_of given.now))) }
 {
@@ -95,7 +92,6 @@ fn server_at_port<'a>(
     requires name { AsksServer subcommand.now }
     requires port { IsValue (codes "PORT|URI") (rows_of (found_of given.now)) port.now }
     requires words { HasNoUri (rows_of (found_of given.now)) }
-    requires own { TakesItsOwn subcommand.now (rows_of (found_of given.now)) }
     ensures { MatchResult result (IsServer subcommand.now (rows_of (found_of given.now)))
         (IsWrongIn subcommand.now (rows_of (found_of given.now))) }
 {

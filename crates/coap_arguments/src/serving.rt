@@ -8,7 +8,7 @@ ghost use Rattle.coap_types.specs.declared.path.TheConstants.{MAX_SEGMENTS as ma
 ghost use Rattle.coap_arguments.specs.PathText.{IsNoPath, IsPathText};
 ghost use Rattle.coap_arguments.specs.Serving.{HasDelays, HasHolds, HasServeOptions, IsDelay, IsHold, is_equals};
 ghost use Rattle.coap_arguments.specs.Serving.{serving_word};
-ghost use Rattle.coap_arguments.specs.Taking.{IsWrongOption, IsWrongServing};
+ghost use Rattle.coap_arguments.specs.WrongOptions.{IsWrongOption, IsWrongServing};
 ghost use Rattle.coap_arguments.specs.declared.orders.Delay.{Delay as DelaySpec};
 ghost use Rattle.coap_arguments.specs.declared.orders.Hold.{Hold as HoldSpec};
 

@@ -4,7 +4,6 @@ ghost use Rattle.std.specs.Prelude.{codes, ◌↔◌, IsTrue};
 ghost use Rattle.std.specs.Prelude.{string_bytes};
 ghost use Rattle.clap.specs.Words.{first_of, found_of, rows_of};
 ghost use Rattle.coap_arguments.specs.Numbers.{IsInRange, IsNumber, IsOutOfRange};
-ghost use Rattle.coap_arguments.specs.Taking.{TakesItsOwn};
 ghost use Rattle.coap_arguments.specs.Values.{HasCount, HasLimit, HasNoNumber, HasNoStore, HasNoWord, HasNumber};
 ghost use Rattle.coap_arguments.specs.Values.{HasRemembered};
 ghost use Rattle.coap_arguments.specs.Values.{HasStore, HasWord, IsChoice, IsGiven, IsValue};
@@ -149,8 +148,7 @@ fn pair_order<'a>(alloc: Global, given: &ArgMatches<'a>) -> Result<Order<'a>, Wr
 // `coap serve PORT COUNT`, of which COUNT may be left out
 #[tactic(auto, using(crate::proofs::ClapWords::serving_wrong))]
 fn serve_order<'a>(alloc: Global, given: &ArgMatches<'a>) -> Result<Order<'a>, Wrong>
-    requires port { IsGiven (codes "PORT") (rows_of (found_of given.now)) }
-    requires own { TakesItsOwn (codes "serve") (rows_of (found_of given.now)) }
+    requires { IsGiven (codes "PORT") (rows_of (found_of given.now)) }
     ensures { MatchResult result (AsksForIn (codes "serve") (rows_of (found_of given.now)))
         (IsWrongIn (codes "serve") (rows_of (found_of given.now))) }
 {

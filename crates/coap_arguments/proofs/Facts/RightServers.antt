@@ -1,14 +1,16 @@
 -- An order that names a server has nothing wrong in that: there is a PATH behind a PORT, and the URI and what stands
 -- beside it are right.
-use Rattle.std.proofs.Common.{◌≡◌, ◌∙◌, ◌≤◌, ◌⊎◌, sym, inl, inr, ℕ, List, [], refl}
+use Rattle.std.proofs.Common.{◌≡◌, ◌∙◌, ◌≤◌, ◌⊎◌, sym, inl, inr, ℕ, List, [], codes, refl, true}
+use Rattle.clap.proofs.OnLiterals.{clap_on_literals}
 use Rattle.clap.specs.Words.{Row, Text}
 use Rattle.coap_arguments.proofs.Facts.RightValues.{host_or_not}
 use Rattle.coap_arguments.proofs.Facts.UriOrNot.{beside_or_not, uri_or_not}
-use Rattle.coap_arguments.proofs.Facts.WhoTakes.{another, askers, is_asker, is_server, place_asks, servers}
+use Rattle.coap_arguments.proofs.Facts.Takes.{no_value, none_take, untaken}
+use Rattle.coap_arguments.proofs.Facts.WhoTakes.{another, askers, is_asker, named, names_of, place_asks}
 use Rattle.coap_arguments.specs.Addresses.{HasHost, HasNoAddress}
-use Rattle.coap_arguments.specs.Asking.{HasNoUri, HasNothingBeside, HasUri, IsAsk, NamesServer}
-use Rattle.coap_arguments.specs.Uris.{IsPlace}
-use Rattle.coap_arguments.specs.Values.{HasNumber}
+use Rattle.coap_arguments.specs.Asking.{HasNoUri, HasNothingBeside, HasUri, IsAsk, IsWrongBeside}
+use Rattle.coap_arguments.specs.Uris.{IsPlace, IsWrongUri}
+use Rattle.coap_arguments.specs.Values.{Enters, HasNumber}
 use Rattle.coap_arguments.specs.Words.{AsksByPort, AsksByUri, AsksForIn, IsServer, IsWrongIn}
 use Rattle.coap_arguments.specs.declared.hosts.Server.{Server}
 use Rattle.coap_arguments.specs.declared.orders.Order.{Order}
@@ -53,26 +55,6 @@ asked_place name v server path what on (inr by) =
 own_place : (name : Text) (v : List Row) (server : Server) → IsServer name v server → Place name v
 own_place name v server h = record { server = server; path = []; on = h.0; by = h.1; whole = inr refl }
 
-place_of : (order : Order) (name : Text) (v : List Row) → AsksForIn name v order → NamesServer name → Place name v
-place_of Version name v h names = absurd h
-place_of (Show datagram) name v h names =
-    absurd (another servers (Show datagram) name v h refl (is_server name names))
-place_of Dump name v h names = absurd (another servers Dump name v h refl (is_server name names))
-place_of (DumpCapture file chart) name v h names =
-    absurd (another servers (DumpCapture file chart) name v h refl (is_server name names))
-place_of (Answer path body datagram) name v h names =
-    absurd (another servers (Answer path body datagram) name v h refl (is_server name names))
-place_of (Pair path body word limit remembered) name v h names =
-    absurd (another servers (Pair path body word limit remembered) name v h refl (is_server name names))
-place_of (Serve port count options script pcap) name v h names =
-    absurd (another servers (Serve port count options script pcap) name v h refl (is_server name names))
-place_of (Ask server path what options pcap) name v h names = asked_place name v server path what h.0 h.1
-place_of (Discover server options pcap) name v h names = own_place name v server h.1
-place_of (Ping server options pcap) name v h names = own_place name v server h.1
-place_of (Sim file store plains remembered chart client server pcap) name v h names =
-    absurd (another servers (Sim file store plains remembered chart client server pcap) name v h
-    refl (is_server name names))
-
 no_path_at : (name : Text) (v : List Row) (server : Server) (path : List (List ℕ)) (what : What)
     → AsksByPort name v server.host path what ⊎ AsksByUri name v server path what → IsWrongIn name v NoPath
     → ⊥
@@ -99,27 +81,21 @@ not_no_path (Ping server options pcap) name v h wrong =
 not_no_path (Sim file store plains remembered chart client server pcap) name v h wrong =
     another askers (Sim file store plains remembered chart client server pcap) name v h refl (is_asker name wrong.0)
 
-uri_at : (why : UriRefusal) (name : Text) (v : List Row) → Place name v → IsWrongIn name v (Uri why) → ⊥
-uri_at why name v p (names, text, rest, uri, wrong) = elim p.by [
+uri_at : (why : UriRefusal) (name : Text) (v : List Row) → Place name v → (text rest : Text) → HasUri v text rest
+    → IsWrongUri why text rest → ⊥
+uri_at why name v p text rest uri wrong = elim p.by [
   | inl by ↦ by.0 text rest uri
   | inr by ↦
       (let fits : p.server.port ≤ 65535 = p.on.2.2 in
       uri_or_not why v by.0 by.1 text rest p.server p.path fits by.2 by.3 uri wrong)
 ]
 
-pub not_uri : (order : Order) (why : UriRefusal) (name : Text) (v : List Row) → AsksForIn name v order
-    → IsWrongIn name v (Uri why) → ⊥
-not_uri order why name v h wrong = uri_at why name v (place_of order name v h wrong.0) wrong
-
-beside_at : (why : BesideRefusal) (name : Text) (v : List Row) → Place name v → IsWrongIn name v (Beside why) → ⊥
-beside_at why name v p (names, text, rest, uri, wrong) = elim p.by [
+beside_at : (why : BesideRefusal) (name : Text) (v : List Row) → Place name v → (text rest : Text) → HasUri v text rest
+    → IsWrongBeside why name v → ⊥
+beside_at why name v p text rest uri wrong = elim p.by [
   | inl by ↦ by.0 text rest uri
   | inr by ↦ beside_or_not why name v by.0 by.1 p.server p.path by.2 by.3 by.4 p.whole wrong
 ]
-
-pub not_beside : (order : Order) (why : BesideRefusal) (name : Text) (v : List Row) → AsksForIn name v order
-    → IsWrongIn name v (Beside why) → ⊥
-not_beside order why name v h wrong = beside_at why name v (place_of order name v h wrong.0) wrong
 
 host_at : (name : Text) (v : List Row) → Place name v → HasNoAddress address.Host v → ⊥
 host_at name v p none = elim p.by [
@@ -127,7 +103,63 @@ host_at name v p none = elim p.by [
   | inr by ↦ absurd (cc (sym by.4.0 ∙ none.1))
 ]
 
--- the host of a URI stands beside no other one
-pub not_host : (order : Order) (name : Text) (v : List Row) → AsksForIn name v order → NamesServer name
-    → HasNoAddress address.Host v → ⊥
-not_host order name v h names none = host_at name v (place_of order name v h names) none
+-- ---- by the words
+
+module _ (words : List Text) (name : Text) (v : List Row) (e : Enters words name v) where
+  -- an order whose subcommands name no server has no URI
+  without : (order : Order) → AsksForIn name v order → none_take (names_of order) (codes "PORT|URI") ≡ true
+      → (text rest : Text) → HasUri v text rest → ⊥
+  without order h none text rest uri =
+      no_value (codes "PORT|URI") v text
+      (untaken (names_of order) words name v e (named order name v h) (codes "PORT|URI")
+      none) uri.0
+
+  place_of : (order : Order) → AsksForIn name v order → (text rest : Text) → HasUri v text rest → Place name v
+  unfolding clap_on_literals
+  place_of Version h text rest uri = absurd h
+  place_of (Show datagram) h text rest uri = absurd (without (Show datagram) h refl text rest uri)
+  place_of Dump h text rest uri = absurd (without Dump h refl text rest uri)
+  place_of (DumpCapture file chart) h text rest uri = absurd (without (DumpCapture file chart) h refl text rest uri)
+  place_of (Answer path body datagram) h text rest uri =
+      absurd (without (Answer path body datagram) h refl text rest uri)
+  place_of (Pair path body word limit remembered) h text rest uri =
+      absurd (without (Pair path body word limit remembered) h refl text rest uri)
+  place_of (Serve port count options script pcap) h text rest uri =
+      absurd (without (Serve port count options script pcap) h refl text rest uri)
+  place_of (Ask server path what options pcap) h text rest uri = asked_place name v server path what h.0 h.1
+  place_of (Discover server options pcap) h text rest uri = own_place name v server h.1
+  place_of (Ping server options pcap) h text rest uri = own_place name v server h.1
+  place_of (Sim file store plains remembered chart client server pcap) h text rest uri =
+      absurd (without (Sim file store plains remembered chart client server pcap) h refl text rest uri)
+
+  pub not_uri : (order : Order) (why : UriRefusal) → AsksForIn name v order → IsWrongIn name v (Uri why) → ⊥
+  not_uri order why h (text, rest, uri, wrong) =
+      uri_at why name v (place_of order h text rest uri) text rest uri wrong
+
+  pub not_beside : (order : Order) (why : BesideRefusal) → AsksForIn name v order → IsWrongIn name v (Beside why) → ⊥
+  not_beside order why h (text, rest, uri, wrong) =
+      beside_at why name v (place_of order h text rest uri) text rest uri wrong
+
+  -- an order whose subcommands take no host has none
+  hostless : (order : Order) → AsksForIn name v order → none_take (names_of order) (codes "host") ≡ true
+      → HasNoAddress address.Host v → ⊥
+  hostless order h none wrong =
+      no_value (codes "host") v wrong.0
+      (untaken (names_of order) words name v e (named order name v h) (codes "host") none) wrong.1
+
+  -- the host of a URI stands beside no other one
+  pub not_host : (order : Order) → AsksForIn name v order → HasNoAddress address.Host v → ⊥
+  unfolding clap_on_literals
+  not_host Version h wrong = h
+  not_host (Show datagram) h wrong = hostless (Show datagram) h refl wrong
+  not_host Dump h wrong = hostless Dump h refl wrong
+  not_host (DumpCapture file chart) h wrong = hostless (DumpCapture file chart) h refl wrong
+  not_host (Answer path body datagram) h wrong = hostless (Answer path body datagram) h refl wrong
+  not_host (Pair path body word limit remembered) h wrong = hostless (Pair path body word limit remembered) h refl wrong
+  not_host (Serve port count options script pcap) h wrong = hostless (Serve port count options script pcap) h refl wrong
+  not_host (Ask server path what options pcap) h wrong =
+      host_at name v (asked_place name v server path what h.0 h.1) wrong
+  not_host (Discover server options pcap) h wrong = host_at name v (own_place name v server h.1) wrong
+  not_host (Ping server options pcap) h wrong = host_at name v (own_place name v server h.1) wrong
+  not_host (Sim file store plains remembered chart client server pcap) h wrong =
+      hostless (Sim file store plains remembered chart client server pcap) h refl wrong

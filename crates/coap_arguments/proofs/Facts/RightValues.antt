@@ -14,7 +14,7 @@ use Rattle.coap_arguments.specs.Asking.{tags_argument_of}
 use Rattle.coap_arguments.specs.Hosts.{IsAddressText, IsHostText}
 use Rattle.coap_arguments.specs.Numbers.{SaysNumber, argument_of, least_of, most_of}
 use Rattle.coap_arguments.specs.PathText.{IsPathText}
-use Rattle.coap_arguments.specs.Serving.{HasNoSetting, HasServeOptions, IsDelay, IsHold}
+use Rattle.coap_arguments.specs.Serving.{HasNoSetting, HasServeOptions, IsDelay, IsHold, setting_argument_of}
 use Rattle.coap_arguments.specs.Sizes.{HasNoSize, HasSize, sizes}
 use Rattle.coap_arguments.specs.Texts.{AreTexts, SomeSaysNone, texts_of}
 use Rattle.coap_arguments.specs.Values.{HasBytes, HasCount, HasLimit, HasNoBytes, HasNoNumber, HasNoPath, HasNoStore}
@@ -146,3 +146,14 @@ setting_or_not usual v setting.Delay options has (inl more) =
     absurd (omega (arith, same, more, has.delays.1))
 setting_or_not usual v setting.Delay options has (inr none) =
     all_say IsDelay (texts_of (codes "delay") v) options.delays.items has.delays.0 none
+
+-- where there is no text, none is wrong
+pub no_bad_tags : (v : List Row) (why : TagsRefusal) → texts_of (tags_argument_of why) v ≡ [] → HasNoTags why v → ⊥
+no_bad_tags v why none (inl more) = absurd (omega (arith, ap length none, more))
+no_bad_tags v why none (inr some) = absurd (omega (arith, ap length none, some.2))
+
+pub no_bad_setting : (v : List Row) (why : SettingRefusal) → texts_of (setting_argument_of why) v ≡ []
+    → HasNoSetting why v → ⊥
+no_bad_setting v setting.Hold none wrong = absurd (omega (arith, ap length none, wrong.2))
+no_bad_setting v setting.Delay none (inl more) = absurd (omega (arith, ap length none, more))
+no_bad_setting v setting.Delay none (inr some) = absurd (omega (arith, ap length none, some.2))

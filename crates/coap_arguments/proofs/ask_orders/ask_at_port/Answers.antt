@@ -5,14 +5,11 @@ use Rattle.coap_arguments.proofs.ask_orders.ask_at_port.Goals as goal
 pub returns-in_default : goal.returns-in_default
 returns-in_default c =
     let port = c.args.port.now in (
-      inr (inr c.requires.name),
-      (
-        port,
-        c.requires.port,
-        λ n is. inr
-            (elim is [
-              | inl number ↦ c.in_default.ensures n number
-              | inr uri ↦ absurd (c.requires.words port uri.0 (c.requires.port, uri.1))
-            ]),
-      ),
+      port,
+      c.requires.port,
+      λ n is. inr
+          (elim is [
+            | inl number ↦ c.in_default.ensures n number
+            | inr uri ↦ absurd (c.requires.words port uri.0 (c.requires.port, uri.1))
+          ]),
     )

@@ -1,7 +1,7 @@
 use Rattle.std.proofs.Common.{refl, inl, inr, ◌≡◌, ℕ, List, codes}
 use Rattle.coap_arguments.proofs.ClapWords.{enters_met, ours, said_by, wrong_by, show_hex, answer_hex, answer_path}
 use Rattle.coap_arguments.proofs.ClapWords.{answer_body, pair_body, pair_path, serve_port, server_port}
-use Rattle.coap_arguments.proofs.ClapWords.{IsOurs, refused_by_clap, sim_file, takes_its_own}
+use Rattle.coap_arguments.proofs.ClapWords.{IsOurs, refused_by_clap, sim_file}
 use Rattle.coap_arguments.specs.Asking.{IsAsk}
 use Rattle.coap_arguments.proofs.words.order_of.Goals as goal
 
@@ -63,7 +63,7 @@ pub serve_order-requires : goal.serve_order-requires
 serve_order-requires c =
     let enters = enters_met _ c.in_ok-coap_command.ensures _ _ c.in_ok-matches.ensures.matches
     c.in_ok-matches.ensures.kinds _ _ _ c.in-serve.is c.in-Some.ensures.name c.in-Some.ensures.rows in
-    record { port = serve_port _ _ enters; own = takes_its_own _ _ _ enters }
+    serve_port _ _ enters
 
 pub returns-in-serve : goal.returns-in-serve
 returns-in-serve c =
@@ -93,7 +93,7 @@ pub discover_order-requires : goal.discover_order-requires
 discover_order-requires c =
     let enters = enters_met _ c.in_ok-coap_command.ensures _ _ c.in_ok-matches.ensures.matches
     c.in_ok-matches.ensures.kinds _ _ _ c.in-discover.is c.in-Some.ensures.name c.in-Some.ensures.rows in
-    record { port = server_port _ _ _ (inr (inl refl)) enters; own = takes_its_own _ _ _ enters }
+    server_port _ _ _ (inr (inl refl)) enters
 
 pub returns-in-discover : goal.returns-in-discover
 returns-in-discover c =
@@ -108,7 +108,7 @@ pub ping_order-requires : goal.ping_order-requires
 ping_order-requires c =
     let enters = enters_met _ c.in_ok-coap_command.ensures _ _ c.in_ok-matches.ensures.matches
     c.in_ok-matches.ensures.kinds _ _ _ c.in-ping.is c.in-Some.ensures.name c.in-Some.ensures.rows in
-    record { port = server_port _ _ _ (inl refl) enters; own = takes_its_own _ _ _ enters }
+    server_port _ _ _ (inl refl) enters
 
 pub returns-in-ping : goal.returns-in-ping
 returns-in-ping c =
@@ -147,7 +147,6 @@ ask_order-requires c =
     record {
       name = ask;
       port = server_port _ _ _ (inr (inr ask)) enters;
-      own = takes_its_own _ _ _ enters;
     }
 
 pub returns : goal.returns
