@@ -1,16 +1,20 @@
 -- Paths of which one can't be made plain are too many.
 use Rattle.std.proofs.Common.{◌≡◌, ◌≤◌, ◌<◌, ◌∙◌, ◌++◌, ◌∷◌, ap, sym, ℕ, Bool, true, false, cond, List, [], fold}
-use Rattle.std.proofs.Common.{get_or, length, take, drop, arith, subst, refl}
+use Rattle.std.proofs.Common.{get_or, length, take, drop, arith, refl, Result, Ok, Err}
 use Rattle.std.proofs.lemmas.Bool.{or_parts}
 use Rattle.std.proofs.lemmas.Bool.Decides.{nat_tests}
 use Rattle.std.proofs.lemmas.List.{length-append, take-append-drop}
 use Rattle.std.proofs.lemmas.List.Sums.{fold-append}
 use Rattle.std.specs.Prelude.{nat_lt}
+use Rattle.std.specs.Result.{IsErrAnd}
 use Rattle.coap_server.specs.Plain.{is_plain, may_be_plain, plains_with}
 use Rattle.coap_scripts.specs.Sims.{each_once}
 use Rattle.coap_scripts.proofs.Facts.FoldedItems.{fold_item}
-use Rattle.coap_page.specs.Plains.{AreTooMany}
-
+use Rattle.coap_server.specs.declared.server.plain.PlainRefusal.{PlainRefusal}
+use Rattle.coap_server.specs.declared.server.plain.PlainRefusal.TheVariants as plain
+use Rattle.coap_page.specs.Plains.{AreTooMany, of_plain}
+use Rattle.coap_page.specs.declared.configured.NoConfig.{NoConfig}
+use Rattle.coap_page.specs.declared.configured.NoConfig.TheVariants as config
 
 -- a further path takes none away
 no_fewer : (b : Bool) (ps : List (List (List ℕ))) (path : List (List ℕ))
@@ -45,5 +49,15 @@ too_many paths i path is lt full =
     let next = ap length (fold_item f [] paths i path is lt) in
     let on = grows (each_once (take (i + 1) paths)) (drop (i + 1) paths) in
     let whole = ap length (sym (fold-append f [] (take (i + 1) paths) (drop (i + 1) paths))
-        ∙ ap (fold f []) (take-append-drop (i + 1) paths)) in
+    ∙ ap (fold f []) (take-append-drop (i + 1) paths)) in
     omega (arith, many, one, next, on, whole)
+
+-- what is refused for the plain paths is a path too many
+pub is_full : {T : Type 0} (r : Result T NoConfig) (e : PlainRefusal) → IsErrAnd r (λ y. y ≡ of_plain e)
+    → r ≡ Err config.Plains → e ≡ plain.Full
+is_full (Ok x) e of is = absurd of
+is_full (Err y) plain.Full of is = refl
+is_full (Err y) plain.Memory of is =
+    let named : y ≡ config.Plains = cc in
+    let apart : config.Memory ≡ config.Plains = sym of ∙ named in
+    absurd cc

@@ -1,5 +1,5 @@
 -- The plain paths of a run, as text, one a line.
-use Rattle.std.specs.Prelude.{◌≡◌, ◌<◌, ◌⊎◌, ◌×◌, ℕ, List, length}
+use Rattle.std.specs.Prelude.{◌<◌, ◌⊎◌, ℕ, List, length}
 use Rattle.coap_server.specs.declared.limits.TheConstants.{MAX_PLAINS as max_plains}
 use Rattle.coap_server.specs.declared.server.plain.PlainRefusal.{PlainRefusal}
 use Rattle.coap_server.specs.declared.server.plain.PlainRefusal.TheVariants as plain

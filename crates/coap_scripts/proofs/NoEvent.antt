@@ -16,8 +16,8 @@ use Rattle.coap_record.specs.Events.{TickServer, Deliver, StrangerToClient, Stra
 use Rattle.coap_run.specs.declared.running.event.Side.{Side}
 use Rattle.coap_run.specs.declared.running.event.Side.TheVariants.{Client, Server}
 use Rattle.coap_arguments.specs.PathText.{IsNoPath}
-use Rattle.coap_scripts.specs.Script.{Begins, NamesPath, SaysEvent, SaysParts, SaysPath, SaysPathAndBody, SaysPortAndBytes}
-use Rattle.coap_scripts.specs.Script.{SaysRequest, SaysStranger, SaysWhat}
+use Rattle.coap_scripts.specs.Script.{Begins, NamesPath, SaysEvent, SaysParts, SaysPath, SaysPathAndBody}
+use Rattle.coap_scripts.specs.Script.{SaysPortAndBytes, SaysRequest, SaysStranger, SaysWhat}
 use Rattle.coap_scripts.specs.ScriptRefusals.{of_hex, of_line}
 use Rattle.coap_scripts.specs.ScriptWords.{IsCut, IsWord, Lacks, SaysNumber, kind_word, method_word, side_word}
 use Rattle.coap_scripts.specs.declared.script.refusal.LineRefusal.{LineRefusal}

@@ -62,8 +62,8 @@ SaysRequest r line = (method : Method) × (path : List (List ℕ)) × (body : Li
 
 -- a number, and bytes in hex
 abbrev pub SaysPortAndBytes : ℕ → List ℕ → List ℕ → Type 0
-SaysPortAndBytes port bytes line = (word : List ℕ) × (digits : List ℕ) × IsCut 32 line word digits × SaysNumber word port
-    × (decode_of digits ≡ Ok bytes)
+SaysPortAndBytes port bytes line = (word : List ℕ) × (digits : List ℕ) × IsCut 32 line word digits
+    × SaysNumber word port × (decode_of digits ≡ Ok bytes)
 
 -- the datagram of a stranger at 127.0.0.1: to which end it comes, from which port, and its bytes in hex
 abbrev pub SaysStranger : Side → Endpoint → List ℕ → List ℕ → Type 0

@@ -1,6 +1,7 @@
 use Rattle.coap_arguments.proofs.Facts.PathTexts.{passed_up}
 use Rattle.coap_scripts.specs.ScriptRefusals.{of_hex}
-use Rattle.coap_scripts.proofs.NoEvent.{large_port, no_bytes, no_port, no_port_and_bytes, no_port_word, no_side, no_side_word}
+use Rattle.coap_scripts.proofs.NoEvent.{large_port, no_bytes, no_port, no_port_and_bytes, no_port_word}
+use Rattle.coap_scripts.proofs.NoEvent.{no_side, no_side_word}
 use Rattle.coap_scripts.proofs.script.line.stranger.Goals as goal
 
 pub returns-in_err-end-clause-none : goal.returns-in_err-end-clause-none
