@@ -62,7 +62,7 @@ SaysNone kind.Plain rest = (path : List (List ℕ)) → SaysPlain path rest → 
 SaysNone kind.Limit rest = (most : ℕ) → SaysLimit most rest → ⊥
 
 -- the words differ in their first letters
-first_of : List ℕ → ℕ
+abbrev first_of : List ℕ → ℕ
 first_of [] = 0
 first_of (b ∷ bs) = b
 
@@ -214,12 +214,12 @@ pub no_front_hold : (line : List ℕ) → ((path : List (List ℕ)) (rest : List
 no_front_hold line none path format body says = none path says.0 says.1
 
 -- a line that says none is the first, where those before it say settings
-pub bad_at : {X : Type 0} (view : X → Setting) (script left line behind : List ℕ) (xs : List X) (n : ℕ)
-    (r : LineRefusal) (e : ScriptRefusal) → left ≢ [] → IsFirst left line behind → Reads SaysSetting view script left xs
+pub bad_at : {X : Type 0} (view : X → Setting) (text left line behind : List ℕ) (xs : List X) (n : ℕ)
+    (r : LineRefusal) (e : ScriptRefusal) → left ≢ [] → IsFirst left line behind → Reads SaysSetting view text left xs
     → n ≡ length xs + 1 → Refuses (SaysNoSetting line) r → e ≡ of_line n r
-    → (e ≡ script.Memory) ⊎ ((number : ℕ) × (e ≡ script.Line number) × IsFirstBad (lines_of script) number)
-bad_at view script left line behind xs n r e some first so counted (inl memory) is = inl (is ∙ ap (of_line n) memory)
-bad_at view script left line behind xs n r e some first so counted (inr h) is =
+    → (e ≡ script.Memory) ⊎ ((number : ℕ) × (e ≡ script.Line number) × IsFirstBad (lines_of text) number)
+bad_at view text left line behind xs n r e some first so counted (inl memory) is = inl (is ∙ ap (of_line n) memory)
+bad_at view text left line behind xs n r e some first so counted (inr h) is =
     let many : length so.done ≡ length (map view xs) = as_many SaysSetting so.done (map view xs) so.says in
     let same : length (map view xs) ≡ length xs = length-map xs view in
     inr (
