@@ -1,60 +1,80 @@
 -- What a client is handed for what the words ask for comes to what they ask for.
-use Rattle.std.proofs.Common.{◌≡◌, ◌∙◌, ℕ, List, [], Option, Some, None, Result, Ok, Err, IfOk, refl, subst, sym, true}
+use Rattle.std.proofs.Common.{◌≡◌, ℕ, List, Result, Ok, Err, IfOk, Option, None}
 use Rattle.coap_types.specs.declared.endpoint.Endpoint.{Endpoint}
-use Rattle.coap_client.specs.Object.CallShown.{shown_request}
+use Rattle.coap_arguments.specs.declared.hosts.Server.{Server}
 use Rattle.coap_arguments.specs.declared.orders.AskOptions.{AskOptions}
 use Rattle.coap_arguments.specs.declared.orders.What.{What}
-use Rattle.coap_arguments.specs.declared.orders.What.TheVariants.{Get, Put, Post, Delete, Observe}
-use Rattle.coap_commands.specs.Asked.{IsAsked, IsWord, asked_request, asked_server, asked_setup, is_observe, period_of}
-use Rattle.coap_commands.specs.Ends.{client_sizes}
-use Rattle.coap_commands.specs.Observes.{Observes}
-use Rattle.coap_commands.specs.Polls.{Polls}
-use Rattle.coap_commands.specs.Tasks.{Does, IsTask}
+use Rattle.coap_commands.specs.Asked.{IsWord}
+use Rattle.coap_commands.specs.Hosts.{IsServer}
+use Rattle.coap_commands.specs.Tasks.{Does, DoesAt, IsAsked, IsDiscovered, IsDiscovery, IsTask}
+use Rattle.coap_commands.specs.Watches.{Again, IsNext, Watches, anew, first}
 use Rattle.coap_commands.specs.declared.asking.Task.{Task}
-use Rattle.coap_commands.specs.declared.asking.Task.TheVariants.{Observation, Polling, Request}
+use Rattle.coap_commands.specs.declared.asking.Task.TheVariants.{Discovery, Observation, Polling, Request, Watch}
+use Rattle.coap_commands.specs.declared.watching.Left.{Left}
 use Rattle.coap_scripts.specs.declared.status.Status.{Status}
 use Rattle.coap_scripts.specs.declared.status.Stop.{Stop}
-use Rattle.coap_commands.proofs.ObservedCalls.{observed_by}
-use Rattle.coap_commands.proofs.PolledCalls.{polled_task}
-use Rattle.coap_commands.proofs.WhatBecomes.{asked_by}
 
--- an observation is not asked for again
-observed_once : (what : What) (options : AskOptions) → is_observe what ≡ true → period_of what options ≡ None
-observed_once Get options is = absurd (cc is)
-observed_once (Put content) options is = refl
-observed_once (Post content) options is = refl
-observed_once Delete options is = refl
-observed_once Observe options is = refl
+-- a task that needs one link is done at the server that the link knows
+done_at : (Stands : Endpoint → Type 0) (server : Endpoint) (options : AskOptions) (word : ℕ) (task : Task) (s : Status)
+    → Stands server → DoesAt server options word task s → Does Stands options word task s
+done_at Stands server options word (Request made) s stands h = (server, stands, h)
+done_at Stands server options word (Observation of) s stands h = (server, stands, h)
+done_at Stands server options word (Watch of again) s stands h = absurd h
+done_at Stands server options word (Polling of every) s stands h = (server, stands, h)
+done_at Stands server options word (Discovery made) s stands h = (server, stands, h)
 
-some_is : (a b : ℕ) → ◌≡◌ {A = Option ℕ} (Some a) (Some b) → a ≡ b
-some_is a b h = cc h
+pub done_there : (Stands : Endpoint → Type 0) (server : Endpoint) (options : AskOptions) (word : ℕ) (task : Task)
+    (ended : Result Status Stop) → Stands server → IfOk ended (DoesAt server options word task)
+    → IfOk ended (Does Stands options word task)
+done_there Stands server options word task (Ok s) stands h = done_at Stands server options word task s stands h
+done_there Stands server options word task (Err stop) stands h = tt
 
-pub asked_task : (port : ℕ) (server : Endpoint) (word : ℕ) (path : List (List ℕ)) (what : What) (options : AskOptions)
-    (task : Task) (ended : Result Status Stop) → server ≡ asked_server port options → IsWord options.word word
-    → IsTask what path options task → IfOk ended (Does server options word task)
-    → IfOk ended (IsAsked port path what options)
-asked_task port server word path what options (Request made) (Ok s) there is_word is does = (
-  λ observes. absurd (cc (observes, is.0)),
-  λ every again. absurd (cc (sym is.1 ∙ again)),
-  λ _ _. asked_by port server word path what options is.2 (shown_request made) (Ok s) there is_word is.3 is.4 does,
-)
-asked_task port server word path what options (Observation of) (Ok s) there is_word is does = (
-  λ _. observed_by port server word path options (Ok s) there is_word
-      (subst (λ (p : List (List ℕ)). Observes server (client_sizes options.size options.limit)
-      (asked_setup word options) p options s)
-      is.1 does),
-  λ every again. absurd (cc (sym (observed_once what options is.0) ∙ again)),
-  λ asks _. absurd (cc (asks, is.0)),
-)
-asked_task port server word path what options (Polling of every) (Ok s) there is_word is does = (
-  λ observes. absurd (cc (sym (observed_once what options observes) ∙ is.0)),
-  λ other again. polled_task port server word path other options (Ok s) there is_word
-      (subst (λ (n : ℕ). Polls server (client_sizes options.size options.limit) (asked_setup word options)
-      (asked_request Get path options []) n options s)
-      (some_is every other (sym is.0 ∙ again))
-      (subst (λ (p : List (List ℕ)). Polls server (client_sizes options.size options.limit)
-      (asked_setup word options) (asked_request Get p options []) every options s)
-      is.1 does)),
-  λ _ once. absurd (cc (sym once ∙ is.0)),
-)
-asked_task port server word path what options task (Err stop) there is_word is does = tt
+-- ---- of fewer endpoints that stand for a server, and of more
+
+module _ (P Q : Endpoint → Type 0) (more : (e : Endpoint) → P e → Q e) (word : ℕ) (path : List (List ℕ))
+    (options : AskOptions) (again since : ℕ)
+  where
+    next_of : (n begin before : ℕ) (ended : Left) (values : ℕ)
+        → IsNext P word path options again since n begin before ended values
+        → IsNext Q word path options again since n begin before ended values
+    next_of n begin before ended values h = (h.0, more h.0 h.1, h.2)
+
+    again_of : {n before begin : ℕ} → Again P word path options again since n before begin
+        → Again Q word path options again since n before begin
+    again_of first = first
+    again_of (anew n before begin ended values more_values next earlier is follows) =
+        anew n before begin ended values more_values next (again_of earlier) (next_of n begin before ended values is)
+        follows
+
+does_of : (P Q : Endpoint → Type 0) (more : (e : Endpoint) → P e → Q e) (options : AskOptions) (word : ℕ) (task : Task)
+    (s : Status) → Does P options word task s → Does Q options word task s
+does_of P Q more options word (Request made) s h = (h.0, more h.0 h.1, h.2)
+does_of P Q more options word (Observation of) s h = (h.0, more h.0 h.1, h.2)
+does_of P Q more options word (Watch of again) s h =
+    let ends = h.1 in (
+      h.0,
+      (ends.0, ends.1, ends.2, again_of P Q more word of.now options again h.0 ends.3, ends.4, ends.5,
+          next_of P Q more word of.now options again h.0 ends.0 ends.2 ends.1 ends.4 ends.5 ends.6, ends.7, ends.8, ends.9),
+    )
+does_of P Q more options word (Polling of every) s h = (h.0, more h.0 h.1, h.2)
+does_of P Q more options word (Discovery made) s h = (h.0, more h.0 h.1, h.2)
+
+pub done_of : (P Q : Endpoint → Type 0) (more : (e : Endpoint) → P e → Q e) (options : AskOptions) (word : ℕ)
+    (task : Task) (ended : Result Status Stop) → IfOk ended (Does P options word task)
+    → IfOk ended (Does Q options word task)
+done_of P Q more options word task (Ok s) h = does_of P Q more options word task s h
+done_of P Q more options word task (Err stop) h = tt
+
+-- ---- what the words ask for
+
+pub asked_task : (server : Server) (path : List (List ℕ)) (what : What) (options : AskOptions) (word : ℕ) (task : Task)
+    (ended : Result Status Stop) → IsWord options.word word → IsTask what path options task
+    → IfOk ended (Does (IsServer server) options word task) → IfOk ended (IsAsked server path what options)
+asked_task server path what options word task (Ok s) is_word is does = (word, is_word, task, is, does)
+asked_task server path what options word task (Err stop) is_word is does = tt
+
+pub discovered_task : (server : Server) (options : AskOptions) (word : ℕ) (task : Task) (ended : Result Status Stop)
+    → IsWord options.word word → IsDiscovery options task → IfOk ended (Does (IsServer server) options word task)
+    → IfOk ended (IsDiscovered server options)
+discovered_task server options word task (Ok s) is_word is does = (word, is_word, task, is, does)
+discovered_task server options word task (Err stop) is_word is does = tt

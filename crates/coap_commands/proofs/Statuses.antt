@@ -1,6 +1,6 @@
 -- With which status words are answered that ask for an order, or have something wrong.
 use Rattle.std.proofs.Common.{◌≡◌, ◌≢◌, ◌∙◌, inl, inr, ap, sym, subst, ℕ, ◌≤◌, List, [], ◌∷◌, Option, None, Some}
-use Rattle.std.proofs.Common.{codes, refl, ◌⊎◌, arith, Result, Ok, Err, IfOk}
+use Rattle.std.proofs.Common.{codes, refl, ◌⊎◌, arith, Result, Ok, Err, IfOk, Bool, true, false, if◌then◌else◌}
 use Rattle.std.specs.Borrow.{Bor}
 use Rattle.std.specs.Option.{IsSome}
 use Rattle.clap.specs.Words.{Row, Text}
@@ -9,14 +9,24 @@ use Rattle.coap_types.specs.declared.request.Method.{Method}
 use Rattle.coap_types.specs.declared.request.Method.TheVariants as method
 use Rattle.coap_client.specs.declared.client.report.Report as R
 use Rattle.coap_client.specs.declared.client.report.Report.TheVariants as report
-use Rattle.coap_commands.specs.Asked.{IsAsked, IsPolled, IsRequested, asked_method}
 use Rattle.coap_commands.specs.Asks.{changed_report, changed_status, got_report, got_status, status_after}
+use Rattle.coap_commands.specs.Discovers.{IsShown, Shows}
+use Rattle.coap_commands.specs.Hosts.{IsServer}
 use Rattle.coap_commands.specs.Observes.{observed_report, observed_status}
 use Rattle.coap_commands.specs.Pairs.{IsPaired}
 use Rattle.coap_commands.specs.Polls.{Reading, read_status}
 use Rattle.coap_commands.specs.Served.{IsServed, IsServedBy}
 use Rattle.coap_commands.specs.ScriptSettings.{AreOfScript}
 use Rattle.coap_scripts.specs.Settings.{Setting as SettingSpec}
+use Rattle.coap_commands.specs.Tasks.{Does, IsAsked, IsDiscovered}
+use Rattle.coap_commands.specs.Watches.{reported, verdict}
+use Rattle.coap_commands.specs.declared.asking.Task.{Task}
+use Rattle.coap_commands.specs.declared.asking.Task.TheVariants as tasks
+use Rattle.coap_commands.specs.declared.watching.Left.{Left}
+use Rattle.coap_commands.specs.declared.watching.Left.TheVariants.{Ended, Silent}
+use Rattle.coap_arguments.specs.declared.hosts.Server.{Server as ServerSpec}
+use Rattle.coap_types.specs.declared.endpoint.Endpoint.{Endpoint}
+use Rattle.coap_client.specs.Object.CallShown.{shown_request}
 use Rattle.coap_commands.specs.declared.calling.Outcome.{Outcome}
 use Rattle.coap_commands.specs.declared.calling.Outcome.TheVariants as outcome
 use Rattle.coap_commands.specs.Statuses.{CarriesOut, Ends, IsAnswered, IsCarriedOut, IsCarriedTo, IsTold, ReadsText}
@@ -29,7 +39,7 @@ use Rattle.coap_scripts.specs.declared.status.Stop.{Stop}
 use Rattle.coap_scripts.specs.declared.status.Stop.TheVariants as stop
 use Rattle.coap_arguments.specs.declared.orders.Order.{Order}
 use Rattle.coap_arguments.specs.declared.orders.Order.TheVariants.{Version, Show, Dump, Answer, Pair, Serve, Ask}
-use Rattle.coap_arguments.specs.declared.orders.Order.TheVariants.{DumpCapture, Sim}
+use Rattle.coap_arguments.specs.declared.orders.Order.TheVariants.{Discover, DumpCapture, Ping, Sim}
 use Rattle.coap_arguments.specs.declared.orders.AskOptions.{AskOptions}
 use Rattle.coap_arguments.specs.declared.orders.ServeOptions.{ServeOptions}
 use Rattle.coap_arguments.specs.declared.orders.WordChoice.{WordChoice}
@@ -196,42 +206,91 @@ observed_ends (outcome.Refused why) = inr refl
 observed_ends (outcome.Reported r) = observed_carried r
 observed_ends (outcome.GaveUp seconds) = inr refl
 
-requested_carried : (s : Status) (port : ℕ) (path : List (List ℕ)) (what : What) (options : AskOptions)
-    → IsRequested port path what options s → IsCarriedOut s
-requested_carried s port path what options h =
-    let asks = h.4 in
-    subst IsCarriedOut (sym asks.2) (after_carried (asked_method what) asks.0)
-
 read_ends : (readings : List Reading) → IsCarriedOut (read_status readings)
 read_ends [] = inl refl
 read_ends (r ∷ earlier) = got_ends r.outcome
 
-polled_carried : (s : Status) (port : ℕ) (path : List (List ℕ)) (every : ℕ) (options : AskOptions)
-    → IsPolled port path every options s → IsCarriedOut s
-polled_carried s port path every options h =
+shown_carried : (r : R.Report Global) (s : Status) → Shows r s → IsCarriedOut s
+shown_carried (report.Body fetched) s h = elim h [
+  | inl done ↦ inl done.0
+  | inr bad ↦ inr bad.0
+]
+shown_carried (report.Valid tag) s h = inr h
+shown_carried (report.Done code) s h = inr h
+shown_carried (report.Value sequence fetched) s h = inr h
+shown_carried (report.Ended code) s h = inr h
+shown_carried report.Cancelled s h = inr h
+shown_carried (report.Failed code) s h = inr h
+shown_carried report.Timeout s h = inr h
+shown_carried report.Reset s h = inr h
+shown_carried report.NoResponse s h = inr h
+shown_carried report.Changed s h = inr h
+shown_carried report.BadBlock s h = inr h
+shown_carried report.NoTag s h = inr h
+shown_carried report.TooLarge s h = inr h
+shown_carried report.NoIds s h = inr h
+
+links_carried : (o : Outcome) (s : Status) → IsShown o s → IsCarriedOut s
+links_carried (outcome.Refused why) s h = inr h
+links_carried (outcome.Reported r) s h = shown_carried r s h
+links_carried (outcome.GaveUp seconds) s h = inr h
+
+if_carried : (is_over : Bool) (s : Status)
+    → ◌≡◌ {A = Option Status} (Some s) (if is_over then Some status.Refused else None) → IsCarriedOut s
+if_carried true s h = inr (cc h)
+if_carried false s h = absurd (cc h)
+
+reported_carried : (r : R.Report Global) (is_over : Bool) (s : Status) → Some s ≡ reported r is_over → IsCarriedOut s
+reported_carried report.Cancelled is_over s h = inl (cc h)
+reported_carried (report.Body fetched) is_over s h = if_carried is_over s h
+reported_carried (report.Valid tag) is_over s h = if_carried is_over s h
+reported_carried (report.Done code) is_over s h = if_carried is_over s h
+reported_carried (report.Value sequence fetched) is_over s h = if_carried is_over s h
+reported_carried (report.Ended code) is_over s h = if_carried is_over s h
+reported_carried (report.Failed code) is_over s h = if_carried is_over s h
+reported_carried report.Timeout is_over s h = if_carried is_over s h
+reported_carried report.Reset is_over s h = if_carried is_over s h
+reported_carried report.NoResponse is_over s h = if_carried is_over s h
+reported_carried report.Changed is_over s h = if_carried is_over s h
+reported_carried report.BadBlock is_over s h = if_carried is_over s h
+reported_carried report.NoTag is_over s h = if_carried is_over s h
+reported_carried report.TooLarge is_over s h = if_carried is_over s h
+reported_carried report.NoIds is_over s h = if_carried is_over s h
+
+left_carried : (ended : Left) (is_over : Bool) (s : Status) → Some s ≡ verdict ended is_over → IsCarriedOut s
+left_carried Silent is_over s h = if_carried is_over s h
+left_carried (Ended (outcome.Refused why)) is_over s h = inr (cc h)
+left_carried (Ended (outcome.Reported r)) is_over s h = reported_carried r is_over s h
+left_carried (Ended (outcome.GaveUp seconds)) is_over s h = inr (cc h)
+
+-- a task that a client is handed
+does_carried : (Stands : Endpoint → Type 0) (options : AskOptions) (word : ℕ) (task : Task) (s : Status)
+    → Does Stands options word task s → IsCarriedOut s
+does_carried Stands options word (tasks.Request made) s h =
+    let asks = h.2 in
+    subst IsCarriedOut (sym asks.2) (after_carried (shown_request made).method asks.0)
+does_carried Stands options word (tasks.Observation of) s h =
+    let observes = h.2 in
+    subst IsCarriedOut (sym observes.2) (observed_ends observes.0)
+does_carried Stands options word (tasks.Watch of again) s h =
+    let followed = h.1.9 in
+    left_carried h.1.4 followed.1 s followed.3
+does_carried Stands options word (tasks.Polling of every) s h =
     let polls = h.2 in
     subst IsCarriedOut (sym polls.3) (read_ends polls.0)
+does_carried Stands options word (tasks.Discovery made) s h =
+    let discovers = h.2 in
+    links_carried discovers.0 s discovers.2
 
--- a GET, which may be made again and again
-got_done : (s : Status) (port : ℕ) (path : List (List ℕ)) (options : AskOptions) (period : Option ℕ)
-    → options.every ≡ period → IsAsked port path Get options s → IsCarriedOut s
-got_done s port path options None is h = requested_carried s port path Get options (h.2 refl is)
-got_done s port path options (Some every) is h = polled_carried s port path every options (h.1 every is)
+asked_carried : (ended : Result Status Stop) (server : ServerSpec) (path : List (List ℕ)) (what : What)
+    (options : AskOptions) → IfOk ended (IsAsked server path what options) → IfOk ended IsCarriedOut
+asked_carried (Ok s) server path what options h = does_carried (IsServer server) options h.0 h.2 s h.4
+asked_carried (Err stop) server path what options h = tt
 
-asked_done : (s : Status) (port : ℕ) (path : List (List ℕ)) (what : What) (options : AskOptions)
-    → IsAsked port path what options s → IsCarriedOut s
-asked_done s port path Get options h = got_done s port path options options.every refl h
-asked_done s port path (Put content) options h = requested_carried s port path (Put content) options (h.2 refl refl)
-asked_done s port path (Post content) options h = requested_carried s port path (Post content) options (h.2 refl refl)
-asked_done s port path Delete options h = requested_carried s port path Delete options (h.2 refl refl)
-asked_done s port path Observe options h =
-    let observes = (h.0 refl).2 in
-    subst IsCarriedOut (sym observes.2) (observed_ends observes.0)
-
-asked_carried : (ended : Result Status Stop) (port : ℕ) (path : List (List ℕ)) (what : What) (options : AskOptions)
-    → IfOk ended (IsAsked port path what options) → IfOk ended IsCarriedOut
-asked_carried (Ok s) port path what options h = asked_done s port path what options h
-asked_carried (Err stop) port path what options h = tt
+discovered_carried : (ended : Result Status Stop) (server : ServerSpec) (options : AskOptions)
+    → IfOk ended (IsDiscovered server options) → IfOk ended IsCarriedOut
+discovered_carried (Ok s) server options h = does_carried (IsServer server) options h.0 h.2 s h.4
+discovered_carried (Err stop) server options h = tt
 
 paired_done : (ended : Result Status Stop) (path : List (List ℕ)) (body : List ℕ) (word : WordChoice)
     (limit remembered : ℕ)
@@ -281,8 +340,11 @@ text_only (Answer path body datagram) ended c h = absurd (carried_out ended c h)
 text_only (Pair path body word limit remembered) ended c h =
     absurd (carried_out ended (paired_done ended path body.now word limit remembered c) h)
 text_only (Serve port count options script pcap) ended c h = served_done ended count options script c h
-text_only (Ask port path what options) ended c h = absurd (carried_out ended
-    (asked_carried ended port path what options c) h)
+text_only (Ask server path what options pcap) ended c h =
+    absurd (carried_out ended (asked_carried ended server path what options c) h)
+text_only (Discover server options pcap) ended c h =
+    absurd (carried_out ended (discovered_carried ended server options c) h)
+text_only (Ping server options pcap) ended c h = absurd (carried_out ended c h)
 text_only (Sim file store plains remembered chart client server pcap) ended c h = tt
 
 -- 2 says that something is wrong in the words, or that they have a text read

@@ -1,5 +1,6 @@
 -- What becomes of a path that is observed anew, from the calls of its clients to the status of the program.
 use Rattle.std.proofs.Common.{◌≡◌, ◌+◌, ◌∙◌, ◌↔◌, ℕ, Bool, List, Option, Some, None, ap, refl, sym, subst, true, false}
+use Rattle.std.proofs.Common.{Result, Ok, Err, IfOk}
 use Rattle.std.specs.declared.alloc.Global.{Global}
 use Rattle.coap_types.specs.declared.endpoint.Endpoint.{Endpoint}
 use Rattle.coap_types.specs.declared.endpoint.Moment.{Moment}
@@ -18,6 +19,7 @@ use Rattle.coap_commands.specs.declared.watching.Heard.{Heard}
 use Rattle.coap_commands.specs.declared.watching.Left.{Left}
 use Rattle.coap_commands.specs.declared.watching.Left.TheVariants.{Ended, Silent}
 use Rattle.coap_scripts.specs.declared.status.Status.{Status}
+use Rattle.coap_scripts.specs.declared.status.Stop.{Stop}
 
 -- what a turn takes behind it, where that is no last report: of what was heard before it and after it
 abbrev pub More : ℕ → ℕ → Heard → Heard → State → State → Type 0
@@ -127,6 +129,23 @@ followed options again since begin ended heard after v w now is_over same over i
   values,
   subst (λ (o : Option Status). Follows again begin o after.last.0) (sym follows.0) follows.1,
 )
+
+pub told_followed : (Is : Left → ℕ → Type 0) (options : AskOptions) (again : ℕ) (since : Moment) (begin : ℕ)
+    (left : Left) (heard after : Heard) (v : Option Status) (ended : Result (Option Status) Stop) (now : ℕ)
+    (is_over : Bool) → Is left heard.values → heard.since ≡ since
+    → ((is_over ≡ true) ↔ IsOver options heard.since.0 heard.values now) → v ≡ verdict left is_over
+    → IfOk ended (λ w. (w ≡ v) × Follows again begin v after.last.0) → after.values ≡ heard.values
+    → IfOk ended (λ w. (l : Left) × (values : ℕ) × Is l values
+    × IsFollowed options again since.0 begin l values w after.values after.last.0)
+told_followed Is options again since begin left heard after v (Ok w) now is_over registered same over is follows
+    values = (
+      left,
+      heard.values,
+      registered,
+      followed options again since begin left heard after v w now is_over same over is follows values,
+    )
+told_followed Is options again since begin left heard after v (Err stop) now is_over registered same over is follows
+    values = tt
 
 module _ (IsServer : Endpoint → Type 0) (word : ℕ) (path : List (List ℕ)) (options : AskOptions) (again : ℕ) where
   -- the registration after so many, and what follows it

@@ -8,9 +8,13 @@ use Rattle.coap_pcap.specs.declared.reasons.Skip.{Skip}
 use Rattle.coap_scripts.specs.declared.status.Status.{Status}
 use Rattle.coap_scripts.specs.declared.status.Status.TheVariants.{Done, Refused, Words, Failed, Memory}
 
+-- the bytes spell a message
+abbrev pub Spelled : List ℕ → Type 0
+Spelled bytes = (message : Message) × Spells bytes message
+
 -- what a packet is found to be spells a message, where it is a datagram
 abbrev pub FoundSpells : Result (Addresses × List ℕ) Skip → Type 0
-FoundSpells (Ok datagram) = (message : Message) × Spells datagram.1 message
+FoundSpells (Ok datagram) = Spelled datagram.1
 FoundSpells (Err why) = ⊤
 
 abbrev pub IsSpelled : Seen → Type 0

@@ -3,10 +3,10 @@ use Rattle.std.specs.Prelude.{◌≡◌, ◌⊎◌, ⊤, ℕ, List, Result, Ok, 
 use Rattle.clap.specs.Words.{Text}
 use Rattle.coap_arguments.specs.Words.{AsksFor, IsWrong}
 use Rattle.coap_record.specs.Events.{Event}
-use Rattle.coap_commands.specs.Asked.{IsAsked}
 use Rattle.coap_commands.specs.Captured.{IsCaptureStatus}
 use Rattle.coap_commands.specs.Pairs.{IsPaired}
 use Rattle.coap_commands.specs.Served.{IsServed}
+use Rattle.coap_commands.specs.Tasks.{IsAsked, IsDiscovered}
 use Rattle.coap_scripts.specs.StatusNumbers.{status_number}
 use Rattle.coap_scripts.specs.Sims.{IsSim, sim_config}
 use Rattle.coap_scripts.specs.declared.status.Status.{Status}
@@ -14,7 +14,8 @@ use Rattle.coap_scripts.specs.declared.status.Status.TheVariants as status
 use Rattle.coap_scripts.specs.declared.status.Stop.{Stop}
 use Rattle.coap_scripts.specs.declared.status.Stop.TheVariants as stop
 use Rattle.coap_arguments.specs.declared.orders.Order.{Order}
-use Rattle.coap_arguments.specs.declared.orders.Order.TheVariants.{Ask, Dump, DumpCapture, Pair, Serve, Sim, Version}
+use Rattle.coap_arguments.specs.declared.orders.Order.TheVariants.{Ask, Discover, Dump, DumpCapture, Pair, Serve, Sim}
+use Rattle.coap_arguments.specs.declared.orders.Order.TheVariants.{Version}
 use Rattle.coap_arguments.specs.declared.orders.Wrong.{Wrong}
 use Rattle.coap_arguments.specs.declared.orders.Wrong.TheVariants.{Words, Path, Number, Word, Address, Size, Tags}
 use Rattle.coap_arguments.specs.declared.orders.Wrong.TheVariants.{Setting, Body, Store, Plains, Ends as NoEnds}
@@ -51,7 +52,8 @@ CarriesOut (DumpCapture file chart) s = (bytes : List ℕ) × IsCaptureStatus by
 CarriesOut Version s = s ≡ status.Done
 CarriesOut (Pair path body word limit remembered) s = IsPaired path body.now word limit remembered s
 CarriesOut (Serve port count options script pcap) s = IsServed count options script s
-CarriesOut (Ask port path what options) s = IsAsked port path what options s
+CarriesOut (Ask server path what options pcap) s = IsAsked server path what options s
+CarriesOut (Discover server options pcap) s = IsDiscovered server options s
 CarriesOut _ s = IsCarriedOut s
 
 -- what telling of a wrong comes to: bad hex is told on standard output, which may fail

@@ -1,7 +1,7 @@
 //! `dump --pcap`: the datagrams of a capture in words.
 ghost use Rattle.std.specs.Prelude.{◌≡◌, ℕ, List, true, false, IfOk, map};
 ghost use Rattle.coap_pcap.specs.Files.{seen};
-ghost use Rattle.coap_commands.specs.Captured.{IsCaptureStatus, IsPacketsStatus, IsSpelled};
+ghost use Rattle.coap_commands.specs.Captured.{IsCaptureStatus, IsPacketsStatus, IsSpelled, Spelled};
 ghost use Rattle.coap_scripts.specs.declared.status.Status.TheVariants as statuses;
 
 use crate::captured_chart::draw_packets;
@@ -20,8 +20,19 @@ fn is_spelled(packet: &Packet<'_>) -> bool
     ensures no { result ≡ false → IsSpelled (seen packet.now) → ⊥ }
 {
     match packet.found {
-        Ok(datagram) => decode(datagram.payload).is_ok(),
+        Ok(datagram) => spells(datagram.payload),
         Err(_) => true,
+    }
+}
+
+// Whether bytes spell a message.
+fn spells(bytes: &[u8]) -> bool
+    ensures yes { result ≡ true → Spelled bytes.now }
+    ensures no { result ≡ false → Spelled bytes.now → ⊥ }
+{
+    match decode(bytes) {
+        Ok(_) => true,
+        Err(_) => false,
     }
 }
 
@@ -99,8 +110,8 @@ pub fn show_capture<W: Write>(
     chart: bool,
     out: &mut W,
 ) -> Result<Status, Stop>
-    // A capture is shown with status 0 where each datagram of it spells a message, with 1 where one is at fault, and with
-    // 2 where the bytes are no capture.
+    // A capture is shown with status 0 where each datagram of it spells a message, with 1 where one is at fault, and
+    // with 2 where the bytes are no capture.
     ensures { IfOk result (IsCaptureStatus bytes.now) }
 {
     match read(alloc, bytes) {

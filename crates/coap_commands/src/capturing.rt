@@ -1,10 +1,10 @@
 //! What `--pcap` writes: a capture of each datagram that is sent and received, as Wireshark and tshark read it.
-ghost use Rattle.std.specs.Prelude.{◌≡◌, IfSome, OnOk, is_some};
+ghost use Rattle.std.specs.Prelude.{◌≡◌, ℕ, false, IfOk, IfSome, OnOk, is_some};
 ghost use Rattle.std.specs.Io.KnownBytes.{Appends};
 ghost use Rattle.coap_types.specs.declared.endpoint.Endpoint.{Endpoint as EndpointSpec};
 ghost use Rattle.coap_links.specs.declared.trace.Way.{Way as WaySpec};
 ghost use Rattle.coap_pcap.specs.declared.addresses.Addresses.{Addresses as AddressesSpec};
-ghost use Rattle.coap_pcap.specs.Written.{file_head};
+ghost use Rattle.coap_pcap.specs.Written.{file_head, packet, record_of};
 ghost use Rattle.coap_commands.specs.Capturing.{four_addresses, mapped, six_addresses};
 
 use crate::timekeeper::Timekeeper;
@@ -77,10 +77,8 @@ fn mapped(four: Endpoint) -> SixEndpoint
 
 // The endpoint of a peer over IPv6.
 fn endpoint_of(peer: SixPeer) -> SixEndpoint {
-    SixEndpoint {
-        ip: peer.ip,
-        port: peer.port,
-    }
+    let (ip, port) = (peer.ip, peer.port);
+    SixEndpoint { ip, port }
 }
 
 impl<'n, S: BuildHasher + Copy + Drop, A: Allocator + Copy> Standing for SixStanding<'n, S, A> {
@@ -143,9 +141,9 @@ impl<P: Standing, A: Allocator + Copy, T: Timekeeper, W: Write> CaptureTeller<P,
 
     // The record of a datagram that goes or comes now.
     fn record(&mut self, way: Way, peer: Endpoint, bytes: &[u8]) -> io::Result<Vec<u8, A>>
-        ensures record { IfOk result (λ record. (at : ℕ) × (addresses : AddressesSpec)
+        ensures made { IfOk result (λ made. (at : ℕ) × (addresses : AddressesSpec)
             × P.stands self.old.standing way peer addresses
-            × (record.items ≡ record_of at (packet addresses bytes.now))) }
+            × (made.items ≡ record_of at (packet addresses bytes.now))) }
         ensures standing { self.new.standing ≡ self.old.standing }
         ensures out { self.new.out ≡ self.old.out }
         ensures torn { self.new.is_torn ≡ self.old.is_torn }
@@ -193,7 +191,7 @@ pub fn write_head<W: Write>(out: &mut W) -> io::Result<()>
 
 /// A file that a capture begins in, where one is named.
 pub(crate) fn capture_in<R: Files>(rt: &R, name: Option<&str>) -> Result<Option<R::File>, Stop>
-    ensures { IfOk result (λ file. is_some file ≡ is_some name) }
+    ensures { IfOk result (λ file. is_some file ≡ is_some name.entry) }
 {
     let Some(name) = name else {
         return Ok(None);

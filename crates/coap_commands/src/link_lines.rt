@@ -90,10 +90,12 @@ fn json_line(alloc: Global, at: Moment, link: &Link<'_>) -> Result<Vec<u8>, Allo
     let attributes = attributes_of(alloc, link)?;
     let mut parameters = Vec::new(alloc);
     for attribute in &attributes {
-        parameters.push(Parameter {
+        let value = attribute.value.as_deref();
+        let parameter = Parameter {
             name: attribute.name,
-            value: attribute.value.as_deref(),
-        })?;
+            value,
+        };
+        parameters.push(parameter)?;
     }
     // A target has bytes of ASCII alone.
     let target = str::from_utf8(link.target()).unwrap_or("");

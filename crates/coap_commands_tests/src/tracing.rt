@@ -2,7 +2,9 @@
 use crate::clock::Clock;
 use crate::rows::{Broken, terms_with};
 use coap_arguments::path_of_text;
-use coap_commands::{Connection, SharedWriter, ask_over, close, get_request, teller_on};
+use coap_commands::{
+    Connection, FourPeers, SharedWriter, Tracing, ask_over, close, get_request, teller_on,
+};
 use coap_links::{Link, MemoryLink, Trace};
 use coap_print::DatagramWords;
 use coap_types::{BodyLimit, Endpoint, Path};
@@ -111,7 +113,12 @@ fn get_traced<O: Write, E: Write>(
         FAR,
         b"\x68\x45\0\0\0\0\0\0\0\0\0\0\x48\0\0\0\0\0\0\0\x01\x80\xff22.3 C",
     )?;
-    let teller = teller_on(alloc, Clock { now: 0 }, err, is_traced);
+    let tracing = if is_traced {
+        Tracing::Plain
+    } else {
+        Tracing::Off
+    };
+    let teller = teller_on(alloc, Clock { now: 0 }, err, FourPeers, tracing);
     let mut trace = Trace::new(link, teller);
     let hasher = BuildHasherDefault::<FoldHasher>::new();
     let mut time = Clock { now: 0 };

@@ -1,8 +1,8 @@
 //! Tests of ports at which nobody listens.
 use coap_arguments::path_of_text;
 use coap_commands::{
-    ClosedPort, ClosedPortLink, Connection, SharedWriter, Terms, Timekeeper, ask_over, close,
-    fresh_server, get_request, hold, largest_szx,
+    ClosedPort, ClosedPortLink, Connection, PeerWords, SharedWriter, Terms, Timekeeper, ask_over,
+    close, fresh_server, get_request, hold, largest_szx,
 };
 use coap_ends::Server;
 use coap_layer::Setup;
@@ -53,7 +53,7 @@ fn get_at<R: AllocGlobal + Net, T: Timekeeper>(
 ) -> Result<u8, Fail> {
     let alloc = rt.alloc();
     let link = UdpLink::client(rt, server)?;
-    let closed_port = ClosedPort::new(SharedWriter(said), server, None);
+    let closed_port = ClosedPort::new(SharedWriter(said), PeerWords::Four(server), None);
     let mut link = ClosedPortLink::new(link, closed_port);
     let mut err = SharedWriter(said);
     let mut connection = Connection::new(&mut link, time, &mut err);

@@ -5,3 +5,7 @@ use Rattle.coap_commands.proofs.driver.perform.Goals as goal
 
 pub returns-in-Ask : goal.returns-in-Ask
 returns-in-Ask g c = subst (λ (o : Order). IfOk c.ask.result (CarriesOut o)) (sym c.in-Ask.is) c.ask.ensures
+
+pub returns-in-Discover : goal.returns-in-Discover
+returns-in-Discover g c =
+    subst (λ (o : Order). IfOk c.discover.result (CarriesOut o)) (sym c.in-Discover.is) c.discover.ensures
