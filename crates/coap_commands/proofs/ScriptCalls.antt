@@ -1,6 +1,6 @@
 -- The settings of a script, one after the other.
-use Rattle.std.proofs.Common.{◌≡◌, ◌∙◌, ◌<◌, ◌+◌, ◌++◌, ◌∷◌, [], ℕ, List, Result, Ok, Err, IfOk, Bool, true, ap, sym, refl}
-use Rattle.std.proofs.Common.{subst, fold, map, get_or, length, take}
+use Rattle.std.proofs.Common.{◌≡◌, ◌∙◌, ◌<◌, ◌+◌, ◌++◌, ◌∷◌, [], ℕ, List, ap, sym, refl}
+use Rattle.std.proofs.Common.{subst, fold, map, get_or, length, take, Bool, true, Result, Ok, Err, IfOk}
 use Rattle.std.proofs.lemmas.List.{map-append, take_more}
 use Rattle.std.proofs.lemmas.List.Sums.{fold-append}
 use Rattle.coap_server.specs.Trace.{Call}
@@ -34,3 +34,16 @@ pub one_made : {X : Type 0} (view : X → Setting) (xs : List X) (i : ℕ) (x : 
 one_made view xs i x is lt before between after so one =
     subst (λ (ss : List Setting). AreMade ss before after) (sym (seen_more view xs i x is lt))
     (made_more (map view (take i xs)) (view x) before between after so one)
+
+-- what led to a setting that was made
+pub made_by : {E : Type 0} (r : Result Bool E) (P Q Leads : List Call → Type 0) → ((x : List Call) → P x → Q x)
+    → IfOk r (λ is. is ≡ true → (x : List Call) × P x × Leads x)
+    → IfOk r (λ is. is ≡ true → (x : List Call) × Q x × Leads x)
+made_by (Ok b) P Q Leads on h = λ is. let k = h is in (k.0, on k.0 k.1, k.2)
+made_by (Err e) P Q Leads on h = tt
+
+-- .. by these calls
+pub made_one : {E : Type 0} (r : Result Bool E) (calls : List Call) (Q Leads : List Call → Type 0) → Q calls
+    → IfOk r (λ is. is ≡ true → Leads calls) → IfOk r (λ is. is ≡ true → (x : List Call) × Q x × Leads x)
+made_one (Ok b) calls Q Leads one h = λ is. (calls, one, h is)
+made_one (Err e) calls Q Leads one h = tt

@@ -1,4 +1,5 @@
--- How a script sets a server up: the calls that lead on, the newest first (RFC 7252, section 5.8.3; RFC 7641, section 3).
+-- How a script sets a server up: the calls that lead on, the newest first (RFC 7252, section 5.8.3; RFC 7641, section
+-- 3).
 use Rattle.std.specs.Prelude.{◌≡◌, ◌≤◌, ⊤, ℕ, List, [], ◌∷◌, Some, None, Option, Ok, true, fold, length}
 use Rattle.std.specs.Borrow.{Bor}
 use Rattle.coap_resource.specs.Content.{Content}

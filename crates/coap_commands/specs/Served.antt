@@ -45,8 +45,8 @@ FedFrom count old new = (calls : List Call) × AllTurning calls × (count ≤ fe
 abbrev pub IsServedBy : ℕ → ServeOptions → List Setting → Status → Type 0
 IsServedBy count options settings s = (s ≡ status.Refused)
     ⊎ (((s ≡ status.Words) × (settings ≢ []))
-    ⊎ ((s ≡ status.Done) × (word : ℕ) × IsWord options.word word × (first : State) × IsServer word options settings first
-    × (last : State) × FedFrom count first last))
+    ⊎ ((s ≡ status.Done) × (word : ℕ) × IsWord options.word word × (first : State)
+    × IsServer word options settings first × (last : State) × FedFrom count first last))
 
 -- .. where the settings are those of the script that is named, if any; one of its lines may say none
 abbrev pub IsServed : ℕ → ServeOptions → Option (Bor (List ℕ)) → Status → Type 0

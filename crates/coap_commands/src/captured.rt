@@ -99,8 +99,8 @@ pub fn show_capture<W: Write>(
     chart: bool,
     out: &mut W,
 ) -> Result<Status, Stop>
-    // A capture is shown with status 0 where each datagram of it spells a message, with 1 where one is at fault, and with
-    // 2 where the bytes are no capture.
+    // A capture is shown with status 0 where each datagram of it spells a message, with 1 where one is at fault, and
+    // with 2 where the bytes are no capture.
     ensures { IfOk result (IsCaptureStatus bytes.now) }
 {
     match read(alloc, bytes) {

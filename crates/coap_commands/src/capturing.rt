@@ -191,7 +191,7 @@ pub fn write_head<W: Write>(out: &mut W) -> io::Result<()>
 
 /// A file that a capture begins in, where one is named.
 pub(crate) fn capture_in<R: Files>(rt: &R, name: Option<&str>) -> Result<Option<R::File>, Stop>
-    ensures { IfOk result (λ file. is_some file ≡ is_some name) }
+    ensures { IfOk result (λ file. is_some file ≡ is_some name.entry) }
 {
     let Some(name) = name else {
         return Ok(None);

@@ -166,8 +166,9 @@ pub(crate) fn script_of<R: AllocGlobal + Files>(
     rt: &R,
     name: Option<&str>,
 ) -> Result<Result<Vec<Setting>, BadLine>, Stop>
-    ensures said { IfOk result (λ read. IfOk read (λ settings. AreOfScript name.entry (map setting_of settings.items))) }
-    ensures named { IfOk result (λ read. IfErr read (λ _. IsSome name)) }
+    ensures said { IfOk result (λ read. IfOk read (λ settings. AreOfScript name.entry
+        (map setting_of settings.items))) }
+    ensures named { IfOk result (λ read. IfErr read (λ _. IsSome name.entry)) }
 {
     let Some(name) = name else {
         return Ok(Ok(Vec::new(rt.alloc())));

@@ -171,8 +171,8 @@ pub fn server_by<H: BuildHasher + Drop>(
     settings: &[Setting],
     hasher: H,
 ) -> Result<Result<Server<MapStore, Global, H>, NotSetUp>, Stop>
-    // The server of `serve` remembers as many messages as its words say, and takes bodies up to the limit that its script
-    // says, or its words; the calls that set it up have led to it, and no other.
+    // The server of `serve` remembers as many messages as its words say, and takes bodies up to the limit that its
+    // script says, or its words; the calls that set it up have led to it, and no other.
     ensures made { IfOk result (λ made. IfOk made (λ server. IsServer word options.now (map setting_of settings.now)
         (state_of content_of server))) }
     // A line of the script is named only where the script has one.

@@ -44,24 +44,25 @@ fn capture_of(alloc: Global, datagrams: &[(Way, &[u8])]) -> Result<Vec<u8>, Fail
 }
 
 // The record of the ping: from 192.0.2.1:40001 to 192.0.2.200:5683, at 1,010 ms.
-const PING_RECORD: &str = "0100000010270000200000002000000045000020000040004011b603c0000201c00002c89c411633000c889640000001";
+const PING_RECORD: &str = concat!(
+    "01000000102700002000000020000000",
+    "45000020000040004011b603c0000201c00002c8",
+    "9c411633000c889640000001",
+);
 
 #[test]
 fn what_a_capture_has(rt: HostRuntime) -> Result<(), Fail> {
     let bytes = capture_of(rt.alloc(), &[(Way::Goes, PING)])?;
     let text = hex::encode(rt.alloc(), &bytes)?;
-    let wanted = format!(in rt.alloc(); "d4c3b2a10200040000000000000000000000040065000000{PING_RECORD}")?;
+    let wanted = format!(in rt.alloc();
+        "d4c3b2a10200040000000000000000000000040065000000{PING_RECORD}"
+    )?;
     assert_eq!(rt; text.as_str(), wanted.as_str());
     Ok(())
 }
 
 // The exit status of a capture that is shown, and what is printed.
-fn shown(
-    alloc: Global,
-    bytes: &[u8],
-    chart: bool,
-    told: &mut Vec<u8>,
-) -> Result<u8, AllocError> {
+fn shown(alloc: Global, bytes: &[u8], chart: bool, told: &mut Vec<u8>) -> Result<u8, AllocError> {
     let mut said = Vec::new(alloc);
     let ended = show_capture(alloc, bytes, chart, told);
     Ok(close(ended, &mut said).number())
@@ -119,10 +120,7 @@ fn what_is_no_capture(rt: HostRuntime) -> Result<(), Fail> {
             b"\x0a\x0d\x0d\x0a\x1c\0\0\0",
             "bad capture: a pcapng file: `tshark -F pcap` makes a pcap file of it at byte 0\n",
         ),
-        (
-            b"40010001\n",
-            "bad capture: no pcap file at byte 0\n",
-        ),
+        (b"40010001\n", "bad capture: no pcap file at byte 0\n"),
     ];
     for (bytes, printed) in rows {
         fs::write(&rt, "bad.pcap", bytes)?;

@@ -103,7 +103,10 @@ fn serve_told<E: Write>(
     let Ok(Ok(server)) = server_by(alloc, 0, &options, &[], hasher) else {
         return Err(AllocError);
     };
-    let mut server = TellingEnd::new(server, changes_on(alloc, err, options.changes, options.json));
+    let mut server = TellingEnd::new(
+        server,
+        changes_on(alloc, err, options.changes, options.json),
+    );
     let mut time = Clock { now: 0 };
     let mut out = Vec::new(alloc);
     let mut said = SharedWriter(err);

@@ -128,7 +128,11 @@ const HOSTS: [(&str, &str); 30] = [
 fn texts_of_hosts(rt: HostRuntime) -> Result<(), Fail> {
     for (text, host) in HOSTS {
         let words = ["get", "5683", "t", "--host", text];
-        assert_eq!(rt; host_in(rt.alloc(), words.as_slice())?.as_str(), host, "at {words:?}");
+        assert_eq!(rt;
+            host_in(rt.alloc(), words.as_slice())?.as_str(),
+            host,
+            "at {words:?}"
+        );
     }
     Ok(())
 }
@@ -160,12 +164,19 @@ fn addresses_that_are_served_at(rt: HostRuntime) -> Result<(), Fail> {
         (&["serve", "5683", "--address", "0.0.0.0"], "four 0.0.0.0"),
         (&["serve", "5683", "--address", "::"], "six :: 0"),
         (&["serve", "5683", "--address", "::1"], "six ::1 0"),
-        (&["serve", "5683", "--address", "[fe80::1%2]"], "six fe80::1 2"),
+        (
+            &["serve", "5683", "--address", "[fe80::1%2]"],
+            "six fe80::1 2",
+        ),
         (&["serve", "5683", "--address", "localhost"], "none"),
         (&["serve", "5683", "--address", ""], "none"),
     ];
     for (words, address) in rows {
-        assert_eq!(rt; served_at(rt.alloc(), words)?.as_str(), address, "at {words:?}");
+        assert_eq!(rt;
+            served_at(rt.alloc(), words)?.as_str(),
+            address,
+            "at {words:?}"
+        );
     }
     Ok(())
 }

@@ -33,7 +33,10 @@ fn what_is_told_in_json(rt: HostRuntime) -> Result<(), Fail> {
             CONTENT,
             (
                 0,
-                "{\"ms\":40,\"report\":\"body\",\"code\":\"2.05\",\"etag\":null,\"format\":0,\"bytes\":2,\"text\":\"hi\"}\n",
+                concat!(
+                    "{\"ms\":40,\"report\":\"body\",\"code\":\"2.05\",",
+                    "\"etag\":null,\"format\":0,\"bytes\":2,\"text\":\"hi\"}\n"
+                ),
             ),
         ),
         (
@@ -42,7 +45,10 @@ fn what_is_told_in_json(rt: HostRuntime) -> Result<(), Fail> {
             NO_TEXT,
             (
                 0,
-                "{\"ms\":40,\"report\":\"body\",\"code\":\"2.05\",\"etag\":null,\"format\":null,\"bytes\":2,\"hex\":\"ff00\"}\n",
+                concat!(
+                    "{\"ms\":40,\"report\":\"body\",\"code\":\"2.05\",",
+                    "\"etag\":null,\"format\":null,\"bytes\":2,\"hex\":\"ff00\"}\n"
+                ),
             ),
         ),
         (
@@ -51,7 +57,10 @@ fn what_is_told_in_json(rt: HostRuntime) -> Result<(), Fail> {
             NO_BODY,
             (
                 0,
-                "{\"ms\":40,\"report\":\"body\",\"code\":\"2.05\",\"etag\":\"0a01\",\"format\":null,\"bytes\":0,\"text\":\"\"}\n",
+                concat!(
+                    "{\"ms\":40,\"report\":\"body\",\"code\":\"2.05\",",
+                    "\"etag\":\"0a01\",\"format\":null,\"bytes\":0,\"text\":\"\"}\n"
+                ),
             ),
         ),
         (
@@ -60,7 +69,10 @@ fn what_is_told_in_json(rt: HostRuntime) -> Result<(), Fail> {
             QUOTES,
             (
                 0,
-                "{\"ms\":40,\"report\":\"body\",\"code\":\"2.05\",\"etag\":null,\"format\":null,\"bytes\":4,\"text\":\"\\\"\\\\\\u0000\\n\"}\n",
+                concat!(
+                    "{\"ms\":40,\"report\":\"body\",\"code\":\"2.05\",",
+                    "\"etag\":null,\"format\":null,\"bytes\":4,\"text\":\"\\\"\\\\\\u0000\\n\"}\n"
+                ),
             ),
         ),
         (

@@ -49,14 +49,20 @@ fn words_of(alloc: Global, setting: &Setting) -> Result<String, Fail> {
 fn what_scripts_say(rt: HostRuntime) -> Result<(), Fail> {
     let rows: [(&str, &str); 24] = [
         ("", ""),
-        ("\n# hold a\n\nplain t\n", "nothing\nnothing\nnothing\nplain 1\n"),
+        (
+            "\n# hold a\n\nplain t\n",
+            "nothing\nnothing\nnothing\nplain 1\n",
+        ),
         ("hold a/b 0 hi  there", "hold 2 0 686920207468657265\n"),
         ("hold / 65535 \n", "hold 0 65535 \n"),
         (
             "hold /.well-known/core 40 </t>;ct=0\n",
             "hold 2 40 3c2f743e3b63743d30\n",
         ),
-        ("delay t 0\ndelay t 18446744073709551615", "delay 1 0\ndelay 1 18446744073709551615\n"),
+        (
+            "delay t 0\ndelay t 18446744073709551615",
+            "delay 1 0\ndelay 1 18446744073709551615\n",
+        ),
         ("limit 1\nlimit 1048576\n", "limit 1\nlimit 1048576\n"),
         ("hold", "bad line 1"),
         ("hold t", "bad line 1"),
@@ -64,7 +70,10 @@ fn what_scripts_say(rt: HostRuntime) -> Result<(), Fail> {
         ("hold t 65536 hi", "bad line 1"),
         ("hold t +1 hi", "bad line 1"),
         ("hold  0 hi", "bad line 1"),
-        ("plain t\nhold 1/2/3/4/5/6/7/8/9/10/11/12/13/14/15/16/17 0 hi", "bad line 2"),
+        (
+            "plain t\nhold 1/2/3/4/5/6/7/8/9/10/11/12/13/14/15/16/17 0 hi",
+            "bad line 2",
+        ),
         ("delay t", "bad line 1"),
         ("delay t 1 2", "bad line 1"),
         ("delay t 18446744073709551616", "bad line 1"),
@@ -86,7 +95,11 @@ fn what_scripts_say(rt: HostRuntime) -> Result<(), Fail> {
 #[test]
 fn servers_by_scripts(rt: HostRuntime) -> Result<(), Fail> {
     let rows: [(&str, u8, &str); 6] = [
-        ("hold lamp 0 off\ndelay lamp 1\nplain lamp\n", 0, "served 0\n"),
+        (
+            "hold lamp 0 off\ndelay lamp 1\nplain lamp\n",
+            0,
+            "served 0\n",
+        ),
         ("# nothing\n", 0, "served 0\n"),
         ("hold lamp 0 off\nhold\n", 2, "bad line 2\n"),
         // A body over the limit, which the last line says, for all of them.

@@ -39,10 +39,7 @@ fn words_of_json(rt: HostRuntime) -> Result<(), Fail> {
             &["serve", "5683", "1", "--changes", "--json", "--trace"],
             TRACED,
         ),
-        (
-            &["serve", "5683", "1", "--changes", "--json", "-v"],
-            TRACED,
-        ),
+        (&["serve", "5683", "1", "--changes", "--json", "-v"], TRACED),
         (&["pair", "t", "hi", "--json"], NO_JSON),
         (&["sim", "get.sim", "--json"], NO_JSON),
         (&["dump", "--json"], NO_JSON),

@@ -7,7 +7,7 @@ use Rattle.coap_commands.proofs.serve_script.limit_by.Goals as goal
 
 pub loop-setting-preserved : goal.loop-setting-preserved
 loop-setting-preserved c =
-    c.limit_with.ensures ∙ ap (λ n. limit_with n (setting_of c.setting-item.result)) c.loop-setting.invariant
+    c.limit_with-last.ensures ∙ ap (λ n. limit_with n (setting_of c.setting-item.result)) c.loop-setting.invariant
     ∙ limit_more setting_of c.args.limit c.args.settings.now c.loop-setting.setting-index c.setting-item.result
     c.setting-item.is c.loop-setting-test.true
 

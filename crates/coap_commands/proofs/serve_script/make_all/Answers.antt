@@ -1,6 +1,8 @@
-use Rattle.std.proofs.Common.{arith, refl, subst, List, map}
+use Rattle.std.proofs.Common.{◌+◌, Global, List, ap, arith, map, refl, subst}
 use Rattle.std.proofs.lemmas.List.{take_all}
 use Rattle.coap_scripts.specs.Settings.{setting_of}
+use Rattle.coap_scripts.specs.declared.script.settings.Setting.{Setting}
+use Rattle.coap_commands.specs.ScriptSettings.{AreMade}
 use Rattle.coap_commands.proofs.ScriptCalls.{one_made}
 use Rattle.coap_commands.proofs.serve_script.make_all.Goals as goal
 
@@ -8,7 +10,23 @@ pub loop-setting-init : goal.loop-setting-init
 loop-setting-init g c = record { counted = refl; led = λ limits setup t led. (t, refl, led); }
 
 pub loop-setting-preserved : goal.loop-setting-preserved
-loop-setting-preserved g c = ?
+loop-setting-preserved g c = record {
+  counted = ap (λ n. n + 1) c.loop-setting.invariant.counted;
+  led = λ limits setup t led.
+      let so = c.loop-setting.invariant.led limits setup t led in
+      let next = c.in_ok-make.ensures limits setup so.0 so.2 c.if-not-branch.false in (
+        next.0,
+        one_made setting_of c.args.settings.now c.loop-setting.setting-index c.setting-item.result c.setting-item.is
+            c.loop-setting-test.true t so.0 next.0 so.1 next.1,
+        next.2,
+      );
+}
 
 pub returns-clause-made : goal.returns-clause-made
-returns-clause-made g c = ?
+returns-clause-made g c = λ limits setup t led.
+    let so = c.loop-setting.invariant.led limits setup t led in (
+      so.0,
+      subst (λ (ss : List (Setting Global)). AreMade (map setting_of ss) t so.0)
+          (take_all c.loop-setting.setting-index c.args.settings.now (omega arith)) so.1,
+      so.2,
+    )
