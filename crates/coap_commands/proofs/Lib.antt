@@ -1,3 +1,4 @@
+pub mod Addresses
 pub mod AskedTasks
 pub mod CapturedPackets
 pub mod ObservedCalls
