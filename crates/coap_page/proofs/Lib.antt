@@ -1,2 +1,3 @@
+pub mod FromEvents
 pub mod NeverSmall
 pub mod TooMany

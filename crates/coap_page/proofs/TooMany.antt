@@ -1,5 +1,5 @@
 -- Paths of which one can't be made plain are too many.
-use Rattle.std.proofs.Common.{◌≡◌, ◌≤◌, ◌<◌, ◌∙◌, ◌++◌, ◌∷◌, ap, sym, ℕ, Bool, true, false, cond, List, [], fold}
+use Rattle.std.proofs.Common.{◌≡◌, ◌+◌, ◌≤◌, ◌<◌, ◌∙◌, ◌++◌, ◌∷◌, ap, sym, ℕ, Bool, true, false, cond, List, [], fold}
 use Rattle.std.proofs.Common.{get_or, length, take, drop, arith, refl, Result, Ok, Err}
 use Rattle.std.proofs.lemmas.Bool.{or_parts}
 use Rattle.std.proofs.lemmas.Bool.Decides.{nat_tests}
