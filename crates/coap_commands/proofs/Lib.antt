@@ -1,5 +1,6 @@
 pub mod AskedTasks
 pub mod CapturedPackets
+pub mod ChosenAddresses
 pub mod ObservedCalls
 pub mod PairCalls
 pub mod PolledCalls

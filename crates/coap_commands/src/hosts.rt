@@ -71,14 +71,17 @@ fn is_four(address: &SocketAddr) -> bool
 }
 
 /// The address that is asked, of those that the system names: the first one of IPv4, or else the first.
+#[tactic(auto, using(crate::proofs::ChosenAddresses::found_four, crate::proofs::ChosenAddresses::passed_by))]
 pub fn chosen(addresses: &[SocketAddr]) -> Option<SocketAddr>
     // Of the addresses of a name the first one of IPv4 is asked, and else the first.
     ensures { result ≡ chosen addresses.now }
 {
-    for address in addresses {
+    let mut left = addresses;
+    'addresses: while let Some((address, rest)) = left.split_first() {
         if is_four(address) {
             return Some(*address);
         }
+        left = rest;
     }
     addresses.first().copied()
 }

@@ -17,6 +17,8 @@ mod changes;
 #[cfg(test)]
 mod clock;
 #[cfg(test)]
+mod discovering;
+#[cfg(test)]
 mod dumps;
 #[cfg(test)]
 mod failures;
@@ -39,6 +41,8 @@ mod json_lines;
 #[cfg(test)]
 mod observing;
 #[cfg(test)]
+mod pinging;
+#[cfg(test)]
 mod polling;
 #[cfg(test)]
 mod programs;
@@ -60,3 +64,5 @@ mod telling;
 mod tracing;
 #[cfg(test)]
 mod uris;
+#[cfg(test)]
+mod watching;
