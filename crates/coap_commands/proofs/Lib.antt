@@ -1,6 +1,6 @@
-pub mod Addresses
 pub mod AskedTasks
 pub mod CapturedPackets
+pub mod ChosenAddresses
 pub mod ObservedCalls
 pub mod PairCalls
 pub mod PolledCalls

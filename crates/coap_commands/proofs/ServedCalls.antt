@@ -1,7 +1,7 @@
 -- The turns of a server are made of calls of these kinds alone: datagrams are fed, time passes, and what is out is
 -- taken; of its tally, no more is fed than these calls feed.
 use Rattle.std.proofs.Common.{◌≡◌, ◌≤◌, ◌+◌, ℕ, Bool, true, false, List, [], ◌∷◌, ◌++◌, Option, Some, None, Result, Ok}
-use Rattle.std.proofs.Common.{Err, IfOk}
+use Rattle.std.proofs.Common.{Err, IfErr, IfOk}
 use Rattle.std.proofs.Common.{inl, inr, refl, sym, subst, arith, if◌then◌else◌, nat_lt, ◌^◌, ◌-◌, ◌≢◌, length}
 use Rattle.std.specs.Borrow.{Bor}
 use Rattle.std.specs.Option.{IsSome}
@@ -22,7 +22,10 @@ use Rattle.coap_server.specs.Trace.{Call, Handling, NextOut, Ticks}
 use Rattle.coap_server.specs.Trace.{Feeds as FedIn}
 use Rattle.coap_arguments.specs.declared.orders.ServeOptions.{ServeOptions}
 use Rattle.coap_commands.specs.Asked.{IsWord}
-use Rattle.coap_commands.specs.ScriptSettings.{AreOfScript}
+use Rattle.coap_commands.specs.ScriptSettings.{AreOfScript, IsOfSettings}
+use Rattle.coap_commands.specs.declared.serve_script.BadLine.{BadLine}
+use Rattle.coap_commands.specs.declared.setting_up.NotSetUp.{NotSetUp}
+use Rattle.coap_commands.specs.declared.setting_up.NotSetUp.TheVariants as notSetUp
 use Rattle.coap_commands.specs.Served.{AllTurning, FedFrom, IsServed, IsServedBy, IsTurning, Leads, fed_by, fed_in}
 use Rattle.coap_commands.specs.Serves.{Serves, Turning, nothing_fed}
 use Rattle.coap_commands.specs.Serves.{further as more, none as no_turn}
@@ -239,6 +242,16 @@ pub bad_by : (count : ℕ) (options : ServeOptions) (settings : List Setting) (w
 bad_by count options settings word n (Ok s) least most h =
     λ is_word. inr (inl (h, some_settings n settings least most))
 bad_by count options settings word n (Err stop) least most h = tt
+
+-- a line that is named is one of those that there are
+pub named_line : {X : Type 0} (settings : List Setting) (made : Result X NotSetUp) (bad : BadLine)
+    → made ≡ Err (notSetUp.Line bad) → IfErr made (IsOfSettings settings)
+    → (1 ≤ bad.0) × (bad.0 ≤ length settings)
+named_line settings made bad is h = subst (λ (r : Result _ NotSetUp). IfErr r (IsOfSettings settings)) is h
+
+-- what holds of a refusal, whichever it is
+pub where_refused : {X E : Type 0} (P : Type 0) (made : Result X E) (e : E) → made ≡ Err e → IfErr made (λ _. P) → P
+where_refused P made e is h = subst (λ (r : Result _ _). IfErr r (λ _. P)) is h
 
 -- with the word that was chosen
 pub worded : (count : ℕ) (options : ServeOptions) (settings : List Setting) (word : ℕ) (ended : Result Status Stop)

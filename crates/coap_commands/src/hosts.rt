@@ -71,7 +71,7 @@ fn is_four(address: &SocketAddr) -> bool
 }
 
 /// The address that is asked, of those that the system names: the first one of IPv4, or else the first.
-#[tactic(auto, using(crate::proofs::Addresses::found_four, crate::proofs::Addresses::passed_by))]
+#[tactic(auto, using(crate::proofs::ChosenAddresses::found_four, crate::proofs::ChosenAddresses::passed_by))]
 pub fn chosen(addresses: &[SocketAddr]) -> Option<SocketAddr>
     // Of the addresses of a name the first one of IPv4 is asked, and else the first.
     ensures { result ≡ chosen addresses.now }

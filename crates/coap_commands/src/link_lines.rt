@@ -1,4 +1,5 @@
 //! The line of a link (RFC 6690, section 2).
+ghost use Rattle.std.specs.Prelude.{◌≤◌, length};
 
 use coap_json::{Parameter, link_line};
 use coap_link_format::Link;
@@ -18,7 +19,9 @@ const BACKSLASH: u8 = b'\\';
 const EQUALS: u8 = b'=';
 
 // How far a text goes until such a byte that stands in no quotes.
-fn len_until_semicolon(text: &[u8]) -> usize {
+fn len_until_semicolon(text: &[u8]) -> usize
+    ensures { result ≤ length text.now }
+{
     let mut is_quoted = false;
     let mut is_escaped = false;
     for (at, byte) in text.iter().enumerate() {
@@ -37,8 +40,8 @@ fn len_until_semicolon(text: &[u8]) -> usize {
 
 // An attribute of a link: its name, and its value without quotes, where it has one.
 #[derive(Drop)]
-struct Attribute<'a> {
-    name: &'a str,
+struct Attribute {
+    name: String,
     value: Option<Vec<u8>>,
 }
 
@@ -61,19 +64,19 @@ fn value_of(alloc: Global, text: &[u8]) -> Result<Vec<u8>, AllocError> {
 }
 
 // What this text of an attribute says.
-fn attribute_of(alloc: Global, text: &[u8]) -> Result<Attribute<'_>, AllocError> {
+fn attribute_of(alloc: Global, text: &[u8]) -> Result<Attribute, AllocError> {
     let at = text.iter().position(|byte| *byte == EQUALS);
     let (name, value) = match at {
         Some(at) => (&text[..at], Some(value_of(alloc, &text[at + 1..])?)),
         None => (text, None),
     };
     // A name has bytes of ASCII alone.
-    let name = str::from_utf8(name).unwrap_or("");
+    let name = String::from_str(alloc, str::from_utf8(name).unwrap_or(""))?;
     Ok(Attribute { name, value })
 }
 
 // The attributes of a link, in order.
-fn attributes_of<'a>(alloc: Global, link: &Link<'a>) -> Result<Vec<Attribute<'a>>, AllocError> {
+fn attributes_of(alloc: Global, link: &Link<'_>) -> Result<Vec<Attribute>, AllocError> {
     let mut attributes = Vec::new(alloc);
     // Behind the target and its brackets.
     let mut left = link.text.get(link.target().len() + 2..).unwrap_or(&[]);
@@ -85,17 +88,19 @@ fn attributes_of<'a>(alloc: Global, link: &Link<'a>) -> Result<Vec<Attribute<'a>
     Ok(attributes)
 }
 
+// An attribute as it is told in JSON.
+fn parameter_of(attribute: &Attribute) -> Parameter<'_> {
+    let name = attribute.name.as_str();
+    let value = attribute.value.as_deref();
+    Parameter { name, value }
+}
+
 // The line of a link in JSON.
 fn json_line(alloc: Global, at: Moment, link: &Link<'_>) -> Result<Vec<u8>, AllocError> {
     let attributes = attributes_of(alloc, link)?;
     let mut parameters = Vec::new(alloc);
     for attribute in &attributes {
-        let value = attribute.value.as_deref();
-        let parameter = Parameter {
-            name: attribute.name,
-            value,
-        };
-        parameters.push(parameter)?;
+        parameters.push(parameter_of(attribute))?;
     }
     // A target has bytes of ASCII alone.
     let target = str::from_utf8(link.target()).unwrap_or("");

@@ -113,10 +113,11 @@ pub(crate) fn own_six<S: BuildHasher + Copy + Drop, A: Allocator + Copy>(
     name: Endpoint,
 ) -> SixEndpoint {
     match names.peer_of(&name) {
-        Some(own) => SixEndpoint {
-            ip: own.ip,
-            port: own.port,
-        },
+        Some(own) => {
+            let ip = own.ip;
+            let port = own.port;
+            SixEndpoint { ip, port }
+        }
         None => NOWHERE,
     }
 }
@@ -136,10 +137,9 @@ impl<'r, 'n, R: Net + Clock, S: BuildHasher + Copy + Drop, A: Allocator + Copy> 
     }
 
     fn server(&self) -> PeerWords {
-        PeerWords::Six(SixPeer {
-            ip: self.server.ip().octets(),
-            port: self.server.port(),
-            scope: self.server.scope_id(),
-        })
+        let ip = self.server.ip().octets();
+        let port = self.server.port();
+        let scope = self.server.scope_id();
+        PeerWords::Six(SixPeer { ip, port, scope })
     }
 }

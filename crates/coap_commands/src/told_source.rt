@@ -1,5 +1,5 @@
 //! Where links come from over which it is told what passes.
-ghost use Rattle.coap_types.specs.declared.endpoint.Endpoint.{Endpoint as EndpointSpec};
+ghost use Rattle.std.specs.Prelude.{◌≡◌};
 
 use crate::capturing::{CaptureTeller, capture_on};
 use crate::closed_port::{ClosedPort, ClosedPortLink};
@@ -18,11 +18,11 @@ use std::rt::Clock;
 
 /// How it is told what passes a link.
 #[derive(Drop)]
-pub(crate) struct Telling<'s, R: Clock, W, F> {
+pub(crate) struct Telling<'r, 's, 'f, R: Clock, W, F> {
     /// The allocator.
     pub alloc: Global,
     /// The clock of what is told.
-    pub time: ProgramTime<'s, R>,
+    pub time: ProgramTime<'r, R>,
     /// When that clock began, in milliseconds since 1970.
     pub begin: Moment,
     /// Standard error.
@@ -30,7 +30,7 @@ pub(crate) struct Telling<'s, R: Clock, W, F> {
     /// How each datagram is told of there.
     pub tracing: Tracing,
     /// The file that takes each datagram, as a capture.
-    pub file: Option<&'s RefCell<F>>,
+    pub file: Option<&'f RefCell<F>>,
     /// After how many seconds the client gives up.
     pub give_up: Option<u64>,
 }
@@ -38,15 +38,18 @@ pub(crate) struct Telling<'s, R: Clock, W, F> {
 /// Links of another source, over which it is told what passes: on standard error, and in a capture; and where nobody
 /// listens.
 #[derive(Drop)]
-pub(crate) struct ToldSource<'s, S, R: Clock, W, F> {
+pub(crate) struct ToldSource<'r, 's, 'f, S, R: Clock, W, F> {
     source: S,
-    telling: Telling<'s, R, W, F>,
+    telling: Telling<'r, 's, 'f, R, W, F>,
 }
 
-impl<'s, S, R: Clock, W, F> ToldSource<'s, S, R, W, F> {
+impl<'r, 's, 'f, S, R: Clock, W, F> ToldSource<'r, 's, 'f, S, R, W, F> {
     /// Links of this source, of which it is told so.
-    pub(crate) fn new(source: S, telling: Telling<'s, R, W, F>) -> ToldSource<'s, S, R, W, F>
-        ensures { result ≡ record { source = source; telling = telling } }
+    pub(crate) fn new(
+        source: S,
+        telling: Telling<'r, 's, 'f, R, W, F>,
+    ) -> ToldSource<'r, 's, 'f, S, R, W, F>
+        ensures { result.source ≡ source }
     {
         ToldSource { source, telling }
     }
@@ -60,14 +63,14 @@ fn shared<'s, F>(file: &Option<&'s RefCell<F>>) -> Option<SharedWriter<'s, F>> {
     }
 }
 
-impl<'s, S: Ends + Drop, R: Clock, W: Write + Drop, F: Write + Drop> LinkSource
-    for ToldSource<'s, S, R, W, F> {
+impl<'r, 's, 'f, S: Ends + Drop, R: Clock, W: Write + Drop, F: Write + Drop> LinkSource
+    for ToldSource<'r, 's, 'f, S, R, W, F> {
     type Link = Trace<
         Trace<
             ClosedPortLink<S::Link, SharedWriter<'s, Screen<W>>>,
-            Option<CaptureTeller<S::Own, Global, ProgramTime<'s, R>, SharedWriter<'s, F>>>,
+            Option<CaptureTeller<S::Own, Global, ProgramTime<'r, R>, SharedWriter<'f, F>>>,
         >,
-        Option<LineTeller<Global, ProgramTime<'s, R>, SharedWriter<'s, Screen<W>>, S::Peers>>,
+        Option<LineTeller<Global, ProgramTime<'r, R>, SharedWriter<'s, Screen<W>>, S::Peers>>,
     >;
 
     ghost reaches = { λ told. S.reaches told.source };

@@ -1,8 +1,9 @@
 //! Tests of ports at which nobody listens.
+use crate::rows::words_of;
 use coap_arguments::path_of_text;
 use coap_commands::{
     ClosedPort, ClosedPortLink, Connection, PeerWords, SharedWriter, Terms, Timekeeper, ask_over,
-    close, fresh_server, get_request, hold, largest_szx,
+    close, command, fresh_server, get_request, hold, largest_szx,
 };
 use coap_ends::Server;
 use coap_layer::Setup;
@@ -30,6 +31,7 @@ fn terms() -> Terms {
         size: largest_szx(),
         limit: BodyLimit::default(),
         give_up: None,
+        json: false,
     }
 }
 
@@ -166,5 +168,27 @@ fn a_server_that_begins_late_is_heard(rt: HostRuntime) -> Result<(), Fail> {
     let wanted = nobody_listens(rt.alloc(), address)?;
     let said = said.into_inner();
     assert_eq!(rt; said.as_slice(), wanted.as_bytes());
+    Ok(())
+}
+
+#[test]
+fn a_closed_port_of_ipv6(rt: HostRuntime) -> Result<(), Fail> {
+    let alloc = rt.alloc();
+    let port = closed_port(&rt)?.port;
+    let uri = format!(in alloc; "coap://[::1]:{port}/t")?;
+    let words = words_of(alloc, &["get", uri.as_str(), "--give-up", "1"])?;
+    let mut told = Vec::new(alloc);
+    let mut said = Vec::new(alloc);
+    let status = command(&rt, words.as_slice(), &mut told, &mut said);
+    // A machine without IPv6 has no socket of it.
+    if status != 3 {
+        let wanted = format!(in alloc;
+            "nobody listens at [::1]:{port}; trying on until 1 s after the request at the latest\n\
+                gave up after 1 s; the request may still be applied\n"
+        )?;
+        assert_eq!(rt; said.as_slice(), wanted.as_bytes());
+        assert_eq!(rt; status, 1);
+    }
+    assert_eq!(rt; told.as_slice(), b"".as_slice());
     Ok(())
 }
