@@ -96,8 +96,8 @@ fn a_subcommand_alone_prints_its_own_help(rt: HostRuntime) -> Result<(), Fail> {
 // A word that is none is answered by the nearest that is one.
 #[test]
 fn a_typo_is_answered_by_the_nearest_word(rt: HostRuntime) -> Result<(), Fail> {
-    let typo = said(&rt, &["gte"])?;
-    assert!(rt; str::from_utf8(typo.as_slice())?.contains("'get'"));
+    let typo = said(&rt, &["observ"])?;
+    assert!(rt; str::from_utf8(typo.as_slice())?.contains("'observe'"));
     let typo = said(&rt, &["get", "5683", "t", "--tarce"])?;
     assert!(rt; str::from_utf8(typo.as_slice())?.contains("'--trace'"));
     Ok(())
