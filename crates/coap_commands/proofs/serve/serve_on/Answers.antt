@@ -15,10 +15,3 @@ returns-in-Ok g c =
     served_by c.args.count options settings word (state_of content_of c.in-Ok.server) _
     (made_is (λ server. IsServer word options settings (state_of content_of server)) c.in_ok-made.made
     c.in-Ok.server c.in-Ok.is c.in_ok-made.ensures.made) c.serve_with.ensures
-
-pub returns-in-Err : goal.returns-in-Err
-returns-in-Err g c =
-    let settings = map setting_of c.args.settings.now in
-    not_set_by c.args.count c.args.options.now settings c.args.word c.in-Err.why c.tell_not_set_up.result
-    (refused_is (IsOfSettings settings) c.in_ok-made.made c.in-Err.why c.in-Err.is c.in_ok-made.ensures.bad)
-    c.tell_not_set_up.ensures
