@@ -23,10 +23,10 @@ use Rattle.coap_server.specs.Trace.{Feeds as FedIn}
 use Rattle.coap_arguments.specs.declared.orders.ServeOptions.{ServeOptions}
 use Rattle.coap_commands.specs.Asked.{IsWord}
 use Rattle.coap_commands.specs.ScriptSettings.{AreOfScript, IsOfSettings}
-use Rattle.coap_commands.specs.declared.serve_script.BadLine.{BadLine}
 use Rattle.coap_commands.specs.declared.setting_up.NotSetUp.{NotSetUp}
 use Rattle.coap_commands.specs.declared.setting_up.NotSetUp.TheVariants as notSetUp
 use Rattle.coap_commands.specs.Served.{AllTurning, FedFrom, IsServed, IsServedBy, IsTurning, Leads, fed_by, fed_in}
+use Rattle.coap_commands.specs.Served.{not_set_up_status}
 use Rattle.coap_commands.specs.Serves.{Serves, Turning, nothing_fed}
 use Rattle.coap_commands.specs.Serves.{further as more, none as no_turn}
 use Rattle.coap_commands.specs.SettingUp.{IsServer}
@@ -243,11 +243,18 @@ bad_by count options settings word n (Ok s) least most h =
     λ is_word. inr (inl (h, some_settings n settings least most))
 bad_by count options settings word n (Err stop) least most h = tt
 
--- a line that is named is one of those that there are
-pub named_line : {X : Type 0} (settings : List Setting) (made : Result X NotSetUp) (bad : BadLine)
-    → made ≡ Err (notSetUp.Line bad) → IfErr made (IsOfSettings settings)
-    → (1 ≤ bad.0) × (bad.0 ≤ length settings)
-named_line settings made bad is h = subst (λ (r : Result _ NotSetUp). IfErr r (IsOfSettings settings)) is h
+-- what holds of a refusal
+pub refused_is : {X E : Type 0} (Is : E → Type 0) (made : Result X E) (e : E) → made ≡ Err e → IfErr made Is → Is e
+refused_is Is made e is h = subst (λ (r : Result _ _). IfErr r Is) is h
+
+-- a server that isn't set up
+pub not_set_by : (count : ℕ) (options : ServeOptions) (settings : List Setting) (word : ℕ) (why : NotSetUp)
+    (ended : Result Status Stop) → IsOfSettings settings why → IfOk ended (λ s. s ≡ not_set_up_status why)
+    → IfOk ended (λ s. IsWord options.word word → IsServedBy count options settings s)
+not_set_by count options settings word (notSetUp.Refused refusal) ended of h =
+    refused_by count options settings word ended h
+not_set_by count options settings word (notSetUp.Line bad) ended of h =
+    bad_by count options settings word bad.0 ended of.0 of.1 h
 
 -- what holds of a refusal, whichever it is
 pub where_refused : {X E : Type 0} (P : Type 0) (made : Result X E) (e : E) → made ≡ Err e → IfErr made (λ _. P) → P

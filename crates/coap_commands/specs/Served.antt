@@ -7,6 +7,8 @@ use Rattle.coap_arguments.specs.declared.orders.ServeOptions.{ServeOptions}
 use Rattle.coap_commands.specs.Asked.{IsWord}
 use Rattle.coap_commands.specs.ScriptSettings.{AreOfScript}
 use Rattle.coap_commands.specs.SettingUp.{IsServer}
+use Rattle.coap_commands.specs.declared.setting_up.NotSetUp.{NotSetUp}
+use Rattle.coap_commands.specs.declared.setting_up.NotSetUp.TheVariants as notSetUp
 use Rattle.coap_scripts.specs.Settings.{Setting}
 use Rattle.coap_scripts.specs.declared.status.Status.{Status}
 use Rattle.coap_scripts.specs.declared.status.Status.TheVariants as status
@@ -39,6 +41,11 @@ Leads old (c ∷ earlier) new = (between : State) × Leads old earlier between �
 -- such calls alone lead from one state to the other, and at least so many datagrams are fed
 abbrev pub FedFrom : ℕ → State → State → Type 0
 FedFrom count old new = (calls : List Call) × AllTurning calls × (count ≤ fed_in calls) × Leads old calls new
+
+-- the status of a server that isn't set up: words are at fault in a line of its script
+abbrev pub not_set_up_status : NotSetUp → Status
+not_set_up_status (notSetUp.Refused why) = status.Refused
+not_set_up_status (notSetUp.Line bad) = status.Words
 
 -- a server that was set up as the words and these settings say is turned so, and that is done; or it doesn't hold what
 -- the words name, or doesn't take what a line of the settings says

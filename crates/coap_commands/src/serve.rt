@@ -8,7 +8,7 @@ ghost use Rattle.coap_server.specs.Object.Shown.{state_of};
 ghost use Rattle.coap_commands.specs.Serves.{Feeds, Serves};
 ghost use Rattle.coap_scripts.specs.Settings.{setting_of};
 ghost use Rattle.coap_commands.specs.Asked.{IsWord};
-ghost use Rattle.coap_commands.specs.Served.{FedFrom, IsServed, IsServedBy};
+ghost use Rattle.coap_commands.specs.Served.{FedFrom, IsServed, IsServedBy, not_set_up_status};
 ghost use Rattle.coap_scripts.specs.declared.status.Status.TheVariants.{Done};
 
 use crate::asking::{Showing, names_for};
@@ -172,8 +172,17 @@ fn serve_on<
     let made = server_by(rt.alloc(), word, options, settings, RandomState::new(rt)?)?;
     match made {
         Ok(server) => serve_with(server, changes, &mut link, &mut time, count, word, out),
-        Err(NotSetUp::Refused(refusal)) => tell_refusal(refusal, out),
-        Err(NotSetUp::Line(bad)) => tell_bad_line(bad, out),
+        Err(why) => tell_not_set_up(why, out),
+    }
+}
+
+// Says why a server isn't set up.
+fn tell_not_set_up<W: Write>(why: NotSetUp, out: &mut W) -> Result<Status, Stop>
+    ensures { IfOk result (λ status. status ≡ not_set_up_status why) }
+{
+    match why {
+        NotSetUp::Refused(refusal) => tell_refusal(refusal, out),
+        NotSetUp::Line(bad) => tell_bad_line(bad, out),
     }
 }
 
