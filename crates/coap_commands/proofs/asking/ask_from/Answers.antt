@@ -1,5 +1,17 @@
+use Rattle.std.proofs.Common.{IfOk, subst, sym}
+use Rattle.coap_commands.specs.Tasks.{Does}
+use Rattle.coap_commands.specs.declared.asking.Task.{Task}
 use Rattle.coap_commands.proofs.AskedTasks.{done_there}
 use Rattle.coap_commands.proofs.asking.ask_from.Goals as goal
 
+pub returns-in-Watch : goal.returns-in-Watch
+returns-in-Watch g c =
+    let asked = c.args.asked in
+    subst (λ (t : Task). IfOk c.watch_over.result
+    (Does (g.S.LinkSource.reaches c.args.source.now) asked.options.now asked.word t))
+    (sym c.in-Watch.is) c.watch_over.ensures
+
 pub returns : goal.returns
-returns g c = let h = c.ask_on in ?
+returns g c =
+    done_there (g.S.LinkSource.reaches c.args.source.now) c.in_ok-link.server _ _ _ _ c.in_ok-link.ensures
+    c.ask_on.ensures

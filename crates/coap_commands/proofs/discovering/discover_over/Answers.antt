@@ -1,0 +1,17 @@
+use Rattle.std.proofs.Common.{[], subst}
+use Rattle.coap_layer.specs.declared.setup.Setup.{Setup}
+use Rattle.coap_client.specs.Led.{Led}
+use Rattle.coap_client.specs.Object.CallShown.{shown_request}
+use Rattle.coap_commands.specs.Discovers.{Discovers}
+use Rattle.coap_commands.specs.Terms.{setup_of, sizes_of}
+use Rattle.coap_commands.proofs.WhatBecomes.{began}
+use Rattle.coap_commands.proofs.discovering.discover_over.Goals as goal
+
+pub returns : goal.returns
+returns g c =
+    let terms = c.args.terms.now in
+    began (λ server sizes w. Led server sizes w [] c.fresh_client-client.result)
+    (λ server sizes w. Discovers server sizes w terms.give_up (shown_request c.args.request))
+    c.ask_and_tell-ended.result c.args.server (sizes_of terms) (setup_of terms)
+    (subst (λ (w : Setup). Led c.args.server (sizes_of terms) w [] c.fresh_client-client.result) c.setup.ensures
+    c.fresh_client-client.ensures) c.ask_and_tell-ended.ensures
