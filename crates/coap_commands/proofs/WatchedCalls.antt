@@ -13,7 +13,8 @@ use Rattle.coap_commands.specs.Asks.{Turned, takes_report}
 use Rattle.coap_commands.specs.Observes.{IsOver}
 use Rattle.coap_commands.specs.Waiting.{HasPassed}
 use Rattle.coap_commands.specs.Watches.{Again, Follows, Goes, IsFollowed, IsLeft, IsNext, IsNoEnd, LastTurn, LeavesAt}
-use Rattle.coap_commands.specs.Watches.{MayCancel, TakesReport, TurnsAt, Watches, anew, further, heard_at, taken, verdict}
+use Rattle.coap_commands.specs.Watches.{MayCancel, TakesReport, TurnsAt, Watches, anew, further, heard_at, taken}
+use Rattle.coap_commands.specs.Watches.{verdict}
 use Rattle.coap_commands.specs.declared.calling.Outcome.TheVariants.{GaveUp, Refused, Reported}
 use Rattle.coap_commands.specs.declared.watching.Heard.{Heard}
 use Rattle.coap_commands.specs.declared.watching.Left.{Left}
@@ -177,7 +178,8 @@ module _ (IsServer : Endpoint → Type 0) (word : ℕ) (path : List (List ℕ)) 
   pub ends : (since : Moment) (n : ℕ) (heard after : Heard) (v : Option Status) (s : Status) → AgainAt since n heard
       → NextOf heard.since n heard v after → v ≡ Some s → Watches IsServer word path options again s
   ends since n heard after v s before h is =
-      let k : NextOf since n heard (Some s) after = next_as since heard.since n heard after v (Some s) before.1 is h in (
+      let k : NextOf since n heard (Some s) after =
+          next_as since heard.since n heard after v (Some s) before.1 is h in (
         since.0,
         (n, heard.values, heard.last.0, before.0, k.0, k.1, k.2, after.values, after.last.0, k.3),
       )

@@ -1,6 +1,7 @@
 -- What becomes of a path that is observed, and observed anew where nothing comes for long or the server ended that
 -- (RFC 7641, sections 3.3.1 and 3.6). Each registration is made by a client of its own, which asks for nothing else.
-use Rattle.std.specs.Prelude.{◌≡◌, ◌⊎◌, ◌↔◌, ⊤, ℕ, ◌+◌, ◌%◌, ◌^◌, Bool, true, false, List, [], Option, None, Some, Ok, Err}
+use Rattle.std.specs.Prelude.{◌≡◌, ◌⊎◌, ◌↔◌, ⊤, ℕ, ◌+◌, ◌%◌, ◌^◌, Bool, true, false, List, [], Option, None, Some}
+use Rattle.std.specs.Prelude.{Ok, Err}
 use Rattle.std.specs.Prelude.{Result, if◌then◌else◌}
 use Rattle.std.specs.declared.alloc.Global.{Global}
 use Rattle.coap_types.specs.declared.endpoint.Endpoint.{Endpoint}
@@ -116,7 +117,8 @@ IsLeftBy options again since begin before (Ok number) s ended values =
     IsLeft options again since number begin before s ended values
 
 -- A client of this server began with this setup and these sizes, and was called to observe the path at this moment.
-abbrev pub IsRegistered : Endpoint → (sizes : Sizes) → Setup → List (List ℕ) → AskOptions → (again since begin before : ℕ)
+abbrev pub IsRegistered : Endpoint → (sizes : Sizes) → Setup → List (List ℕ) → AskOptions
+    → (again since begin before : ℕ)
     → Left → ℕ → Type 0
 IsRegistered server sizes setup path options again since begin before ended values =
     (fresh : State) × Led server sizes setup [] fresh × (answer : Result ℕ CallRefusal) × (s : State)
@@ -146,7 +148,8 @@ verdict (left.Ended ended) is_over = verdict_of ended is_over
 abbrev pub Decides : AskOptions → (since values now : ℕ) → Bool → Type 0
 Decides options since values now is_over = (is_over ≡ true) ↔ IsOver options since values now
 
--- what follows a registration that began at this moment and is left so, after so many values: the end of the program, or
+-- what follows a registration that began at this moment and is left so, after so many values: the end of the program,
+-- or
 -- another registration at that moment, so many seconds later
 abbrev pub Follows : (again begin : ℕ) → Option Status → ℕ → Type 0
 Follows again begin (Some s) next = ⊤

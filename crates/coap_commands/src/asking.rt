@@ -170,7 +170,8 @@ fn do_once<L: Link, T: Timekeeper, H: BuildHasher + Drop, O: Write, E: Write>(
     }
 }
 
-// The same, beside a screen, over a link of its own: how far a body is, a long wait, and that nothing is heard, are told
+// The same, beside a screen, over a link of its own: how far a body is, a long wait, and that nothing is heard, are
+// told
 // of.
 fn ask_on<
     L: Link + Drop,

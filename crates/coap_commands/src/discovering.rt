@@ -144,7 +144,8 @@ pub fn discover_over<L: Carrier, T: Timekeeper, H: BuildHasher + Drop, O: Write,
     terms: &Terms,
     out: &mut O,
 ) -> Result<Status, Stop>
-    // A client of this server, which began by the terms, was handed the request, and nothing else; the status is 0 where
+    // A client of this server, which began by the terms, was handed the request, and nothing else; the status is 0
+    // where
     // a body was reported of it that spells links (RFC 6690, section 2), and else 1.
     ensures { IfOk result (Discovers server (sizes_of terms.now) (setup_of terms.now) terms.now.give_up
         (shown_request request)) }

@@ -126,7 +126,8 @@ fn serve_with<
     word: u64,
     out: &mut W,
 ) -> Result<Status, Stop>
-    ensures { IfOk result (λ status. (status ≡ Done) × (last : State) × FedFrom count (state_of content_of server) last) }
+    ensures { IfOk result (λ status. (status ≡ Done)
+        × (last : State) × FedFrom count (state_of content_of server) last) }
 {
     let mut server = TellingEnd::new(server, changes);
     let ended = serve_over(&mut server, link, time, count, word, out);

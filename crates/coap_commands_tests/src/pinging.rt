@@ -105,7 +105,8 @@ fn pings_in_memory(rt: HostRuntime) -> Result<(), Fail> {
         // It goes out five times in 47 s, and is given up after 93 s, or as many as are chosen.
         (1, None, &[], 1, "timeout\n", 5),
         (1, Some(7), &[], 1, "timeout\n", 3),
-        // The next one begins a second after the one before, with the next Message ID. What comes in between is dropped.
+        // The next one begins a second after the one before, with the next Message ID. What comes in between is
+        // dropped.
         (
             2,
             None,

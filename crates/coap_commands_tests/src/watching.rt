@@ -38,6 +38,7 @@ const SECOND_CANCELLED: &[u8] = b"\x68\x45\x10\x01\0\0\0\0\0\0\0\x01\xffb";
 type Coming<'a> = (u32, &'a [u8]);
 
 // Links, of which each has what comes in its life.
+#[derive(Drop)]
 struct Lives<'a> {
     alloc: Global,
     coming: &'a [&'a [Coming<'a>]],

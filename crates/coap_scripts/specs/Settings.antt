@@ -8,7 +8,8 @@ use Rattle.coap_scripts.specs.declared.script.settings.Setting.TheVariants as se
 use Rattle.coap_scripts.specs.declared.script.setting_words.SettingKind.{SettingKind}
 use Rattle.coap_scripts.specs.declared.script.setting_words.SettingKind.TheVariants as kind
 
--- what a path holds, with its format; how many milliseconds the requests of a path wait; that the observers of a path are
+-- what a path holds, with its format; how many milliseconds the requests of a path wait; that the observers of a path
+-- are
 -- told in Non-confirmable messages; the longest body in bytes
 pub data Setting : Type 0 where
   Nothing : Setting

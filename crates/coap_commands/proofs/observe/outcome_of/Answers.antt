@@ -6,7 +6,8 @@ use Rattle.coap_commands.proofs.observe.outcome_of.Goals as goal
 pub returns-in-Ok : goal.returns-in-Ok
 returns-in-Ok g c =
     taken_observes (λ server sizes w. Led server sizes w [] c.args.client.now) c.args.options.now c.in_ok-begin.begin.0
-    c.args.path.now _ c.in-Ok.id _ c.awaited.result c.in-Ok.is (λ server sizes w led. c.in_ok-id.ensures.led server sizes w
+    c.args.path.now _ c.in-Ok.id _ c.awaited.result c.in-Ok.is
+    (λ server sizes w led. c.in_ok-id.ensures.led server sizes w
     [] led)
     c.awaited.ensures
 

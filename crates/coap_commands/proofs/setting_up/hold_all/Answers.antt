@@ -19,7 +19,8 @@ loop-held-preserved g c = λ limits setup t led.
           so.1 (
             next.0,
             next.1,
-            ap (λ b. Sets 0 c.held-item.result.path (Some text_plain) b (Ok next.0) next.1 ∷ so.0) c.as_slice.ensures.value,
+            ap (λ b. Sets 0 c.held-item.result.path (Some text_plain) b (Ok next.0) next.1 ∷ so.0)
+                c.as_slice.ensures.value,
           ),
       next.2,
     )

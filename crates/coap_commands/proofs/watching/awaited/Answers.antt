@@ -22,12 +22,14 @@ loop-turn-preserved g c =
     turn_on options again c.args.id.0 _ _ _ _ _ _ _ _ c.loop-turn.invariant
     (client_turned_at _ _ _ _ _ _ _ _ _ _ _ _ _ c.get_turn.ensures) _
     (none_is _ _ c.in_ok-report.ensures.more c.in_default.is)
-    (not_left options again heard.since.0 c.args.id.0 heard.values heard.last.0 c.in_ok-now.now.0 _ _ _ c.left_at.ensures c.in_default-left_at.is)
+    (not_left options again heard.since.0 c.args.id.0 heard.values heard.last.0 c.in_ok-now.now.0 _ _ _
+    c.left_at.ensures c.in_default-left_at.is)
 
 pub returns-in-Some-clause-left : goal.returns-in-Some-clause-left
 returns-in-Some-clause-left g c =
     let last = some_is _ _ c.in-Some.report c.in_ok-report.ensures.last c.in-Some.is in
-    left_reported c.args.watching.now.options.now c.args.watching.now.again c.args.id.0 _ _ _ _ _ _ _ _ c.loop-turn.invariant
+    left_reported c.args.watching.now.options.now c.args.watching.now.again c.args.id.0 _ _ _ _ _ _ _ _
+    c.loop-turn.invariant
     (client_turned_at _ _ _ _ _ _ _ _ _ _ _ _ _ c.get_turn.ensures) c.in-Some.report last.0 last.1 last.2
 
 pub returns-in-Some-left_at-clause-left : goal.returns-in-Some-left_at-clause-left
@@ -38,4 +40,5 @@ returns-in-Some-left_at-clause-left g c =
     left_in_turn options again c.args.id.0 _ _ _ _ _ _ _ _ c.loop-turn.invariant
     (client_turned_at _ _ _ _ _ _ _ _ _ _ _ _ _ c.get_turn.ensures) c.in-Some-left_at.left _
     (none_is _ _ c.in_ok-report.ensures.more c.in_default.is)
-    (left_by options again heard.since.0 c.args.id.0 heard.values heard.last.0 c.in_ok-now.now.0 _ _ _ c.in-Some-left_at.left c.left_at.ensures c.in-Some-left_at.is)
+    (left_by options again heard.since.0 c.args.id.0 heard.values heard.last.0 c.in_ok-now.now.0 _ _ _
+    c.in-Some-left_at.left c.left_at.ensures c.in-Some-left_at.is)
