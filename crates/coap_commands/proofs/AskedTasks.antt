@@ -53,9 +53,18 @@ does_of P Q more options word (Observation of) s h = (h.0, more h.0 h.1, h.2)
 does_of P Q more options word (Watch of again) s h =
     let ends = h.1 in (
       h.0,
-      (ends.0, ends.1, ends.2, again_of P Q more word of.now options again h.0 ends.3, ends.4, ends.5,
-          next_of P Q more word of.now options again h.0 ends.0 ends.2 ends.1 ends.4 ends.5 ends.6,
-          ends.7, ends.8, ends.9),
+      (
+        ends.0,
+        ends.1,
+        ends.2,
+        again_of P Q more word of.now options again h.0 ends.3,
+        ends.4,
+        ends.5,
+        next_of P Q more word of.now options again h.0 ends.0 ends.2 ends.1 ends.4 ends.5 ends.6,
+        ends.7,
+        ends.8,
+        ends.9,
+      ),
     )
 does_of P Q more options word (Polling of every) s h = (h.0, more h.0 h.1, h.2)
 does_of P Q more options word (Discovery made) s h = (h.0, more h.0 h.1, h.2)

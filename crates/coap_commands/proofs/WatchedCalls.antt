@@ -37,48 +37,48 @@ module _ (options : AskOptions) (again number : ℕ) (first : Heard) (s : State)
       × (heard.since ≡ first.since)
 
   module _ (heard after : Heard) (now : ℕ) (m t n : State) (going : Going heard m) (turned : Turned (TurnsAt now) m t)
-      where
-    -- a turn more
-    pub turn_on : (o : State) → More number now heard after t n
-        → MayCancel options after.since.0 number now after.values n o → Going after o
-    turn_on o more may = (
-      further heard.values heard.last.0 m now more.0 n after.values after.last.0 o going.0 (t, turned, more.1) more.2
-          more.3 more.4
-          (subst (λ (since : ℕ). MayCancel options since number now after.values n o)
-          (ap (λ i. i.0) (more.5 ∙ going.1)) may),
-      more.5 ∙ going.1,
-    )
+    where
+      -- a turn more
+      pub turn_on : (o : State) → More number now heard after t n
+          → MayCancel options after.since.0 number now after.values n o → Going after o
+      turn_on o more may = (
+        further heard.values heard.last.0 m now more.0 n after.values after.last.0 o going.0 (t, turned, more.1) more.2
+            more.3 more.4
+            (subst (λ (since : ℕ). MayCancel options since number now after.values n o)
+            (ap (λ i. i.0) (more.5 ∙ going.1)) may),
+        more.5 ∙ going.1,
+      )
 
-    -- .. which is the last one
-    last_turn : More number now heard after t n
-        → LastTurn options first.since.0 number first.last.0 first.values s after.values after.last.0 now n
-    last_turn more =
-        (heard.values, heard.last.0, m, going.0, more.0, (t, turned, more.1), more.2, more.3, more.4)
+      -- .. which is the last one
+      last_turn : More number now heard after t n
+          → LastTurn options first.since.0 number first.last.0 first.values s after.values after.last.0 now n
+      last_turn more =
+          (heard.values, heard.last.0, m, going.0, more.0, (t, turned, more.1), more.2, more.3, more.4)
 
-    left_so : (ended : Left) (o : State) → More number now heard after t n
-        → LeavesAt options again first.since.0 number after.values after.last.0 now n (Some ended) o
-        → IsLeft options again first.since.0 number first.last.0 first.values s ended after.values
-    left_so Silent o more leaves = (after.last.0, now, n, last_turn more, o, leaves)
-    left_so (Ended (Refused why)) o more leaves = absurd leaves
-    left_so (Ended (Reported r)) o more leaves = absurd leaves
-    left_so (Ended (GaveUp seconds)) o more leaves = (after.last.0, now, n, last_turn more, o, leaves)
+      left_so : (ended : Left) (o : State) → More number now heard after t n
+          → LeavesAt options again first.since.0 number after.values after.last.0 now n (Some ended) o
+          → IsLeft options again first.since.0 number first.last.0 first.values s ended after.values
+      left_so Silent o more leaves = (after.last.0, now, n, last_turn more, o, leaves)
+      left_so (Ended (Refused why)) o more leaves = absurd leaves
+      left_so (Ended (Reported r)) o more leaves = absurd leaves
+      left_so (Ended (GaveUp seconds)) o more leaves = (after.last.0, now, n, last_turn more, o, leaves)
 
-    pub left_in_turn : (ended : Left) (o : State) → More number now heard after t n
-        → LeavesAt options again after.since.0 number after.values after.last.0 now n (Some ended) o
-        → IsLeft options again first.since.0 number first.last.0 first.values s ended after.values
-    left_in_turn ended o more leaves =
-        left_so ended o more
-        (subst (λ (since : ℕ). LeavesAt options again since number after.values after.last.0 now n (Some ended) o)
-        (ap (λ i. i.0) (more.5 ∙ going.1)) leaves)
+      pub left_in_turn : (ended : Left) (o : State) → More number now heard after t n
+          → LeavesAt options again after.since.0 number after.values after.last.0 now n (Some ended) o
+          → IsLeft options again first.since.0 number first.last.0 first.values s ended after.values
+      left_in_turn ended o more leaves =
+          left_so ended o more
+          (subst (λ (since : ℕ). LeavesAt options again since number after.values after.last.0 now n (Some ended) o)
+          (ap (λ i. i.0) (more.5 ∙ going.1)) leaves)
 
-    -- .. with the last report
-    pub left_reported : (report : R.Report Global) → Step t (takes_report number (shown_report report)) n
-        → is_value (shown_report report) ≡ false → after ≡ heard
-        → IsLeft options again first.since.0 number first.last.0 first.values s (Ended (Reported report)) after.values
-    left_reported report step is same =
-        subst (λ (h : Heard). IsLeft options again first.since.0 number first.last.0 first.values s
-        (Ended (Reported report)) h.values) (sym same)
-        (heard.last.0, m, going.0, now, n, (t, turned, step), is)
+      -- .. with the last report
+      pub left_reported : (report : R.Report Global) → Step t (takes_report number (shown_report report)) n
+          → is_value (shown_report report) ≡ false → after ≡ heard
+          → IsLeft options again first.since.0 number first.last.0 first.values s (Ended (Reported report)) after.values
+      left_reported report step is same =
+          subst (λ (h : Heard). IsLeft options again first.since.0 number first.last.0 first.values s
+          (Ended (Reported report)) h.values) (sym same)
+          (heard.last.0, m, going.0, now, n, (t, turned, step), is)
 
 -- ---- in one turn
 
@@ -179,7 +179,7 @@ module _ (IsServer : Endpoint → Type 0) (word : ℕ) (path : List (List ℕ)) 
       → NextOf heard.since n heard v after → v ≡ Some s → Watches IsServer word path options again s
   ends since n heard after v s before h is =
       let k : NextOf since n heard (Some s) after =
-          next_as since heard.since n heard after v (Some s) before.1 is h in (
+      next_as since heard.since n heard after v (Some s) before.1 is h in (
         since.0,
         (n, heard.values, heard.last.0, before.0, k.0, k.1, k.2, after.values, after.last.0, k.3),
       )

@@ -64,7 +64,8 @@ impl<'a> Task<'a> {
     fn body_len(&self) -> usize {
         match self {
             Task::Request(request) => request.body.len(),
-            Task::Observation(_) | Task::Watch(_, _) | Task::Polling(_, _) | Task::Discovery(_) => 0,
+            Task::Observation(_) | Task::Watch(_, _) | Task::Polling(_, _) | Task::Discovery(_) =>
+                0,
         }
     }
 }
@@ -173,13 +174,7 @@ fn do_once<L: Link, T: Timekeeper, H: BuildHasher + Drop, O: Write, E: Write>(
 // The same, beside a screen, over a link of its own: how far a body is, a long wait, and that nothing is heard, are
 // told
 // of.
-fn ask_on<
-    L: Link + Drop,
-    R: Clock,
-    H: BuildHasher + Drop,
-    O: Write,
-    W: Write,
->(
+fn ask_on<L: Link + Drop, R: Clock, H: BuildHasher + Drop, O: Write, W: Write>(
     alloc: Global,
     link: L,
     server: Endpoint,
@@ -220,13 +215,7 @@ fn silence_of<T: Timekeeper + Drop, W: Write + Drop>(
 }
 
 // Has clients of the server to which these links go do a task, beside a screen.
-fn ask_from<
-    S: LinkSource,
-    R: Clock,
-    H: BuildHasher + Copy + Drop,
-    O: Write,
-    W: Write,
->(
+fn ask_from<S: LinkSource, R: Clock, H: BuildHasher + Copy + Drop, O: Write, W: Write>(
     alloc: Global,
     source: &S,
     time: &mut ProgramTime<'_, R>,
@@ -275,12 +264,7 @@ pub(crate) struct Showing<'p> {
 }
 
 // The same, over links of which it is told what passes.
-fn ask_told<
-    R: AllocGlobal + Files + Clock + RandomSource,
-    S: Ends + Drop,
-    O: Write,
-    E: Write,
->(
+fn ask_told<R: AllocGlobal + Files + Clock + RandomSource, S: Ends + Drop, O: Write, E: Write>(
     rt: &R,
     source: S,
     asked: Asked<'_, '_>,

@@ -92,11 +92,7 @@ fn fitting(alloc: Global, words: String, room: usize) -> Result<String, AllocErr
 }
 
 // What stands between the lines in the row of a datagram.
-fn text_of(
-    alloc: Global,
-    course: Course,
-    datagram: &Datagram<'_>,
-) -> Result<String, AllocError> {
+fn text_of(alloc: Global, course: Course, datagram: &Datagram<'_>) -> Result<String, AllocError> {
     let words = DatagramWords(datagram.payload);
     match course {
         Course::Right | Course::Left => {
@@ -123,9 +119,7 @@ fn row_of(
     let (moment, inner) = (MOMENT_WIDTH, INNER_WIDTH);
     let room = INNER_WIDTH - ARROW_WIDTH;
     match course {
-        Course::Right => {
-            format!(in alloc; "{ms:>moment$} |--- {text:<room$} --->|\n")
-        }
+        Course::Right => { format!(in alloc; "{ms:>moment$} |--- {text:<room$} --->|\n") }
         Course::Left => format!(in alloc; "{ms:>moment$} |<--- {text:>room$} ---|\n"),
         Course::Elsewhere => format!(in alloc; "{ms:>moment$} |{text:<inner$}|\n"),
     }

@@ -13,11 +13,10 @@ use coap_pcap::{Addresses, SixEndpoint, WriteError, head_bytes, record_bytes};
 use coap_scripts::Stop;
 use coap_types::{Endpoint, Moment};
 use std::alloc::Allocator;
-use std::fs;
 use std::hash::BuildHasher;
-use std::io;
 use std::io::{ErrorKind, Write};
 use std::rt::{Clock, Files};
+use std::{fs, io};
 
 /// Who sends the datagrams of a capture, and receives them.
 pub trait Standing {
@@ -209,7 +208,12 @@ pub(crate) fn begin_of<R: Clock>(rt: &R, now: Moment) -> io::Result<Moment> {
 }
 
 /// A teller that captures in a file, where there is one.
-pub(crate) fn capture_on<P: Standing + Drop, A: Allocator + Copy, T: Timekeeper + Drop, W: Write + Drop>(
+pub(crate) fn capture_on<
+    P: Standing + Drop,
+    A: Allocator + Copy,
+    T: Timekeeper + Drop,
+    W: Write + Drop,
+>(
     standing: P,
     alloc: A,
     time: T,

@@ -83,7 +83,16 @@ fn perform<R: AllocGlobal + Files + Net + Clock + RandomSource, O: Write, E: Wri
             options,
             script,
             pcap,
-        } => serve(rt, *port, *count, options, *script, terminal.showing(*pcap), out, err),
+        } => serve(
+            rt,
+            *port,
+            *count,
+            options,
+            *script,
+            terminal.showing(*pcap),
+            out,
+            err,
+        ),
         Order::Ask {
             server,
             path,

@@ -51,12 +51,7 @@ fn ping_from<R: AllocGlobal + Clock + RandomSource, S: LinkSource, O: Write>(
 }
 
 // The same, over links of which it is told what passes.
-fn ping_told<
-    R: AllocGlobal + Files + Clock + RandomSource,
-    S: Ends + Drop,
-    O: Write,
-    E: Write,
->(
+fn ping_told<R: AllocGlobal + Files + Clock + RandomSource, S: Ends + Drop, O: Write, E: Write>(
     rt: &R,
     source: S,
     options: &PingOptions,

@@ -108,11 +108,7 @@ fn ping_at<L: Link, T: Timekeeper>(
 }
 
 // Waits until a second has passed since this moment, and drops what comes: the moment at which it has.
-fn pause<L: Link, T: Timekeeper>(
-    link: &mut L,
-    time: &mut T,
-    begin: Moment,
-) -> Result<Moment, Stop>
+fn pause<L: Link, T: Timekeeper>(link: &mut L, time: &mut T, begin: Moment) -> Result<Moment, Stop>
     ensures { IfOk result (λ now. (begin.0 + PING_PERIOD_MS ≤ now.0) × Drops L.sends L.receives link.old link.new) }
 {
     let mut buf = [0; MAX_DATAGRAM_LEN];

@@ -7,8 +7,8 @@ ghost use Rattle.coap_layer.specs.declared.setup.Setup.{Setup as SetupSpec};
 ghost use Rattle.coap_server.specs.Object.Shown.{state_of};
 ghost use Rattle.coap_server.specs.Trace.{Call, Delays, Plains};
 ghost use Rattle.coap_types.specs.declared.szx.TheConstants.{MAX_SZX as max_szx};
-ghost use Rattle.coap_scripts.specs.Script.{EachOf, lines_of};
-ghost use Rattle.coap_scripts.specs.Settings.{IsFirstBad, SaysSetting, setting_of};
+ghost use Rattle.coap_scripts.specs.Script.{EachOf, IsFirstBad, lines_of};
+ghost use Rattle.coap_scripts.specs.Settings.{SaysSetting, setting_of};
 ghost use Rattle.coap_commands.specs.ScriptSettings.{AreMade, AreOfScript, HoldsBody, IsMade, limit_by, limit_with};
 ghost use Rattle.coap_scripts.specs.declared.status.Status.TheVariants.{Words};
 
@@ -152,7 +152,7 @@ pub fn script_in(alloc: Global, text: &[u8]) -> Result<Result<Vec<Setting>, BadL
     ensures said { IfOk result (λ read. IfOk read (λ settings. EachOf SaysSetting (lines_of text.now)
         (map setting_of settings.items))) }
     // The line of a server's script that is named is the first that says no setting.
-    ensures bad { IfOk result (λ read. IfErr read (λ bad. IsFirstBad (lines_of text.now) bad.0)) }
+    ensures bad { IfOk result (λ read. IfErr read (λ bad. IsFirstBad SaysSetting (lines_of text.now) bad.0)) }
 {
     match settings_of(alloc, text) {
         Ok(settings) => Ok(Ok(settings)),

@@ -73,13 +73,7 @@ impl<'r, R: Net> Ends for FourSource<'r, R> {
 
 /// Links over IPv6.
 #[derive(Drop)]
-pub(crate) struct SixSource<
-    'r,
-    'n,
-    R: Clock,
-    S: BuildHasher + Copy + Drop,
-    A: Allocator + Copy,
-> {
+pub(crate) struct SixSource<'r, 'n, R: Clock, S: BuildHasher + Copy + Drop, A: Allocator + Copy> {
     /// The sockets of the system.
     pub net: &'r R,
     /// The server.

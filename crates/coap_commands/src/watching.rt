@@ -19,8 +19,8 @@ use crate::bearing::{bear_in_a_row, bear_in_all};
 use crate::calling::{Outcome, outcome_text};
 use crate::connection::{Connection, Terms};
 use crate::ends::fresh_client;
-use crate::link_source::LinkSource;
 use crate::json_lines::write_outcome;
+use crate::link_source::LinkSource;
 use crate::observe::{Form, is_over, print_value, register};
 use crate::put_away::put_away;
 use crate::timekeeper::Timekeeper;
@@ -198,9 +198,7 @@ fn awaited<H: BuildHasher, L: Link, T: Timekeeper, E: Write, W: Write>(
     for _turn in 0..u64::MAX {
         let now = connection.time.now()?;
         get_turn(client, connection.link, now, &mut tally);
-        if let Some(report) =
-            last_report(alloc, client, id, watching.options, heard, now, out)?
-        {
+        if let Some(report) = last_report(alloc, client, id, watching.options, heard, now, out)? {
             send_all(client, connection.link);
             return Ok(Left::Ended(Outcome::Reported(report)));
         }
@@ -267,15 +265,7 @@ fn observed_once<H: BuildHasher + Drop, L: Link, T: Timekeeper, E: Write, W: Wri
         terms.limit,
         hasher,
     );
-    let left = registered(
-        alloc,
-        &mut client,
-        connection,
-        watching,
-        word,
-        heard,
-        out,
-    );
+    let left = registered(alloc, &mut client, connection, watching, word, heard, out);
     put_away(client);
     left
 }
@@ -305,12 +295,7 @@ fn verdict_of(outcome: &Outcome, is_over: bool) -> Option<Status>
 }
 
 // Says how a registration was left, and that the path is observed anew.
-fn say_anew<E: Write>(
-    alloc: Global,
-    left: &Left,
-    again: u64,
-    err: &mut E,
-) -> Result<(), Stop> {
+fn say_anew<E: Write>(alloc: Global, left: &Left, again: u64, err: &mut E) -> Result<(), Stop> {
     let text = match left {
         Left::Silent => format!(in alloc; "no value in {again} s")?,
         Left::Ended(outcome) => outcome_text(alloc, outcome)?,

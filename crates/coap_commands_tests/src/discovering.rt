@@ -1,11 +1,11 @@
 //! Tests of `discover`, over a link in memory.
 use crate::clock::Clock;
 use crate::rows::words_of;
+use bytes::Bytes;
 use coap_arguments::{Order, What, order, path_of_text};
 use coap_commands::{Connection, Terms, close, discover_over, request_of};
 use coap_links::MemoryLink;
 use coap_types::Endpoint;
-use bytes::Bytes;
 use std::alloc::{AllocError, Global};
 use std::hash::{BuildHasherDefault, FoldHasher};
 use std::test::Fail;
@@ -23,11 +23,7 @@ const FAR: Endpoint = Endpoint {
 // What came of a request: the exit status, and what was printed.
 type Seen = (u8, Vec<u8>);
 
-fn discover_in_memory(
-    alloc: Global,
-    words: &[&str],
-    answer: &[u8],
-) -> Result<Seen, AllocError> {
+fn discover_in_memory(alloc: Global, words: &[&str], answer: &[u8]) -> Result<Seen, AllocError> {
     let list = words_of(alloc, words)?;
     let Ok(Order::Discover { options, .. }) = order(alloc, list.as_slice()) else {
         return Err(AllocError);

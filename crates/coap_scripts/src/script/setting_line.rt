@@ -54,10 +54,7 @@ pub(super) fn setting_of_line<A: Allocator + Copy>(
 }
 
 // A path, and what it holds.
-fn hold<A: Allocator + Copy>(
-    alloc: A,
-    line: &[u8],
-) -> Result<(Path<A>, u16, Bytes<A>), LineRefusal>
+fn hold<A: Allocator + Copy>(alloc: A, line: &[u8]) -> Result<(Path<A>, u16, Bytes<A>), LineRefusal>
     ensures said { IfOk result (λ it. SaysHold it.0 it.1 it.2 line.now) }
     ensures refused { IfErr result (λ e. (e ≡ LineRefusal.Memory) ⊎ ((e ≡ LineRefusal.Unreadable)
         × ((path : List (List ℕ)) (format : ℕ) (body : List ℕ) → SaysHold path format body line.now → ⊥))) }

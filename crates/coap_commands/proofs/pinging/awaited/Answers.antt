@@ -17,9 +17,12 @@ returns-then-is_answered g c = (
   _,
   _,
   c.loop-turn.invariant,
-  (_, subst (λ (b : Bool). Hears g.L.Link.sends g.L.Link.receives c.loop-turn.ping c.loop-turn.link b
-      c.is_answered-is_answered.new.link) c.if-is_answered.true c.is_answered-is_answered.ensures,
-      c.elapsed.ensures),
+  (
+    _,
+    subst (λ (b : Bool). Hears g.L.Link.sends g.L.Link.receives c.loop-turn.ping c.loop-turn.link b
+        c.is_answered-is_answered.new.link) c.if-is_answered.true c.is_answered-is_answered.ensures,
+    c.elapsed.ensures,
+  ),
 )
 
 pub returns-then-is_given_up : goal.returns-then-is_given_up
@@ -27,7 +30,10 @@ returns-then-is_given_up g c = (
   _,
   _,
   c.loop-turn.invariant,
-  (_, subst (λ (b : Bool). Hears g.L.Link.sends g.L.Link.receives c.loop-turn.ping c.loop-turn.link b
-      c.is_answered-is_answered.new.link) c.if-is_answered.false c.is_answered-is_answered.ensures,
-      c.is_given_up.ensures c.if-is_given_up.true),
+  (
+    _,
+    subst (λ (b : Bool). Hears g.L.Link.sends g.L.Link.receives c.loop-turn.ping c.loop-turn.link b
+        c.is_answered-is_answered.new.link) c.if-is_answered.false c.is_answered-is_answered.ensures,
+    c.is_given_up.ensures c.if-is_given_up.true,
+  ),
 )

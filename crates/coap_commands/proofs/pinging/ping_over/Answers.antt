@@ -19,12 +19,16 @@ returns-then-not-branch g c =
       refl,
       c.loop-number.number,
       c.loop-number-test.true,
-      (_, _, c.loop-number.invariant,
-          subst (λ (b : Bool). IsNext g.L.Link.sends g.L.Link.receives c.args.pinging.now.give_up
-          c.args.pinging.now.server
-          c.args.pinging.now.word c.loop-number.number c.loop-number.begin.0 c.loop-number.link b
-          c.ping_and_tell.new.link)
-          c.if-not-branch.true c.in_ok-ping_and_tell.ensures),
+      (
+        _,
+        _,
+        c.loop-number.invariant,
+        subst (λ (b : Bool). IsNext g.L.Link.sends g.L.Link.receives c.args.pinging.now.give_up
+            c.args.pinging.now.server
+            c.args.pinging.now.word c.loop-number.number c.loop-number.begin.0 c.loop-number.link b
+            c.ping_and_tell.new.link)
+            c.if-not-branch.true c.in_ok-ping_and_tell.ensures,
+      ),
     ))
 
 pub returns-then-number-pinging : goal.returns-then-number-pinging
@@ -33,10 +37,14 @@ returns-then-number-pinging g c =
       refl,
       c.loop-number.number,
       omega (arith, c.if-number-pinging.true),
-      (_, _, c.loop-number.invariant,
-          subst (λ (b : Bool). IsNext g.L.Link.sends g.L.Link.receives c.args.pinging.now.give_up
-          c.args.pinging.now.server
-          c.args.pinging.now.word c.loop-number.number c.loop-number.begin.0 c.loop-number.link b
-          c.ping_and_tell.new.link)
-          c.if-not-branch.false c.in_ok-ping_and_tell.ensures),
+      (
+        _,
+        _,
+        c.loop-number.invariant,
+        subst (λ (b : Bool). IsNext g.L.Link.sends g.L.Link.receives c.args.pinging.now.give_up
+            c.args.pinging.now.server
+            c.args.pinging.now.word c.loop-number.number c.loop-number.begin.0 c.loop-number.link b
+            c.ping_and_tell.new.link)
+            c.if-not-branch.false c.in_ok-ping_and_tell.ensures,
+      ),
     ))

@@ -7,7 +7,7 @@ use Rattle.coap_commands.proofs.ScriptCalls.{one_made}
 use Rattle.coap_commands.proofs.serve_script.make_all.Goals as goal
 
 pub loop-setting-init : goal.loop-setting-init
-loop-setting-init g c = record { counted = refl; led = λ limits setup t led. (t, refl, led); }
+loop-setting-init g c = record { counted = refl; led = λ limits setup t led. (t, refl, led) }
 
 pub loop-setting-preserved : goal.loop-setting-preserved
 loop-setting-preserved g c = record {
