@@ -1,0 +1,9 @@
+use Rattle.std.proofs.Common.{map}
+use Rattle.coap_scripts.specs.Settings.{setting_of}
+use Rattle.coap_commands.proofs.ServedCalls.{worded}
+use Rattle.coap_commands.proofs.serve.serve_four.Goals as goal
+
+pub returns : goal.returns
+returns g c =
+    worded c.args.count c.args.options.now (map setting_of c.args.settings.now) c.in_ok-word.word c.serve_on.result
+    c.in_ok-word.ensures c.serve_on.ensures
