@@ -311,7 +311,7 @@ served_settings s count options settings (inr (inr done)) h =
 scripted : (script : Option (Bor (List ℕ))) (settings : List SettingSpec) → AreOfScript script settings → settings ≢ []
     → IsSome script
 scripted None settings none some = absurd (some none)
-scripted (Some name) settings of some = tt
+scripted (Some name) settings of some = refl
 
 served_ends : (s : Status) (count : ℕ) (options : ServeOptions) (script : Option (Bor (List ℕ)))
     → IsServed count options script s → status_number s ≡ 2 → IsSome script

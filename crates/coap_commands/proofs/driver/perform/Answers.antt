@@ -9,3 +9,6 @@ returns-in-Ask g c = subst (λ (o : Order). IfOk c.ask.result (CarriesOut o)) (s
 pub returns-in-Discover : goal.returns-in-Discover
 returns-in-Discover g c =
     subst (λ (o : Order). IfOk c.discover.result (CarriesOut o)) (sym c.in-Discover.is) c.discover.ensures
+
+pub returns-in-Serve : goal.returns-in-Serve
+returns-in-Serve g c = subst (λ (o : Order). IfOk c.serve.result (CarriesOut o)) (sym c.in-Serve.is) c.serve.ensures
