@@ -19,11 +19,11 @@ use Rattle.coap_server.specs.Led.{State, Step}
 use Rattle.coap_server.specs.Trace.{Call, Handling, NextOut, Ticks}
 use Rattle.coap_server.specs.Trace.{Feeds as FedIn}
 use Rattle.coap_arguments.specs.declared.orders.ServeOptions.{ServeOptions}
-use Rattle.coap_commands.specs.Asked.{IsWord}
+use Rattle.coap_commands.specs.Asked.{IsBaseOf, IsWord}
 use Rattle.coap_commands.specs.Served.{AllTurning, FedFrom, IsServed, IsTurning, Leads, fed_by, fed_in}
 use Rattle.coap_commands.specs.Serves.{Serves, Turning, nothing_fed}
 use Rattle.coap_commands.specs.Serves.{further as more, none as no_turn}
-use Rattle.coap_commands.specs.SettingUp.{IsServer}
+use Rattle.coap_commands.specs.SettingUp.{IsServerAfter}
 use Rattle.coap_scripts.specs.declared.status.Status.{Status}
 use Rattle.coap_scripts.specs.declared.status.Status.TheVariants as status
 use Rattle.coap_scripts.specs.declared.status.Stop.{Stop}
@@ -210,12 +210,13 @@ module _ {L : Type 0} (waiting : State → List layer.Packet) (sends : L → End
     served_from count word own first last l m (Err stop) is h = tt
 
 -- it serves as its words say
-pub served_by : (count : ℕ) (options : ServeOptions) (word : ℕ) (first : State) (ended : Result Status Stop)
-    → IsWord options.word word → IsServer word options first
+pub served_by : (count : ℕ) (options : ServeOptions) (word base : ℕ) (first : State) (ended : Result Status Stop)
+    → IsWord options.word word → IsBaseOf options.word base → IsServerAfter base word options first
     → IfOk ended (λ s. (s ≡ status.Done) × (end : State) × FedFrom count first end)
     → IfOk ended (IsServed count options)
-served_by count options word first (Ok s) is_word set_up h = inr (h.0, word, is_word, first, set_up, h.1, h.2)
-served_by count options word first (Err stop) is_word set_up h = tt
+served_by count options word base first (Ok s) is_word is_base set_up h =
+    inr (h.0, word, is_word, base, is_base, first, set_up, h.1, h.2)
+served_by count options word base first (Err stop) is_word is_base set_up h = tt
 
 -- what was made is as each that is made
 pub made_is : {X E : Type 0} (Is : X → Type 0) (made : Result X E) (x : X) → made ≡ Ok x → IfOk made Is → Is x

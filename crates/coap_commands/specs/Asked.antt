@@ -5,6 +5,7 @@ use Rattle.coap_types.specs.declared.endpoint.Endpoint.{Endpoint}
 use Rattle.coap_types.specs.declared.request.Method.{Method}
 use Rattle.coap_types.specs.declared.request.Method.TheVariants as method
 use Rattle.coap_layer.specs.declared.setup.Setup.{Setup}
+use Rattle.coap_resource.specs.Base.{IsBase}
 use Rattle.coap_client.specs.Trace.{Request}
 use Rattle.coap_arguments.specs.declared.orders.AskOptions.{AskOptions}
 use Rattle.coap_arguments.specs.declared.orders.Content.{Content}
@@ -23,6 +24,11 @@ use Rattle.coap_scripts.specs.declared.status.Status.{Status}
 abbrev pub IsWord : WordChoice → ℕ → Type 0
 IsWord (Given n) word = word ≡ n
 IsWord Random word = ⊤
+
+-- the version after which a server's versions begin: with a word that is given 0, as each time; else one that is drawn
+abbrev pub IsBaseOf : WordChoice → ℕ → Type 0
+IsBaseOf (Given n) base = base ≡ 0
+IsBaseOf Random base = IsBase base
 
 -- the bytes of a text; those of a file may be any
 abbrev pub IsContent : Content → List ℕ → Type 0

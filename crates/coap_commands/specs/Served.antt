@@ -3,8 +3,8 @@ use Rattle.std.specs.Prelude.{◌≡◌, ◌⊎◌, ◌≤◌, ◌+◌, ⊤, ℕ
 use Rattle.coap_server.specs.Led.{State, Step}
 use Rattle.coap_server.specs.Trace.{Call, Feeds, NextOut, Ticks}
 use Rattle.coap_arguments.specs.declared.orders.ServeOptions.{ServeOptions}
-use Rattle.coap_commands.specs.Asked.{IsWord}
-use Rattle.coap_commands.specs.SettingUp.{IsServer}
+use Rattle.coap_commands.specs.Asked.{IsBaseOf, IsWord}
+use Rattle.coap_commands.specs.SettingUp.{IsServerAfter}
 use Rattle.coap_scripts.specs.declared.status.Status.{Status}
 use Rattle.coap_scripts.specs.declared.status.Status.TheVariants as status
 
@@ -40,5 +40,5 @@ FedFrom count old new = (calls : List Call) × AllTurning calls × (count ≤ fe
 -- a server that was set up as the words say is turned so, and that is done; or it doesn't hold what they name
 abbrev pub IsServed : ℕ → ServeOptions → Status → Type 0
 IsServed count options s = (s ≡ status.Refused)
-    ⊎ ((s ≡ status.Done) × (word : ℕ) × IsWord options.word word × (first : State) × IsServer word options first
-    × (last : State) × FedFrom count first last)
+    ⊎ ((s ≡ status.Done) × (word : ℕ) × IsWord options.word word × (base : ℕ) × IsBaseOf options.word base
+    × (first : State) × IsServerAfter base word options first × (last : State) × FedFrom count first last)

@@ -9,7 +9,7 @@ use Rattle.coap_arguments.specs.PathText.{IsPathText}
 use Rattle.coap_arguments.specs.declared.orders.Delay.{Delay}
 use Rattle.coap_arguments.specs.declared.orders.Hold.{Hold}
 use Rattle.coap_arguments.specs.declared.orders.ServeOptions.{ServeOptions}
-use Rattle.coap_commands.specs.Ends.{server_limits}
+use Rattle.coap_commands.specs.Ends.{server_limits_after}
 use Rattle.coap_scripts.specs.declared.usual.TheConstants.{TEXT_PLAIN as text_plain}
 
 -- at the moment 0 this text is set at this path
@@ -46,7 +46,12 @@ SetsUp options before after =
 abbrev pub served_setup : ℕ → ServeOptions → Setup
 served_setup word options = record { word = word; remembered = options.remembered }
 
--- a server that began so, takes bodies up to the limit that the words say, and was set up as they say
+-- a server that began so, whose versions begin after this one, takes bodies up to the limit that the words say, and was
+-- set up as they say
+abbrev pub IsServerAfter : (base word : ℕ) → ServeOptions → State → Type 0
+IsServerAfter base word options s = (after : List Call) × SetsUp options [] after
+    × Led (server_limits_after options.limit base) max_szx (served_setup word options) after s
+
+-- .. where the first version is 1
 abbrev pub IsServer : ℕ → ServeOptions → State → Type 0
-IsServer word options s = (after : List Call) × SetsUp options [] after
-    × Led (server_limits options.limit) max_szx (served_setup word options) after s
+IsServer word options s = IsServerAfter 0 word options s

@@ -47,7 +47,7 @@ pub use coap_scripts::{
 pub use connection::{Connection, Terms};
 pub use driver::{close, command, command_on, refuse, without_words};
 pub use dump::{dump_line, dump_to};
-pub use ends::{fresh_client, fresh_server, hold};
+pub use ends::{fresh_client, fresh_server, fresh_server_after, hold};
 pub use observe::observe_over;
 pub use pair::pair_over;
 pub use patience::{
@@ -58,6 +58,6 @@ pub use progress::{Progress, ProgressTeller, SHOWN_MS, progress_of, progress_on}
 pub use request::{body_of, request_of};
 pub use screen::{BesideScreen, Screen, erase};
 pub use serve::serve_over;
-pub use setting_up::{hold_resource, server_by, set_up};
+pub use setting_up::{hold_resource, server_after, server_by, set_up};
 pub use timekeeper::{ProgramTime, Timekeeper};
 pub use tracing::{LineTeller, SharedWriter, teller_on};

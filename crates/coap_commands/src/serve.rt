@@ -13,10 +13,10 @@ use crate::bearing::bear_serving;
 use crate::changes::{ChangeTeller, TellingEnd, changes_on};
 use crate::ends::tell_refusal;
 use crate::put_away::put_away;
-use crate::setting_up::server_by;
+use crate::setting_up::server_after;
 use crate::timekeeper::{ProgramTime, Timekeeper};
 use crate::tracing::teller_on;
-use crate::word::word_of;
+use crate::word::{base_of, word_of};
 use coap_arguments::ServeOptions;
 use coap_ends::{End, Server};
 use coap_links::{Link, Trace, UdpLink, fresh_tally, send_all, serve_turn};
@@ -124,6 +124,7 @@ pub fn serve<R: AllocGlobal + Net + Clock + RandomSource, O: Write, E: Write>(
     ensures { IfOk result (IsServed count options.now) }
 {
     let word = word_of(rt, options.word)?;
+    let base = base_of(rt, options.word)?;
     let mut time = ProgramTime::begin(rt)?;
     let address = Endpoint {
         ip: options.address.octets(),
@@ -135,7 +136,7 @@ pub fn serve<R: AllocGlobal + Net + Clock + RandomSource, O: Write, E: Write>(
     let teller = teller_on(rt.alloc(), time.again(), &err, options.trace);
     let mut link = Trace::new(link, teller);
     let changes = changes_on(rt.alloc(), &err, options.changes);
-    let made = server_by(rt.alloc(), word, options, RandomState::new(rt)?)?;
+    let made = server_after(rt.alloc(), word, base, options, RandomState::new(rt)?)?;
     match made {
         Ok(server) => serve_with(server, changes, &mut link, &mut time, count, word, out),
         Err(refusal) => tell_refusal(refusal, out),

@@ -8,14 +8,15 @@ ghost use Rattle.coap_layer.specs.declared.setup.Setup.{Setup as SetupSpec};
 ghost use Rattle.coap_server.specs.Object.Shown.{state_of};
 ghost use Rattle.coap_server.specs.Trace.{Call};
 ghost use Rattle.coap_types.specs.declared.szx.TheConstants.{MAX_SZX as max_szx};
-ghost use Rattle.coap_commands.specs.SettingUp.{Holds, HoldsResource, IsServer, SetsUp, with_delay, with_plain};
+ghost use Rattle.coap_commands.specs.SettingUp.{Holds, HoldsResource, IsServer, IsServerAfter, SetsUp};
+ghost use Rattle.coap_commands.specs.SettingUp.{with_delay, with_plain};
 
-use crate::ends::{fresh_server, hold};
+use crate::ends::{fresh_server_after, hold};
 use crate::put_away::put_away;
 use coap_arguments::{Delay, Hold, ServeOptions, path_of_text};
 use coap_ends::{DelayRefusal, PlainRefusal, Server};
 use coap_layer::Setup;
-use coap_resource::{MapStore, StoreRefusal};
+use coap_resource::{MapStore, StoreRefusal, VersionBase};
 use coap_scripts::Stop;
 use coap_types::Path;
 use std::alloc::Global;
@@ -136,15 +137,32 @@ pub fn server_by<H: BuildHasher + Drop>(
     options: &ServeOptions,
     hasher: H,
 ) -> Result<Result<Server<MapStore, Global, H>, StoreRefusal>, Stop>
-    // The server of `serve` remembers as many messages, and takes bodies up to the limit, as its words say; the calls
-    // that set it up have led to it, and no other.
+    // The server that the words set up has versions from 1 on; it remembers as many messages, and takes bodies up to
+    // the limit, as they say; the calls that set it up have led to it, and no other.
     ensures { IfOk result (λ made. IfOk made (λ server. IsServer word options.now (state_of content_of server))) }
+{
+    server_after(alloc, word, VersionBase::default(), options, hasher)
+}
+
+/// A server that is set up as the words say, begins with this word, and has versions after this base; the
+/// refusal of its store where it doesn't hold what it was to hold.
+pub fn server_after<H: BuildHasher + Drop>(
+    alloc: Global,
+    word: u64,
+    base: VersionBase,
+    options: &ServeOptions,
+    hasher: H,
+) -> Result<Result<Server<MapStore, Global, H>, StoreRefusal>, Stop>
+    // The server of `serve` has versions after its base; it remembers as many messages, and takes bodies up to the
+    // limit, as its words say; the calls that set it up have led to it, and no other.
+    ensures { IfOk result (λ made. IfOk made (λ server.
+        IsServerAfter base word options.now (state_of content_of server))) }
 {
     let setup = Setup {
         word,
         remembered: options.remembered,
     };
-    let mut server = fresh_server(alloc, setup, options.limit, hasher);
+    let mut server = fresh_server_after(alloc, setup, options.limit, base, hasher);
     match set_up(alloc, &mut server, options) {
         Ok(None) => Ok(Ok(server)),
         Ok(Some(refusal)) => {

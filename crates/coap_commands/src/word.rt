@@ -1,8 +1,9 @@
-//! The word that an end begins with.
+//! The word that an end begins with, and the version after which a server's versions begin.
 ghost use Rattle.std.specs.Prelude.{IfOk};
-ghost use Rattle.coap_commands.specs.Asked.{IsWord};
+ghost use Rattle.coap_commands.specs.Asked.{IsBaseOf, IsWord};
 
 use coap_arguments::WordChoice;
+use coap_resource::VersionBase;
 use coap_scripts::Stop;
 use std::random::RandomSource;
 
@@ -16,6 +17,22 @@ pub(crate) fn word_of<R: RandomSource>(rt: &R, choice: WordChoice) -> Result<u64
             let mut bytes = [0; size_of::<u64>()];
             rt.fill_bytes(&mut bytes)?;
             Ok(u64::from_le_bytes(bytes))
+        }
+    }
+}
+
+/// The version after which a server's versions begin: a random one, so that no entity-tag of a former life names
+/// another body (RFC 7252, section 5.10.6). With a word that is given it is 0: the server begins as it did with that
+/// word before.
+pub(crate) fn base_of<R: RandomSource>(rt: &R, choice: WordChoice) -> Result<VersionBase, Stop>
+    ensures { IfOk result (IsBaseOf choice) }
+{
+    match choice {
+        WordChoice::Given(_) => Ok(VersionBase::default()),
+        WordChoice::Random => {
+            let base = VersionBase::drawn(word_of(rt, choice)?);
+            let _version = base.get();
+            Ok(base)
         }
     }
 }
