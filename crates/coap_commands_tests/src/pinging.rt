@@ -66,10 +66,10 @@ fn ping_in_memory(
     let mut said = Vec::new(alloc);
     let ended = ping_over(alloc, &mut link, &mut time, &pinging, &mut printed);
     let status = close(ended, &mut said).number();
-    let mut sent = 0;
+    let mut sent: usize = 0;
     for _ in 0..10 {
         if link.next_handed().is_some() {
-            sent += 1;
+            sent = sent.saturating_add(1);
         }
     }
     Ok(Seen {

@@ -45,6 +45,17 @@ struct Lives<'a> {
     opened: Cell<usize>,
 }
 
+// Has a link give these, in order.
+fn give_all(link: &mut MemoryLink, coming: &[Coming<'_>]) -> Result<(), AllocError> {
+    for (turns, datagram) in coming {
+        for _ in 0..*turns {
+            link.give(FAR, IGNORED)?;
+        }
+        link.give(FAR, datagram)?;
+    }
+    Ok(())
+}
+
 impl<'a> Lives<'a> {
     // The link of the next life.
     fn next(&self) -> Result<MemoryLink, AllocError> {
@@ -52,12 +63,7 @@ impl<'a> Lives<'a> {
         let number = self.opened.get();
         self.opened.set(number.saturating_add(1));
         if let Some(coming) = self.coming.get(number) {
-            for (turns, datagram) in *coming {
-                for _ in 0..*turns {
-                    link.give(FAR, IGNORED)?;
-                }
-                link.give(FAR, datagram)?;
-            }
+            give_all(&mut link, coming)?;
         }
         Ok(link)
     }
