@@ -17,8 +17,6 @@ mod changes;
 #[cfg(test)]
 mod clock;
 #[cfg(test)]
-mod discovering;
-#[cfg(test)]
 mod dumps;
 #[cfg(test)]
 mod failures;
@@ -59,10 +57,6 @@ mod serving;
 #[cfg(test)]
 mod sizes;
 #[cfg(test)]
-mod telling;
-#[cfg(test)]
 mod tracing;
 #[cfg(test)]
 mod uris;
-#[cfg(test)]
-mod watching;
