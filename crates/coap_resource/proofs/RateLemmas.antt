@@ -152,7 +152,7 @@ as_test m n h = search arith
 full : (t : Tally) (at : ℕ) → (rate_refusal t at ≡ Some RateExceeded) ↔ (t.limits.changes ≤ used t at)
 full t at = (
   λ h. at_most t.limits.changes (used t at) (full_by (leb t.limits.changes (used t at))
-      (t.version == 18446744073709551615) h),
+      (leb 18446744073709551615 t.version) h),
   λ h. let most = as_test t.limits.changes (used t at) h in rw most refl,
 )
 

@@ -5,6 +5,7 @@ use Rattle.std.specs.Option.{option_map}
 use Rattle.coap_types.specs.BlockValue.{block_value}
 use Rattle.coap_types.specs.OptionValues.{option_with, uint_option}
 use Rattle.coap_types.specs.Uint.{uint}
+use Rattle.coap_types.specs.declared.block.Block.{Block}
 use Rattle.coap_types.specs.declared.block.TheConstants.{MAX_NUM as max_num}
 use Rattle.coap_types.specs.declared.option_number.TheConstants as numbers
 use Rattle.coap_types.specs.declared.szx.TheConstants.{MAX_SZX as max_szx}
@@ -38,10 +39,10 @@ small_value : (num szx : ℕ) (more : Bool) → num ≤ max_num → szx ≤ max_
 small_value num szx true few least = omega (arith, few, least)
 small_value num szx false few least = omega (arith, few, least)
 
-small_block : (block : Option (ℕ × Bool × ℕ)) → IfSome block (λ b. (b.0 ≤ max_num) × (b.2 ≤ max_szx))
+small_block : (block : Option Block) → IfSome block (λ b. (b.num ≤ max_num) × (b.szx ≤ max_szx))
     → IsSmall (block_number block)
 small_block None fits = tt
-small_block (Some b) fits = small_value b.0 b.2 b.1 fits.0 fits.1
+small_block (Some b) fits = small_value b.num b.szx b.more fits.0 fits.1
 
 pub says_one_way : SaysOneWay
 says_one_way reply options fits =

@@ -74,7 +74,11 @@ not_longer a b is = grind (arith, nat_tests)
 
 -- without Block2 in the request
 first : (held : Held) (szx : ℕ) (longer : Bool) → nat_lt (2 ^ (szx + 4)) (length held.body) ≡ longer
-    → IsPart (if longer then Some (0 / 2 ^ (szx + 4), nat_lt (0 + 2 ^ (szx + 4)) (length held.body), szx) else None)
+    → IsPart (if longer then Some (record {
+      num = 0 / 2 ^ (szx + 4);
+      more = nat_lt (0 + 2 ^ (szx + 4)) (length held.body);
+      szx = szx;
+    }) else None)
     held.body (take (2 ^ (szx + 4)) held.body)
 first held szx true is = sent held.body 0 0 szx (let none : 0 ≡ 0 * 2 ^ (szx + 4) = omega arith in none) refl
 first held szx false is = take_all (2 ^ (szx + 4)) held.body (not_longer (2 ^ (szx + 4)) (length held.body) is)

@@ -8,18 +8,18 @@ use Rattle.coap_resource.specs.declared.tally.TheConstants.{WINDOW_MS as window_
 
 -- the changes of a store, as numbers
 pub record Tally : Type 0 where
-  -- how many there were: the version of the last one
+  -- the version of the last one; before the first the one after which the versions begin
   pub version : ℕ
   -- the last moment that counted, in ms
   pub clock : ℕ
-  -- how many a window takes, and the longest body that is held
+  -- how many a window takes, the longest body that is held, and after which version the versions begin
   pub limits : Limits
   -- how many there were in the window of that moment
   pub changes : ℕ
 
 -- no change yet, and no moment
 abbrev pub unused : Limits → Tally
-unused limits = record { version = 0; clock = 0; limits = limits; changes = 0 }
+unused limits = record { version = limits.base; clock = 0; limits = limits; changes = 0 }
 
 -- the window of a moment, by its number
 abbrev pub window : ℕ → ℕ
@@ -33,7 +33,7 @@ used t now = if window (max t.clock now) == window t.clock then t.changes else 0
 abbrev pub rate_refusal : Tally → ℕ → Option StoreRefusal
 rate_refusal t now =
     if nat_le t.limits.changes (used t now) then Some RateExceeded
-    else if t.version == 2 ^ 64 - 1 then Some VersionsSpent
+    else if nat_le (2 ^ 64 - 1) t.version then Some VersionsSpent
     else None
 
 -- a moment that counts, and changes nothing

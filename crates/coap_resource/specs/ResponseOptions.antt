@@ -6,6 +6,7 @@ use Rattle.coap_types.specs.BlockValue.{block_value}
 use Rattle.coap_types.specs.OptionValues.{option_with, uint_option}
 use Rattle.coap_types.specs.Piece.{size_of}
 use Rattle.coap_types.specs.Roles.{role_of}
+use Rattle.coap_types.specs.declared.block.Block.{Block}
 use Rattle.coap_types.specs.declared.block.TheConstants.{MAX_NUM as max_num}
 use Rattle.coap_types.specs.declared.szx.TheConstants.{MAX_SZX as max_szx}
 use Rattle.coap_types.specs.declared.tag.TheConstants.{MAX_TAG_LEN as max_tag_len}
@@ -22,9 +23,9 @@ IsUint None (Some bytes) = ⊥
 IsUint (Some number) None = ⊥
 
 -- what Block2 says: NUM, M and SZX in one number
-abbrev pub block_number : Option (ℕ × Bool × ℕ) → Option ℕ
+abbrev pub block_number : Option Block → Option ℕ
 block_number None = None
-block_number (Some b) = Some (block_value (record { num = b.0; more = b.1; szx = b.2 }))
+block_number (Some b) = Some (block_value b)
 
 -- The options are ETag, Content-Format and Block2 in this order, each where the response has it.
 pub record Says (reply : Reply) (options : List CoapOption) : Type 0 where
@@ -48,7 +49,7 @@ pub record Fits (reply : Reply) : Type 0 where
   pub code : reply.code < 2 ^ 8
   pub tag : IfSome reply.tag (λ t. length t ≤ max_tag_len)
   pub format : IfSome reply.format (λ f. f < 2 ^ 16)
-  pub block2 : IfSome reply.block2 (λ b. (b.0 ≤ max_num) × (b.2 ≤ max_szx))
+  pub block2 : IfSome reply.block2 (λ b. (b.num ≤ max_num) × (b.szx ≤ max_szx))
   pub part : length reply.part ≤ size_of max_szx
 
 -- Such a response says its options in one way.

@@ -2,6 +2,7 @@
 -- section 2.4).
 use Rattle.std.specs.Prelude.{◌≡◌, ◌⊎◌, ℕ, Bool, false, ◌&&◌, ◌||◌, ◌==◌, nat_lt, nat_le, List, length, Option, Some}
 use Rattle.std.specs.Prelude.{None, is_some}
+use Rattle.coap_types.specs.declared.block.Block.{Block}
 use Rattle.coap_types.specs.declared.message.TheConstants.Code as codes
 use Rattle.coap_types.specs.declared.request.Method.TheVariants.{Get}
 use Rattle.coap_resource.specs.declared.refusal.StoreRefusal.{StoreRefusal}
@@ -44,9 +45,9 @@ ContentLaw = (old new : Content) (now : ℕ) (q : Question) (reply : Reply) → 
     → IsContent old q reply new
 
 -- without Block2 the payload is the whole body, else the piece of it that Block2 says
-abbrev pub IsPart : Option (ℕ × Bool × ℕ) → List ℕ → List ℕ → Type 0
+abbrev pub IsPart : Option Block → List ℕ → List ℕ → Type 0
 IsPart None body part = part ≡ body
-IsPart (Some block) body part = Piece body block.0 block.1 block.2 part
+IsPart (Some block) body part = Piece body block.num block.more block.szx part
 
 -- the payload of a 2.05 is a part of what the path holds
 abbrev pub PartLaw : Type 0

@@ -38,7 +38,7 @@ pub record Reply : Type 0 where
   pub code : ℕ
   pub tag : Option (List ℕ)
   pub format : Option ℕ
-  pub block2 : Option (ℕ × Bool × ℕ)
+  pub block2 : Option Block
   pub part : List ℕ
   pub offset : ℕ
 
@@ -58,10 +58,10 @@ bare code offset = record { code = code; tag = None; format = None; block2 = Non
 
 -- Block2 is there where it was asked for, or the body is longer than the block; NUM counts blocks of the size of the
 -- response, and M says whether the body goes on.
-abbrev pub block2_of : Bool → ℕ → ℕ → ℕ → Option (ℕ × Bool × ℕ)
+abbrev pub block2_of : Bool → ℕ → ℕ → ℕ → Option Block
 block2_of by_block offset szx len =
     if by_block || nat_lt (size_of szx) len then
-    Some (offset / size_of szx, nat_lt (offset + size_of szx) len, szx) else None
+    Some (record { num = offset / size_of szx; more = nat_lt (offset + size_of szx) len; szx = szx }) else None
 
 -- 2.05: the part of the body from the offset on, at most a block of it
 abbrev pub content_reply : Held → Bool → ℕ → ℕ → Reply

@@ -57,7 +57,10 @@ fn check_block<R: Abort + AllocGlobal>(
     assert_eq!(rt; response.code, Code::CONTENT);
     assert_eq!(rt; response.part.as_slice(), part);
     let sent = response.block2.expect(rt, "asked for");
-    assert_eq!(rt; (sent.0, sent.1, sent.2.get()), (num, more, exponent));
+    assert_eq!(rt;
+        (sent.num, sent.more, sent.szx.get()),
+        (num, more, exponent)
+    );
     Ok(())
 }
 
@@ -151,8 +154,8 @@ fn is_served<R: Abort + AllocGlobal>(
 ) -> Result<(), AllocError> {
     let response = get_of_length(rt, len, block2)?;
     assert_eq!(rt; response.code, Code::CONTENT);
-    let (num, more, szx) = response.block2.expect(rt, "asked for");
-    assert_eq!(rt; (num, more, szx.get()), block);
+    let sent = response.block2.expect(rt, "asked for");
+    assert_eq!(rt; (sent.num, sent.more, sent.szx.get()), block);
     assert_eq!(rt; (response.part.len(), response.offset), (part, offset));
     Ok(())
 }

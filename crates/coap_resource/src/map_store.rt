@@ -6,6 +6,7 @@ use crate::refusal::StoreRefusal;
 use crate::representation::Representation;
 use crate::store::Store;
 use crate::tally::{MAX_CHANGES_PER_WINDOW, Tally};
+use crate::version_base::VersionBase;
 use bytes::Bytes;
 use coap_types::{BodyLimit, Moment, Path, appended};
 use std::alloc::{Allocator, Global};
@@ -33,11 +34,16 @@ impl<A: Allocator + Copy> Model for MapStore<A> {
 impl<A: Allocator + Copy> Store<A> for MapStore<A> {
     ghost content = { λ s. content_of s };
 
-    fn new_sized(alloc: A, changes_per_window: u32, limit: BodyLimit) -> Option<Self> {
+    fn new_after(
+        alloc: A,
+        changes_per_window: u32,
+        limit: BodyLimit,
+        base: VersionBase,
+    ) -> Option<Self> {
         if changes_per_window < 1 || changes_per_window > MAX_CHANGES_PER_WINDOW {
             return None;
         }
-        let tally = Tally::new(changes_per_window, limit);
+        let tally = Tally::new(changes_per_window, limit, base);
         Some(MapStore {
             alloc,
             map: BTreeMap::new(alloc),

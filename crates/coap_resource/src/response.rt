@@ -3,7 +3,7 @@ ghost use Rattle.std.specs.Prelude.{◌≡◌};
 ghost use Rattle.coap_resource.specs.Serves.{bare, reply_of};
 
 use bytes::Bytes;
-use coap_types::{Code, Szx, Tag};
+use coap_types::{Block, Code, Tag};
 use std::alloc::{Allocator, Global};
 
 /// A response, but for its Observe option.
@@ -15,8 +15,8 @@ pub struct Response<A: Allocator = Global> {
     pub tag: Option<Tag>,
     /// The format of the representation, in a 2.05, where it has one (RFC 7252, section 5.10.3).
     pub format: Option<u16>,
-    /// NUM, M and SZX of the block, in a 2.05 that has Block2 (RFC 7959, section 2.2).
-    pub block2: Option<(u32, bool, Szx)>,
+    /// The block that its payload is, in a 2.05 that has Block2 (RFC 7959, section 2.2).
+    pub block2: Option<Block>,
     /// The payload: of a 2.05 a block of the body, shared with the store; else empty.
     pub part: Bytes<A>,
     /// Where in the body the block begins that a GET asked for, in bytes, whatever its answer; 0 for

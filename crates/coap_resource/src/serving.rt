@@ -19,7 +19,7 @@ use crate::request_options::{
 use crate::response::{Response, bare};
 use crate::store::Store;
 use bytes::Bytes;
-use coap_types::{Code, MAX_BODY_LIMIT, MAX_NUM, MAX_SZX, Method, Moment, Szx, Tag};
+use coap_types::{Block, Code, MAX_BODY_LIMIT, MAX_NUM, MAX_SZX, Method, Moment, Tag};
 use std::alloc::{AllocError, Allocator};
 
 // The code of a response to what the store refuses.
@@ -72,12 +72,12 @@ fn own_format<A: Allocator>(held: &Representation<A>) -> Option<u16>
     }
 }
 
-// NUM, M and SZX of a block of a body, where the response has Block2.
-fn block_sent(wanted: &Wanted, len: usize) -> Option<(u32, bool, Szx)>
+// The block of a body, where the response has Block2.
+fn block_sent(wanted: &Wanted, len: usize) -> Option<Block>
     requires place { wanted.now.offset ≤ len }
     requires short { len ≤ MAX_BODY_LIMIT }
     ensures sent { result ≡ block2_of wanted.now.by_block wanted.now.offset wanted.now.szx len }
-    ensures few { IfSome result (λ b. (b.0 ≤ MAX_NUM) × (b.2 ≤ MAX_SZX)) }
+    ensures few { IfSome result (λ b. (b.num ≤ MAX_NUM) × (b.szx ≤ MAX_SZX)) }
 {
     let size = wanted.szx.size();
     if !wanted.by_block && len <= size {
@@ -86,7 +86,11 @@ fn block_sent(wanted: &Wanted, len: usize) -> Option<(u32, bool, Szx)>
     let num = wanted.offset as usize / size;
     let more = len - wanted.offset as usize > size;
     let _exponent = wanted.szx.get();
-    Some((num as u32, more, wanted.szx))
+    Some(Block {
+        num: num as u32,
+        more,
+        szx: wanted.szx,
+    })
 }
 
 // 2.05 with a block of a representation.

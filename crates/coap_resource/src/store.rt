@@ -2,7 +2,7 @@
 ghost use Rattle.std.specs.Prelude.{◌≡◌, ◌≤◌, ◌↔◌, ◌+◌, ◌++◌, None, Some, IfOk, IfErr, IfSome, IsSome, length};
 ghost use Rattle.std.specs.Prelude.{option_copied};
 ghost use Rattle.coap_resource.specs.Content.{Changes, Content, Held, append_refusal, nothing, put_refusal, later};
-ghost use Rattle.coap_resource.specs.Limits.{usual_limits};
+ghost use Rattle.coap_resource.specs.Limits.{sized_limits, usual_limits};
 ghost use Rattle.coap_resource.specs.Rate.{rate_refusal};
 ghost use Rattle.coap_resource.specs.declared.refusal.StoreRefusal.{StoreRefusal};
 ghost use Rattle.coap_resource.specs.declared.refusal.StoreRefusal.TheVariants.{Memory};
@@ -11,6 +11,7 @@ ghost use Rattle.coap_resource.specs.Shown.{shown};
 use crate::refusal::StoreRefusal;
 use crate::representation::Representation;
 use crate::tally::MAX_CHANGES_PER_WINDOW;
+use crate::version_base::VersionBase;
 use coap_types::{BodyLimit, MAX_BODY_LIMIT, Moment, Path};
 use std::alloc::Allocator;
 
@@ -21,9 +22,9 @@ const _: () = prove!(MAX_PATHS == 256);
 
 /// The resources of a server: what each path holds (RFC 7252, section 5.8).
 ///
-/// Each change has a version, one more than the change before it; the first is 1. A moment before
-/// the last that was handed in counts as that. A refusal changes
-/// nothing: only its moment has counted, and after `Memory` not even that.
+/// Each change has a version, one more than the change before it. The first is one more than the base
+/// that was chosen: 1, where none was. A moment before the last that was handed in counts as that. A
+/// refusal changes nothing: only its moment has counted, and after `Memory` not even that.
 pub trait Store<A: Allocator + Copy>: Drop {
     /// What it holds.
     ghost content: { Self → Content };
@@ -47,8 +48,27 @@ pub trait Store<A: Allocator + Copy>: Drop {
         Self: Sized,
         // A store of `new_sized` holds nothing, and has that limit of a body.
         ensures empty { IfSome result
-            (λ store. content store ≡ nothing (record { changes = changes_per_window; body = limit })) }
+            (λ store. content store ≡ nothing (sized_limits changes_per_window limit)) }
         // A store of `new_sized` is made exactly for changes a window from one to the greatest number.
+        ensures when { IsSome result ↔ ((1 ≤ changes_per_window) × (changes_per_window ≤ MAX_CHANGES_PER_WINDOW)) }
+    {
+        Self::new_after(alloc, changes_per_window, limit, VersionBase::default())
+    }
+
+    /// The same where the versions are to begin after a base. A server that forgets what it held needs
+    /// another base for each of its lives, so that no entity-tag names two bodies (RFC 7252, section 5.10.6).
+    fn new_after(
+        alloc: A,
+        changes_per_window: u32,
+        limit: BodyLimit,
+        base: VersionBase,
+    ) -> Option<Self>
+    where
+        Self: Sized,
+        // A store of `new_after` holds nothing, has that limit of a body, and its first version is one more than the base.
+        ensures empty { IfSome result (λ store. content store
+            ≡ nothing (record { changes = changes_per_window; body = limit; base = base })) }
+        // A store of `new_after` is made exactly for changes a window from one to the greatest number.
         ensures when { IsSome result ↔ ((1 ≤ changes_per_window) × (changes_per_window ≤ MAX_CHANGES_PER_WINDOW)) };
 
     /// The longest body that it holds. No call changes it.
@@ -66,9 +86,9 @@ pub trait Store<A: Allocator + Copy>: Drop {
         // A body that is held has at most 1,048,576 bytes.
         ensures within { IfSome ((content self.now).holds path.now) (λ held. length held.body ≤ MAX_BODY_LIMIT) };
 
-    /// The version of the last change, 0 before the first.
+    /// The version of the last change; before the first the base after which the versions begin.
     fn version(&self) -> u64
-        // The version is that of the last change, and 0 before the first.
+        // The version is that of the last change, and before the first the base.
         ensures { result ≡ (content self.now).tally.version };
 
     /// Puts a body in place of what the path holds, and answers its version.

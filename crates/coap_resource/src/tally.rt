@@ -5,6 +5,7 @@ ghost use Rattle.coap_resource.specs.Rate.{counted, rate_refusal, unused, used, 
 
 use crate::refusal::StoreRefusal;
 use crate::store::MAX_PATHS;
+use crate::version_base::VersionBase;
 use coap_types::{BodyLimit, MAX_BODY_LIMIT, Moment};
 use std::marker::Model;
 
@@ -22,7 +23,7 @@ const _: () = prove!(2 * MAX_CHANGES_PER_WINDOW < 1 << 23);
 /// The changes of a store, as numbers.
 #[derive(Clone, Copy, Debug)]
 pub(crate) struct Tally {
-    /// How many changes there were: the version of the last one.
+    /// The version of the last change; before the first the base.
     pub(crate) version: u64,
     /// The last moment that counted.
     pub(crate) clock: Moment,
@@ -30,6 +31,8 @@ pub(crate) struct Tally {
     pub(crate) per_window: u32,
     /// The longest body that is held.
     pub(crate) limit: BodyLimit,
+    /// The version after which the versions begin.
+    pub(crate) base: VersionBase,
     /// How many changes there were in the window of `clock`.
     pub(crate) changes: u32,
 }
@@ -42,7 +45,7 @@ impl Model for Tally {
     ghost view = { λ t. record {
       version = t.version;
       clock = t.clock.0;
-      limits = record { changes = t.per_window; body = t.limit };
+      limits = record { changes = t.per_window; body = t.limit; base = t.base };
       changes = t.changes;
     } };
 
@@ -51,6 +54,7 @@ impl Model for Tally {
       clock = record { 0 = t.clock };
       per_window = t.limits.changes;
       limit = t.limits.body;
+      base = t.limits.base;
       changes = t.changes;
     } };
 }
@@ -64,16 +68,17 @@ fn window(moment: Moment) -> u64
 
 impl Tally {
     /// No change yet, and no moment.
-    pub(crate) fn new(changes_per_window: u32, limit: BodyLimit) -> Tally
-        ensures tally { result ≡ unused (record { changes = changes_per_window; body = limit }) }
+    pub(crate) fn new(changes_per_window: u32, limit: BodyLimit, base: VersionBase) -> Tally
+        ensures tally { result ≡ unused (record { changes = changes_per_window; body = limit; base = base }) }
         ensures within { limit ≤ MAX_BODY_LIMIT }
     {
         let _most = limit.get();
         Tally {
-            version: 0,
+            version: base.get(),
             clock: Moment(0),
             per_window: changes_per_window,
             limit,
+            base,
             changes: 0,
         }
     }

@@ -1,6 +1,9 @@
 //! Tests of changes, their versions and their rate.
 use super::path_of;
-use crate::{ListStore, MAX_PATHS, MapStore, Store, StoreRefusal, rate_law, served_law, since_law};
+use crate::{
+    ListStore, MAX_PATHS, MapStore, Store, StoreRefusal, VersionBase, rate_law, served_law,
+    since_law,
+};
 use StoreRefusal::{RateExceeded, TooLarge, TooManyPaths};
 use coap_types::{BodyLimit, Moment, Path};
 use std::alloc::{AllocError, AllocGlobal, Global};
@@ -67,6 +70,61 @@ fn check_changes<R: Abort + AllocGlobal, S: Store<Global>>(rt: &R) -> Result<(),
 fn changes_are_numbered_joined_and_taken_away(rt: HostRuntime) -> Result<(), AllocError> {
     check_changes::<HostRuntime, ListStore>(&rt)?;
     check_changes::<HostRuntime, MapStore>(&rt)
+}
+
+// The bases that there are: multiples of 2^24 below 2^63.
+#[test]
+fn a_base_is_a_multiple_of_2_24(rt: HostRuntime) {
+    let there: [u64; 3] = [0, 0x100_0000, 0x7fff_ffff_ff00_0000];
+    for base in there {
+        assert_eq!(rt; VersionBase::new(base).map(VersionBase::get), Some(base));
+    }
+    let refused: [u64; 4] = [1, 0x180_0000, 0x8000_0000_0000_0000, u64::MAX];
+    for base in refused {
+        assert!(rt; VersionBase::new(base).is_none());
+    }
+    let drawn: [(u64, u64); 4] = [
+        (0, 0),
+        (1, 0x100_0000),
+        (0x80_0000_0000, 0),
+        (u64::MAX, 0x7fff_ffff_ff00_0000),
+    ];
+    for (word, base) in drawn {
+        assert_eq!(rt; VersionBase::drawn(word).get(), base);
+    }
+    assert_eq!(rt; VersionBase::default().get(), 0);
+}
+
+// A store whose versions begin after the greatest base.
+fn check_base<R: Abort + AllocGlobal, S: Store<Global>>(rt: &R) -> Result<(), AllocError> {
+    let path = path_of(rt.alloc(), b"t")?;
+    let base = VersionBase::drawn(u64::MAX);
+    let limit = BodyLimit::default();
+    let mut store: S = S::new_after(rt.alloc(), 2, limit, base).expect(rt, "in range");
+    assert_eq!(rt; store.version(), 0x7fff_ffff_ff00_0000);
+    takes(
+        rt,
+        &mut store,
+        &path,
+        0,
+        Change::Put(b"a", Ok(0x7fff_ffff_ff00_0001)),
+    );
+    takes(
+        rt,
+        &mut store,
+        &path,
+        0,
+        Change::Append(b"b", Ok(Some(0x7fff_ffff_ff00_0002))),
+    );
+    takes(rt, &mut store, &path, 0, Change::Delete(Err(RateExceeded)));
+    holds(rt, &store, &path, b"ab", 0x7fff_ffff_ff00_0002);
+    Ok(())
+}
+
+#[test]
+fn versions_begin_after_the_base(rt: HostRuntime) -> Result<(), AllocError> {
+    check_base::<HostRuntime, ListStore>(&rt)?;
+    check_base::<HostRuntime, MapStore>(&rt)
 }
 
 // A store that takes two changes in a window.
