@@ -1,6 +1,6 @@
 -- The options that say a response, and how large a response is (RFC 7252, sections 3.2, 4.6, 5.10.3 and 5.10.6; RFC
 -- 7959, section 2.2).
-use Rattle.std.specs.Prelude.{◌≡◌, ◌↔◌, ℕ, ◌^◌, ◌<◌, ◌≤◌, ◌++◌, Bool, List, length, Option, Some, None, IfSome}
+use Rattle.std.specs.Prelude.{◌≡◌, ◌↔◌, ℕ, ◌^◌, ◌<◌, ◌≤◌, ◌++◌, List, length, Option, Some, None, IfSome}
 use Rattle.coap_types.specs.CoapOption.{CoapOption}
 use Rattle.coap_types.specs.BlockValue.{block_value}
 use Rattle.coap_types.specs.OptionValues.{option_with, uint_option}

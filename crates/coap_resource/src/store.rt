@@ -55,8 +55,9 @@ pub trait Store<A: Allocator + Copy>: Drop {
         Self::new_after(alloc, changes_per_window, limit, VersionBase::default())
     }
 
-    /// The same where the versions are to begin after a base. A server that forgets what it held needs
-    /// another base for each of its lives, so that no entity-tag names two bodies (RFC 7252, section 5.10.6).
+    /// A store that holds nothing, where a body is to have at most that limit, and the versions are to begin
+    /// after a base. A server that forgets what it held needs another base for each of its lives, so that no
+    /// entity-tag names two bodies (RFC 7252, section 5.10.6).
     fn new_after(
         alloc: A,
         changes_per_window: u32,
@@ -65,7 +66,8 @@ pub trait Store<A: Allocator + Copy>: Drop {
     ) -> Option<Self>
     where
         Self: Sized,
-        // A store of `new_after` holds nothing, has that limit of a body, and its first version is one more than the base.
+        // A store of `new_after` holds nothing, has that limit of a body, and its first version is one more than the
+        // base.
         ensures empty { IfSome result (λ store. content store
             ≡ nothing (record { changes = changes_per_window; body = limit; base = base })) }
         // A store of `new_after` is made exactly for changes a window from one to the greatest number.
