@@ -1,17 +1,19 @@
 //! The server (RFC 7252, section 5; RFC 7641; RFC 7959).
+mod answering;
 mod deferral;
 mod delays;
 mod due;
 mod feed;
 mod full_response;
+mod handling;
 mod local;
 mod moments;
 mod notification;
 mod observation;
+mod observation_end;
 mod option_list;
 mod parts;
 mod plain;
-mod reply;
 mod request;
 mod request_checks;
 mod separate_response;

@@ -65,16 +65,17 @@ held_then path None held = held
 held_then path (Some x) held = if same_path x.path path then x.held else held
 
 module _ (limits : Limits) (szx : ℕ) where
-  -- how many changes there were, and what a path holds: its last change
+  -- the version of the last change, where versions are counted on from the base, and what a path holds: its last change
   abbrev pub changes : List Call → ℕ
-  changes [] = 0
+  changes [] = limits.base
   changes (c ∷ past) = counted (change (own_of limits szx past) c) + changes past
 
   abbrev pub held_at : List (List ℕ) → List Call → Option Held
   held_at path [] = None
   held_at path (c ∷ past) = held_then path (change (own_of limits szx past) c) (held_at path past)
 
-  -- The versions of the changes are 1, 2, 3 and so on, and the store holds at each path its last change.
+  -- The versions of the changes are one more each, from the base on (1, 2, 3 and so on, where that is 0), and the store
+  -- holds at each path its last change.
   pub record Holds (past : List Call) (c : Call) : Type 0 where
     pub version : (x : Change) → change (own_of limits szx past) c ≡ Some x → x.version ≡ changes past + 1
     pub held : (path : List (List ℕ)) → (own_of limits szx past).store.holds path ≡ held_at path past

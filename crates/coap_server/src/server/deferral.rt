@@ -1,18 +1,14 @@
-//! A whole request is served now, or deferred where its path has a delay (RFC 7252, section 5.2.2).
-ghost use Rattle.std.specs.Prelude.{◌≡◌, ◌≤◌, ◌++◌, ◌∷◌, [], Ok, true, false, IfOk, OnErr, OnOk, length, map};
-ghost use Rattle.coap_types.specs.declared.token.TheConstants.{MAX_TOKEN_LEN as max_token_len};
+//! A request whose path has a delay waits (RFC 7252, section 5.2.2).
+ghost use Rattle.std.specs.Prelude.{◌≡◌, ◌++◌, ◌∷◌, [], Ok, true, false, IfOk, OnErr, map};
 ghost use Rattle.coap_types.specs.CoapOption.{options_of};
 ghost use Rattle.coap_resource.specs.Serves.{question_of};
 ghost use Rattle.coap_exchange.specs.AnswererLaw.{Step};
 ghost use Rattle.coap_exchange.specs.AnswererTrace.{Defers};
 ghost use Rattle.coap_exchange.specs.Machine.AnswererShown.{MayAnswer};
 ghost use Rattle.coap_server.specs.Deferring.{delay_for, delay_of};
-ghost use Rattle.coap_server.specs.Object.Handled.{IsWhole, ServesNow};
-ghost use Rattle.coap_server.specs.Object.Shown.{delay_as, kept_of, option_as, seen, waiting_as};
+ghost use Rattle.coap_server.specs.Object.Shown.{delay_as, kept_of, option_as};
 
 use crate::server::parts::{Delay, KeptOption, Parts, Waiting, push_within};
-use crate::server::reply::answer;
-use crate::server::served::serve_request;
 use bytes::Bytes;
 use coap_exchange::Asked;
 use coap_resource::{Asking, Store};
@@ -20,9 +16,13 @@ use coap_types::{Kind, Opt, Path};
 use std::alloc::{AllocError, Allocator};
 use std::hash::BuildHasher;
 
-// The delay of a path, for a request of this type.
+/// The delay of a path, for a request of this type.
 #[inline(always)]
-fn delay_for<A: Allocator>(delays: &[Delay<A>], kind: Kind, path: &Path<A>) -> Option<u64>
+pub(crate) fn delay_for<A: Allocator>(
+    delays: &[Delay<A>],
+    kind: Kind,
+    path: &Path<A>,
+) -> Option<u64>
     ensures { result ≡ delay_for kind path.now (map delay_as delays.now) }
 {
     match kind {
@@ -44,7 +44,7 @@ fn delay_of<A: Allocator>(delays: &[Delay<A>], path: &Path<A>) -> Option<u64>
 }
 
 // The options again, to be kept.
-fn kept<A: Allocator + Copy>(
+fn keep_options<A: Allocator + Copy>(
     alloc: A,
     options: &[Opt<'_>],
 ) -> Result<Vec<KeptOption<A>, A>, AllocError>
@@ -61,38 +61,8 @@ fn kept<A: Allocator + Copy>(
     Ok(list)
 }
 
-/// What is done with a request whose body is whole: it waits where its path has a delay and there
-/// is a place, and else it is served. After an `Err` only the exchanges are not as before; they can
-/// be taken back.
-#[inline(always)]
-pub(crate) fn handle_whole<S: Store<A>, A: Allocator + Copy, H: BuildHasher>(
-    parts: &mut Parts<S, A, H>,
-    asked: &Asked,
-    asking: &Asking<'_, A>,
-) -> Result<(), AllocError>
-    requires may { MayAnswer parts.old.exchanges asked.now }
-    requires short { length asked.now.token ≤ max_token_len }
-    requires szx { asking.now.szx ≡ parts.old.szx }
-    requires timed { parts.old.observers.clock ≤ parts.old.clock.0 }
-    ensures handled { OnOk result
-        (IsWhole (seen S.content parts.old) asked.now (question_of asking.now) (seen S.content parts.new)) }
-    ensures uploads { parts.new.uploads ≡ parts.old.uploads }
-    ensures timed { OnOk result (parts.new.observers.clock ≤ parts.new.clock.0) }
-    ensures before { parts.new.exchanges.before ≡ parts.old.exchanges.before }
-    ensures err { OnErr result
-        (record (kept_of parts.new) { exchanges = parts.old.exchanges.state } ≡ kept_of parts.old) }
-{
-    let Some(delay) = delay_for(&parts.delays, asked.kind, asking.path) else {
-        return serve_now(parts, asked, asking);
-    };
-    if defer(parts, asked, asking, delay)? {
-        return Ok(());
-    }
-    serve_now(parts, asked, asking)
-}
-
-// Lets a request wait, where there is a place.
-fn defer<S: Store<A>, A: Allocator + Copy, H: BuildHasher>(
+/// Lets a request wait, where there is a place.
+pub(crate) fn defer<S: Store<A>, A: Allocator + Copy, H: BuildHasher>(
     parts: &mut Parts<S, A, H>,
     asked: &Asked,
     asking: &Asking<'_, A>,
@@ -123,7 +93,7 @@ fn defer<S: Store<A>, A: Allocator + Copy, H: BuildHasher>(
         delay,
         method: asking.method,
         path: asking.path.clone()?,
-        options: kept(parts.alloc, asking.options)?,
+        options: keep_options(parts.alloc, asking.options)?,
         body: Bytes::copy_from_slice(parts.alloc, asking.body)?,
     };
     parts.waiting.reserve(1)?;
@@ -133,33 +103,4 @@ fn defer<S: Store<A>, A: Allocator + Copy, H: BuildHasher>(
         parts.applied = None;
     }
     Ok(deferred)
-}
-
-// Serves a request, and answers it.
-#[inline(always)]
-fn serve_now<S: Store<A>, A: Allocator + Copy, H: BuildHasher>(
-    parts: &mut Parts<S, A, H>,
-    asked: &Asked,
-    asking: &Asking<'_, A>,
-) -> Result<(), AllocError>
-    requires may { MayAnswer parts.old.exchanges asked.now }
-    requires short { length asked.now.token ≤ max_token_len }
-    requires timed { parts.old.observers.clock ≤ parts.old.clock.0 }
-    ensures served { OnOk result (ServesNow (seen S.content parts.old).own parts.old.exchanges.state asked.now
-        (question_of asking.now) (seen S.content parts.new)) }
-    ensures uploads { parts.new.uploads ≡ parts.old.uploads }
-    ensures timed { OnOk result (parts.new.observers.clock ≤ parts.new.clock.0) }
-    ensures before { parts.new.exchanges.before ≡ parts.old.exchanges.before }
-    ensures err { OnErr result (kept_of parts.new ≡ kept_of parts.old) }
-{
-    let served = serve_request(
-        &mut parts.store,
-        &mut parts.observers,
-        parts.clock,
-        asked,
-        asking,
-    )?;
-    answer(&mut parts.exchanges, asked, &served.response);
-    parts.applied = served.applied;
-    Ok(())
 }

@@ -9,7 +9,8 @@ ghost use Rattle.coap_server.specs.Led.{Step};
 ghost use Rattle.coap_server.specs.Trace.{Feeds, Handling};
 ghost use Rattle.coap_server.specs.Object.Shown.{kept_of, seen};
 
-use crate::server::moments::{forget, later, reject};
+use crate::server::moments::later;
+use crate::server::observation_end::{forget, reject};
 use crate::server::parts::Parts;
 use crate::server::request::handle;
 use coap_resource::Store;

@@ -18,7 +18,7 @@ use bytes::Bytes;
 use coap_exchange::{Response as Answer, notifiable_law};
 use coap_resource::Response;
 use coap_types::option_number::{BLOCK1, BLOCK2, CONTENT_FORMAT, ETAG, OBSERVE};
-use coap_types::{Block, Code, MAX_NUM, MAX_UINT_LEN, Szx, Tag, UintBytes, uint_bytes};
+use coap_types::{Block, Code, MAX_NUM, MAX_UINT_LEN, Tag, UintBytes, uint_bytes};
 use std::alloc::Allocator;
 use std::marker::Model;
 
@@ -62,19 +62,10 @@ fn number_bytes(number: Option<u32>) -> Option<UintBytes>
 fn block_bytes(block: Option<Block>) -> Option<UintBytes>
     requires num { IfSome block (λ b. b.num ≤ MAX_NUM) }
     ensures bytes { result ≡ option_map uint (option_map block_value block) }
+    ensures number { result ≡ option_map uint (block_number block) }
     ensures few { IfSome result (λ bytes. length bytes ≤ MAX_UINT_LEN) }
 {
     block?.write()
-}
-
-// The block that a Block2 says.
-fn block_of(block2: Option<(u32, bool, Szx)>) -> Option<Block>
-    requires num { IfSome block2 (λ b. b.0 ≤ MAX_NUM) }
-    ensures block { option_map block_value result ≡ block_number block2 }
-    ensures num { IfSome result (λ b. b.num ≤ MAX_NUM) }
-{
-    let (num, more, szx) = block2?;
-    Some(Block { num, more, szx })
 }
 
 // The number of a Content-Format.
@@ -122,7 +113,7 @@ impl<A: Allocator> FullResponse<A> {
             tag: response.tag,
             observe: number_bytes(observe),
             format: number_bytes(format_number(response.format)),
-            block2: block_bytes(block_of(response.block2)),
+            block2: block_bytes(response.block2),
             block1: block_bytes(block1),
             payload: response.part,
         }

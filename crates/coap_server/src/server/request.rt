@@ -8,9 +8,9 @@ ghost use Rattle.coap_exchange.specs.Machine.AnswererShown.{MayAnswer};
 ghost use Rattle.coap_server.specs.Object.Handled.{IsHandled};
 ghost use Rattle.coap_server.specs.Object.Shown.{kept_of, seen};
 
-use crate::server::deferral::handle_whole;
+use crate::server::answering::answer_code;
+use crate::server::handling::handle_whole;
 use crate::server::parts::Parts;
-use crate::server::reply::reply;
 use crate::server::request_checks::{Checked, check};
 use crate::server::upload::{Upload, handle_block};
 use coap_codec::View;
@@ -56,7 +56,7 @@ pub(crate) fn handle<S: Store<A>, A: Allocator + Copy, H: BuildHasher>(
             Ok(())
         }
         Checked::Refused(code) => {
-            reply(parts, asked, code, None);
+            answer_code(parts, asked, code, None);
             Ok(())
         }
         Checked::Asks(method, path) => {

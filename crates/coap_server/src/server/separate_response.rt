@@ -52,7 +52,7 @@ fn ready_place<A: Allocator>(waiting: &[Waiting<A>], at: Moment, asked: &Asked) 
 }
 
 // The options again, to be lent.
-fn lent<'a, A: Allocator + Copy>(
+fn lend_options<'a, A: Allocator + Copy>(
     alloc: A,
     kept: &'a [KeptOption<A>],
 ) -> Result<Vec<Opt<'a>, A>, AllocError>
@@ -85,7 +85,7 @@ fn serve_waiting<S: Store<A>, A: Allocator + Copy>(
     ensures store { OnErr result (store.new ≡ store.old) }
     ensures observers { OnErr result (observers.new ≡ observers.old) }
 {
-    let options = lent(*waiting.options.allocator(), &waiting.options)?;
+    let options = lend_options(*waiting.options.allocator(), &waiting.options)?;
     let asking = Asking {
         method: waiting.method,
         path: &waiting.path,

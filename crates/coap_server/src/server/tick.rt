@@ -13,8 +13,9 @@ ghost use Rattle.coap_server.specs.Object.Shown.{kept_of, seen};
 ghost use Rattle.coap_server.specs.Turns.Idle.{IsIdle, moment, takes_notice};
 ghost use Rattle.coap_server.specs.Turns.Turned.{IsTurned};
 
-use crate::server::moments::{forget, later};
+use crate::server::moments::later;
 use crate::server::notification::notify_next;
+use crate::server::observation_end::forget;
 use crate::server::parts::Parts;
 use crate::server::separate_response::respond_ready;
 use coap_exchange::Due;

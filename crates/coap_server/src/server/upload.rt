@@ -7,9 +7,9 @@ ghost use Rattle.coap_exchange.specs.Machine.AnswererShown.{MayAnswer};
 ghost use Rattle.coap_server.specs.Object.Handled.{IsUploaded};
 ghost use Rattle.coap_server.specs.Object.Shown.{kept_of, seen};
 
-use crate::server::deferral::handle_whole;
+use crate::server::answering::answer_code;
+use crate::server::handling::handle_whole;
 use crate::server::parts::Parts;
-use crate::server::reply::reply;
 use coap_block::{Took, UploadKey};
 use coap_exchange::Asked;
 use coap_resource::{Asking, Store};
@@ -71,11 +71,11 @@ pub(crate) fn handle_block<S: Store<A>, A: Allocator + Copy, H: BuildHasher>(
     };
     match parts.uploads.take(parts.clock, &key, block, payload)? {
         Took::Refused(why) => {
-            reply(parts, asked, why.code(), None);
+            answer_code(parts, asked, why.code(), None);
             Ok(())
         }
         Took::More(next) => {
-            reply(parts, asked, Code::CONTINUE, Some(next));
+            answer_code(parts, asked, Code::CONTINUE, Some(next));
             Ok(())
         }
         Took::Whole(body) => {

@@ -1,5 +1,5 @@
--- The versions of a server's changes are 1, 2, 3 and so on; a path holds its last change; the limits stay; what is
--- served is served right.
+-- The versions of a server's changes are one more each, from the base on; a path holds its last change; the limits
+-- stay; what is served is served right.
 use Rattle.std.proofs.Common.{◌≡◌, inl, inr, ℕ, ◌+◌, ◌==◌, Bool, true, false, Option, Some, None, List, [], ◌∷◌}
 use Rattle.std.proofs.Common.{refl, ap, sym, subst, ◌∙◌, cond, arith}
 use Rattle.std.specs.Cmp.{unsigned_Decides}

@@ -25,8 +25,8 @@ returns-in-Refused-clause-handled g c =
     let code = c.in-Refused.code.0 in
     handled_by s _ c.args.asked.now m (Refused code) (sym v ∙ ap (verdict_as s.own.szx m) c.in-Refused.is)
     (answered (Handles s.own c.args.asked.now (Refused code)) s _ c.args.asked.now s.own.uploads
-    (bare code) c.reply.ensures.step.0 refl c.reply.ensures.step.1
-    (ap (λ k. (state_of g.S.Store.content k).own) c.reply.ensures.kept))
+    (bare code) c.answer_code.ensures.step.0 refl c.answer_code.ensures.step.1
+    (ap (λ k. (state_of g.S.Store.content k).own) c.answer_code.ensures.kept))
 
 pub returns-in-Asks-clause-handled : goal.returns-in-Asks-clause-handled
 returns-in-Asks-clause-handled g c =

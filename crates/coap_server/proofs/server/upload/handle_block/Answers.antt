@@ -17,8 +17,8 @@ returns-in-Refused-clause-handled g c =
     in
     refused (seen g.S.Store.content c.args.parts.now) _ c.args.asked.now q c.args.upload.block c.in_ok-why.field-0 _
     c.in_ok-why.ensures.step c.in-Refused.why c.code.result
-    c.reply.ensures.step.0 c.in-Refused.is c.code.ensures c.reply.ensures.step.1
-    (ap (λ k. (state_of g.S.Store.content k).own) c.reply.ensures.kept)
+    c.answer_code.ensures.step.0 c.in-Refused.is c.code.ensures c.answer_code.ensures.step.1
+    (ap (λ k. (state_of g.S.Store.content k).own) c.answer_code.ensures.kept)
 
 pub returns-in-More-clause-handled : goal.returns-in-More-clause-handled
 returns-in-More-clause-handled g c =
@@ -32,8 +32,8 @@ returns-in-More-clause-handled g c =
     in
     continued (seen g.S.Store.content c.args.parts.now) _ c.args.asked.now q c.args.upload.block c.in_ok-why.field-0 _
     c.in_ok-why.ensures.step c.in-More.next
-    c.reply-in-More.ensures.step.0 c.in-More.is c.reply-in-More.ensures.step.1
-    (ap (λ k. (state_of g.S.Store.content k).own) c.reply-in-More.ensures.kept)
+    c.answer_code-in-More.ensures.step.0 c.in-More.is c.answer_code-in-More.ensures.step.1
+    (ap (λ k. (state_of g.S.Store.content k).own) c.answer_code-in-More.ensures.kept)
 
 pub returns-in-Ok-clause-handled : goal.returns-in-Ok-clause-handled
 returns-in-Ok-clause-handled g c =

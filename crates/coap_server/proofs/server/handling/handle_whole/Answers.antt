@@ -3,7 +3,7 @@ use Rattle.coap_resource.specs.Serves.{question_of}
 use Rattle.coap_server.specs.Object.Shown.{seen}
 use Rattle.coap_server.proofs.Calls.FeedIsACall.{on_ok}
 use Rattle.coap_server.proofs.Calls.RequestIsHandled.{at_once, behind, waits}
-use Rattle.coap_server.proofs.server.deferral.handle_whole.Goals as goal
+use Rattle.coap_server.proofs.server.handling.handle_whole.Goals as goal
 
 pub returns-in_default-clause-handled : goal.returns-in_default-clause-handled
 returns-in_default-clause-handled g c =

@@ -1,7 +1,7 @@
 use Rattle.std.proofs.Common.{◌≡◌, ◌++◌, map, drop}
 use Rattle.coap_types.specs.CoapOption.{options_of}
 use Rattle.coap_server.specs.Object.Shown.{option_as}
-use Rattle.coap_server.proofs.server.separate_response.lent.Given as goal
+use Rattle.coap_server.proofs.server.separate_response.lend_options.Given as goal
 
 -- the options so far and those that are left make the whole
 abbrev pub invariant-options : goal.invariant-options

@@ -1,7 +1,7 @@
 use Rattle.std.proofs.Common.{◌≡◌, ◌++◌, map, drop}
 use Rattle.coap_types.specs.CoapOption.{options_of}
 use Rattle.coap_server.specs.Object.Shown.{option_as}
-use Rattle.coap_server.proofs.server.deferral.kept.Given as goal
+use Rattle.coap_server.proofs.server.deferral.keep_options.Given as goal
 
 -- the options so far and those that are left make the whole
 abbrev pub invariant-loop-option : goal.invariant-loop-option

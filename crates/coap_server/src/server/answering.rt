@@ -42,7 +42,7 @@ pub(crate) fn answer<A: Allocator + Copy, H: BuildHasher>(
 /// Answers the request that was handed up with a code, and with Block1 where it is given: nothing
 /// was applied.
 #[inline(always)]
-pub(crate) fn reply<S: Store<A>, A: Allocator + Copy, H: BuildHasher>(
+pub(crate) fn answer_code<S: Store<A>, A: Allocator + Copy, H: BuildHasher>(
     parts: &mut Parts<S, A, H>,
     asked: &Asked,
     code: Code,
