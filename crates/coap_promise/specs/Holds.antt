@@ -24,8 +24,8 @@ module _ (config : Config) where
   Changes x past (OfServer c) = change (own_of config.limits config.server_szx (server_trace config past)) c ≡ Some x
 
   -- The server begins with nothing. After each entry each path holds the last of its changes, and the versions of the
-  -- changes are 1, 2, 3 and so on. What a change says, its path holds after it: a representation under its version, or
-  -- nothing.
+  -- changes are one more each, from the base on. What a change says, its path holds after it: a representation under
+  -- its version, or nothing.
   pub record Holds (past : List Entry) (e : Entry) : Type 0 where
     pub last : (path : List (List ℕ)) → holds_at config path (e ∷ past) ≡ last_at config path (e ∷ past)
     pub version : (x : Change) → Changes x past e → x.version ≡ changes_in config past + 1

@@ -48,7 +48,7 @@ module _ (config : Config) where
   abbrev pub holds_at : List (List ℕ) → List Entry → Option Held
   holds_at path all = (own_of config.limits config.server_szx (server_trace config all)).store.holds path
 
-  -- the last of its changes of that path, and how many changes there were
+  -- the last of its changes of that path, and the version of the last of all changes, counted from the base on
   abbrev pub last_at : List (List ℕ) → List Entry → Option Held
   last_at path all = held_at config.limits config.server_szx path (server_trace config all)
 

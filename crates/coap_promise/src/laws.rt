@@ -117,8 +117,8 @@ pub fn hops_law()
 
 /// What the server's changes are, whatever the events are.
 pub fn changes_law()
-    // Each path holds its last change, which says what it holds, and the versions are 1, 2, 3 and so on (RFC 7252,
-    // section 5.10.6).
+    // Each path holds its last change, which says what it holds, and the versions are one more each, from the base on
+    // (RFC 7252, section 5.10.6).
     ensures holds { InLegalRuns HoldsChanges }
     // A local change does what it answers: it puts, or removes, by one change, where the store has no reason to refuse,
     // or nothing changes.

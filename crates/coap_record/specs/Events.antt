@@ -23,7 +23,8 @@ abbrev pub usual_addresses : Addresses
 usual_addresses = record { client = client_end; server = server_end }
 
 -- at which addresses the ends stand; with which words, numbers of remembered messages, sizes of blocks and limits of
--- bodies they begin; how many changes a window takes; the delays of paths, and the paths that are plain
+-- bodies they begin; how many changes a window takes, and after which version the server's versions begin; the delays
+-- of paths, and the paths that are plain
 pub record Config : Type 0 where
   pub addresses : Addresses
   pub client_setup : Setup

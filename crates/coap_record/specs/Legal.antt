@@ -13,6 +13,7 @@ use Rattle.coap_types.specs.Path.{IsPath}
 use Rattle.coap_client.specs.Trace.{Request}
 use Rattle.coap_server.specs.declared.limits.TheConstants.{MAX_DELAYS as max_delays, MAX_PLAINS as max_plains}
 use Rattle.coap_server.specs.Trace.{Delay}
+use Rattle.coap_resource.specs.Base.{IsBase}
 use Rattle.coap_resource.specs.declared.tally.TheConstants.{MAX_CHANGES_PER_WINDOW as max_changes}
 use Rattle.coap_record.specs.Record.{Given, Turn, IsNumber, Entry, RecordOf, entries_of}
 use Rattle.coap_record.specs.Events.{Config, Event, What, Calls, Observes, Cancels, Forgets, Sets}
@@ -73,8 +74,8 @@ pub record IsLegal (addresses : Addresses) (past : List Turn) (turn : Turn) : Ty
 abbrev pub AllLegal : Addresses → List Turn → Type 0
 AllLegal addresses turns = Always (IsLegal addresses) turns
 
--- where the ends stand, the setups, sizes and limits with which the ends begin, how many changes a window takes, at
--- most 16 delays and at most 16 plain paths (profile)
+-- where the ends stand, the setups, sizes and limits with which the ends begin, how many changes a window takes, the
+-- version after which the server's versions begin, at most 16 delays and at most 16 plain paths (profile)
 
 -- a limit that can be chosen
 abbrev pub IsLimit : ℕ → Type 0
@@ -106,6 +107,7 @@ pub record IsConfig (config : Config) : Type 0 where
   pub some : 1 ≤ config.limits.changes
   pub limit : config.limits.changes ≤ max_changes
   pub server_limit : IsLimit config.limits.body
+  pub base : IsBase config.limits.base
   pub delays : All IsDelay config.delays
   pub few : length config.delays ≤ max_delays
   pub plains : All IsPath config.plains

@@ -105,8 +105,8 @@ pub fn server_law()
     ensures served { ServerHolds (λ limits szx _ t. ServedOnce limits szx t) }
     // It is served as the table of the methods says, and what is applied is applied whole (RFC 7252, section 5.8).
     ensures right { ServerHolds (λ limits szx _ t. AllServed limits szx t) }
-    // The versions of the changes are 1, 2, 3 and so on, and each path holds its last change (RFC 7252, section
-    // 5.10.6).
+    // The versions of the changes are one more each, from the base on, and each path holds its last change (RFC 7252,
+    // section 5.10.6).
     ensures holds { ServerHolds (λ limits szx _ t. HoldsChanges limits szx t) }
     // No call changes the limits of its store.
     ensures limits { ServerHolds (λ limits szx _ t. (own_of limits szx t).store.tally.limits ≡ limits) }

@@ -132,8 +132,8 @@ pub record Smooth (config : Config) (turns : List Turn) : Type 0 where
   pub few_to_client : FewCome config.client_setup to_client (client_of (entries_of turns))
   pub few_to_server : FewCome config.server_setup to_server (server_of (entries_of turns))
   pub delays : All (λ (d : Delay). d.ms ≤ max_delay) config.delays
-  -- half of the sequence numbers of notifications (RFC 7641, section 3.4)
-  pub versions : changes_in config (entries_of turns) < 2 ^ 23
+  -- fewer changes than half of the sequence numbers of notifications (RFC 7641, section 3.4)
+  pub versions : changes_in config (entries_of turns) < config.limits.base + 2 ^ 23
 
 -- each end does so at each event
 abbrev pub KeepUp : Config → List Turn → Type 0

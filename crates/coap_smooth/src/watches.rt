@@ -48,7 +48,7 @@ pub fn watch_law()
         → Alone x (client_of (entries_of turns)) → AreStillThere config x turns) }
     // What a path holds later is the same, or has a later version (RFC 7252, section 5.10.6) ..
     ensures rise { InLegalRuns VersionsRise }
-    // .. which is in a smooth run its own sequence number (RFC 7641, section 4.4).
+    // .. which follows the base, in a smooth run, by its own sequence number (RFC 7641, section 4.4).
     ensures numbers { OfLegalRuns (λ config turns. SmoothFewTold config turns
         → VersionsAreNumbers config (entries_of turns)) }
     // What is taken of one observation that runs alone, of a path whose representations fit one block, shows all of

@@ -23,6 +23,30 @@ pub(crate) const RUNS: &str = "
 > reports 0 value 2 0000000000000002 0 62
 5 deliver 3
 
+== versions_begin_after_a_base
+# The entity-tag is the version, and the sequence number is that modulo 2^24 (RFC 7641, section 4.4).
+with base=9223372036837998592
+0 set /t 0 a
+> puts 9223372036837998593
+> changes /t 9223372036837998593 0 61
+0 observe /t
+> takes 0
+0 tick client
+> out 0 0 C S 4801_0000_0000000000000000_60_5174
+1 deliver 0
+> out 1 1 S C 6845_0000_0000000000000000_487fffffffff000001_2101_60_ff61
+2 deliver 1
+> reports 0 value 1 7fffffffff000001 0 61
+3 set /t 0 b
+> puts 9223372036837998594
+> changes /t 9223372036837998594 0 62
+3 tick server
+> out 2 3 S C 4845_0000_0000000000000000_487fffffffff000002_2102_60_ff62
+4 deliver 2
+> out 3 4 C S 60000000
+> reports 0 value 2 7fffffffff000002 0 62
+5 deliver 3
+
 == a_plain_resource_is_observed
 plain /t
 0 set /t 0 a

@@ -7,9 +7,9 @@
 //!
 //! | Line | What it says |
 //! |---|---|
-//! | `with word=0 client-szx=6 server-szx=6 client-limit=65536 server-limit=65536 changes=4194303` | both ends begin
-//! with this word, which each event has, too; their block sizes and their limits of bodies; how many changes a window
-//! takes |
+//! | `with word=0 client-szx=6 server-szx=6 client-limit=65536 server-limit=65536 changes=4194303 base=0` | both ends
+//! begin with this word, which each event has, too; their block sizes and their limits of bodies; how many changes a
+//! window takes; the version after which the versions begin |
 //! | `delay /t 1000` | the requests of the path wait for so many milliseconds |
 //! | `plain /t` | its notifications go in NONs |
 //! | `0 call put /t format=0 if-match=01 if-none-match etag=01 accept=0 = hi` | at this moment: a request with these

@@ -88,7 +88,7 @@ module _ (held : Held) (szx : ℕ) (f : FetchState) (small : length held.body �
   short = let l = len in omega (arith, l, at, low, small)
 
   by_more : (more : Bool) → nat_lt (offset + size_of k) (length held.body) ≡ more
-      → GoesOnBy held szx f (Some (num, more, k)) (Some tag) here
+      → GoesOnBy held szx f (Some (record { num = num; more = more; szx = k })) (Some tag) here
   by_more true is =
       let lt : offset + size_of k < length held.body = grind (arith, nat_tests, is) in
       let l = len in
@@ -140,9 +140,14 @@ module _ (held : Held) (szx : ℕ) (f : FetchState) (small : length held.body �
     where
       by : (x : Bool) → nat_lt (size_of szx) (length held.body) ≡ x
           → GoesOnBy held szx f (cond (false || x)
-          (Some (0 / size_of szx, nat_lt (0 + size_of szx) (length held.body), szx)) None) (Some (tag_of held.version))
+          (Some (record {
+            num = 0 / size_of szx;
+            more = nat_lt (0 + size_of szx) (length held.body);
+            szx = szx;
+          })) None) (Some (tag_of held.version))
           (take (size_of szx) (drop 0 held.body))
-      by true is = subst (λ (n : ℕ). GoesOnBy held szx f (Some (n, nat_lt (0 + size_of szx) (length held.body), szx))
+      by true is = subst (λ (n : ℕ). GoesOnBy held szx f
+          (Some (record { num = n; more = nat_lt (0 + size_of szx) (length held.body); szx = szx }))
           (Some (tag_of held.version)) (take (size_of szx) (drop 0 held.body))) (sym (zero-div (size_of szx)))
           (by_more held szx f small (tag_of held.version) refl 0 szx 0 (omega arith) (omega arith)
           (sym (ap (λ (l : List ℕ). length l) empty)) (omega arith)
@@ -169,7 +174,11 @@ module _ (held : Held) (szx : ℕ) (f : FetchState) (small : length held.body �
       let place = b.place in
       let left = b.left in
       subst (λ (n : ℕ). GoesOnBy held szx f
-      (Some (n, nat_lt (offset_of a.num a.szx + size_of a.szx) (length held.body), a.szx))
+      (Some (record {
+        num = n;
+        more = nat_lt (offset_of a.num a.szx + size_of a.szx) (length held.body);
+        szx = a.szx;
+      }))
       (Some (tag_of held.version)) (take (size_of a.szx) (drop (offset_of a.num a.szx) held.body)))
       (sym (mul-div_cancel a.num (size_some a.szx)))
       (by_more held szx f small (tag_of held.version) refl a.num a.szx (offset_of a.num a.szx) b.small refl b.place

@@ -32,7 +32,7 @@ use Rattle.coap_client.specs.Steps.{reports}
 use Rattle.coap_client.specs.Law.{ClientLaw, own_of}
 use Rattle.coap_client_laws.specs.Follows.OfAnswers.{is_by_answer}
 use Rattle.coap_client_laws.specs.Follows.OfCalls.{CarriesBody}
-use Rattle.coap_client_laws.specs.Follows.Unchanged.{reply_to, block_of, FetchesOf, SaysBlock, SaysReply}
+use Rattle.coap_client_laws.specs.Follows.Unchanged.{reply_to, FetchesOf, SaysBlock, SaysReply}
 use Rattle.coap_client_laws.specs.Follows.Unchanged.{HearsReplies, IsUnchanged, AreUnchanged}
 use Rattle.coap_client.specs.Sendings.{hears}
 use Rattle.coap_client_laws.proofs.Fetching.FetchUnchanged.{fetches_unchanged}
@@ -46,15 +46,15 @@ use Rattle.coap_client.proofs.Facts.Turning.Leading.{client_back}
 use Rattle.coap_client_laws.proofs.Turning.Origins.{Origin, kept, begins, follows, origin}
 
 -- what the message means to the fetch
-part_by_block : (f : FetchState) (m : Message) (block : Option (ℕ × Bool × ℕ)) → SaysBlock block m
-    → part f m ≡ F.verdict f (block_of block) (tag_in m) (length m.payload)
+part_by_block : (f : FetchState) (m : Message) (block : Option Block) → SaysBlock block m
+    → part f m ≡ F.verdict f block (tag_in m) (length m.payload)
 part_by_block f m None h = ap (part_by f (tag_in m) (length m.payload)) h
 part_by_block f m (Some t) h = by (value_of block2 (said m)) h
   where
     by : (o : Option (List ℕ)) → ◌≡◌ {A = Option Block} (elim o [ None ↦ None | Some value ↦ block_in value ])
-        (Some (record { num = t.0; more = t.1; szx = t.2 }))
+        (Some t)
         → part_by f (tag_in m) (length m.payload) o
-        ≡ F.verdict f (block_of (Some t)) (tag_in m) (length m.payload)
+        ≡ F.verdict f (Some t) (tag_in m) (length m.payload)
     by None h = absurd (cc h)
     by (Some value) h = ap (λ (b : Option Block). elim b [
       | None ↦ verdict.Refuse refusal.BadBlock
@@ -62,10 +62,10 @@ part_by_block f m (Some t) h = by (value_of block2 (said m)) h
     ]) h
 
 said_part : (f : FetchState) (m : Message) (r : Reply) → SaysReply r m
-    → part f m ≡ F.verdict f (block_of r.block2) r.tag (length r.part)
+    → part f m ≡ F.verdict f r.block2 r.tag (length r.part)
 said_part f m r h = part_by_block f m r.block2 h.block
-    ∙ (ap (λ t. F.verdict f (block_of r.block2) t (length m.payload)) h.tag
-    ∙ ap (λ (p : List ℕ). F.verdict f (block_of r.block2) r.tag (length p)) h.part)
+    ∙ (ap (λ t. F.verdict f r.block2 t (length m.payload)) h.tag
+    ∙ ap (λ (p : List ℕ). F.verdict f r.block2 r.tag (length p)) h.part)
 
 -- what the call makes of it
 

@@ -1,6 +1,6 @@
 -- What a GET comes to whose answers are the replies of a server whose path holds one representation all the while (RFC
 -- 7252, section 5.8.1; RFC 7959, section 2.4).
-use Rattle.std.specs.Prelude.{◌≡◌, ◌≤◌, ◌<◌, ◌⊎◌, ℕ, Bool, false, true, Option, None, Some, is_some, List, [], ◌++◌}
+use Rattle.std.specs.Prelude.{◌≡◌, ◌≤◌, ◌<◌, ◌⊎◌, ℕ, false, true, Option, None, Some, is_some, List, [], ◌++◌}
 use Rattle.std.specs.Prelude.{length, take}
 use Rattle.coap_types.specs.OptionValues.{value_of}
 use Rattle.coap_types.specs.Past.{Always}
@@ -33,10 +33,6 @@ abbrev pub reply_to : Held → ℕ → Option Asked → Reply
 reply_to held szx asked = content_reply held (is_some (block_asked asked)) (offset_by (block_asked asked))
     (szx_by (block_asked asked) szx)
 
-abbrev pub block_of : Option (ℕ × Bool × ℕ) → Option Block
-block_of None = None
-block_of (Some t) = Some (record { num = t.0; more = t.1; szx = t.2 })
-
 -- A fetch of the representation is at its start, or it has its first bytes, and asks for what follows.
 
 pub record IsBehind (held : Held) (szx : ℕ) (f : FetchState) (a : Asked) : Type 0 where
@@ -52,10 +48,10 @@ FetchesOf held szx f = ((f.asked ≡ None) × (f.gathered ≡ [])) ⊎ ((a : Ask
 
 -- The reply makes the body whole, or lets it ask for what follows: it is never refused, and it never begins anew.
 
-abbrev pub GoesOnBy : Held → ℕ → FetchState → Option (ℕ × Bool × ℕ) → Option (List ℕ) → List ℕ → Type 0
+abbrev pub GoesOnBy : Held → ℕ → FetchState → Option Block → Option (List ℕ) → List ℕ → Type 0
 GoesOnBy held szx f block tag part =
-    ((verdict f (block_of block) tag (length part) ≡ Done) × (f.gathered ++ part ≡ held.body))
-    ⊎ ((num : ℕ) × (next : ℕ) × (verdict f (block_of block) tag (length part) ≡ Ask num next)
+    ((verdict f block tag (length part) ≡ Done) × (f.gathered ++ part ≡ held.body))
+    ⊎ ((num : ℕ) × (next : ℕ) × (verdict f block tag (length part) ≡ Ask num next)
     × FetchesOf held szx (after f tag part (Ask num next)))
 
 abbrev pub GoesOn : Held → ℕ → FetchState → Reply → Type 0
@@ -67,9 +63,9 @@ FetchesUnchanged = (held : Held) (szx : ℕ) (f : FetchState) → length held.bo
 
 -- a 2.05 says the reply: its Block2, its ETag, its format and its part
 
-abbrev pub SaysBlock : Option (ℕ × Bool × ℕ) → Message → Type 0
+abbrev pub SaysBlock : Option Block → Message → Type 0
 SaysBlock None m = value_of block2 (said m) ≡ None
-SaysBlock (Some t) m = block_at block2 m ≡ Some (record { num = t.0; more = t.1; szx = t.2 })
+SaysBlock (Some b) m = block_at block2 m ≡ Some b
 
 pub record SaysReply (r : Reply) (m : Message) : Type 0 where
   pub code : m.code ≡ content

@@ -31,6 +31,7 @@ at_port port small other = record {
   some = omega arith;
   limit = (let most : 4194303 ≤ 4194303 = omega arith in most);
   server_limit = (omega arith, omega arith);
+  base = record { multiple = refl; below = omega arith };
   delays = All-nil IsDelay;
   few = omega arith;
   plains = All-nil IsPath;

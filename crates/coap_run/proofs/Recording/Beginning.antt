@@ -71,7 +71,7 @@ few_left ds left some within few = let long = length-drop left ds in omega (arit
 
 -- a delay changes nothing, nor does a plain path
 pub none_changed : (limits : Limits) (szx : ℕ) (ps : List (List (List ℕ))) (ds : List S.Delay)
-    → changes limits szx (begins_with ps ds) ≡ 0
+    → changes limits szx (begins_with ps ds) ≡ limits.base
 none_changed limits szx [] [] = refl
 none_changed limits szx [] (d ∷ ds) = sym (zero_plus (changes limits szx (gives ds))) ∙ none_changed limits szx [] ds
 none_changed limits szx (p ∷ ps) ds = sym (zero_plus (changes limits szx (begins_with ps ds)))

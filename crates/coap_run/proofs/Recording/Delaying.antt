@@ -40,6 +40,7 @@ still_config places cw cs sw ss limits old new plains path ms (Ok true) is p sma
       some = is.some;
       limit = is.limit;
       server_limit = is.server_limit;
+      base = is.base;
       delays =
           subst (All IsDelay) (sym given.1)
           (All-push IsDelay (others path (delays_as old)) (record { path = path; ms = ms })

@@ -1,5 +1,5 @@
 -- Where the input of an event met want of memory, it is one that may.
-use Rattle.std.proofs.Common.{◌≡◌, ◌≢◌, inl, inr, ℕ, max, ◌==◌, ◌^◌, ◌-◌, ◌&&◌, not, nat_le, nat_lt, Bool, true, false}
+use Rattle.std.proofs.Common.{◌≡◌, ◌≢◌, inl, inr, ℕ, max, ◌^◌, ◌-◌, ◌&&◌, not, nat_le, nat_lt, Bool, true, false}
 use Rattle.std.proofs.Common.{if◌then◌else◌, Option, Some, None, List, length, is_ok, is_some, refl, sym, ap, subst}
 use Rattle.std.proofs.Common.{◌∙◌}
 use Rattle.coap_types.specs.declared.endpoint.Endpoint.{Endpoint}
@@ -59,7 +59,7 @@ never_memory : (s : Content) (now : ℕ) (path : List (List ℕ)) (len : ℕ) �
     ≡ Some refusal.Memory → ⊥
 never_memory s now path len e =
     never (nat_lt s.tally.limits.body len) (not (is_some (s.holds path)) && nat_le max_paths s.paths)
-    (nat_le s.tally.limits.changes (used s.tally now)) (s.tally.version == 2 ^ 64 - 1) e
+    (nat_le s.tally.limits.changes (used s.tally now)) (nat_le (2 ^ 64 - 1) s.tally.version) e
 
 none_left : (o : Option StoreRefusal) (refused : Bool) → (o ≡ Some refusal.Memory → ⊥)
     → ((why : StoreRefusal) → why ≢ refusal.Memory → o ≡ Some why → refused ≡ false) → refused ≡ true → o ≡ None

@@ -61,6 +61,7 @@ module _ {A : Type 0} (places : Addresses) (cw : Setup) (cs : Sizes) (sw : Setup
     some = is.some;
     limit = is.limit;
     server_limit = is.server_limit;
+    base = is.base;
     delays = is.delays;
     few = is.few;
     plains = all;

@@ -36,6 +36,10 @@ with_limits config client server = record config {
   limits = record config.limits { body = server };
 }
 
+-- the same, where the versions begin after another one
+abbrev pub with_base : Config → ℕ → Config
+with_base config base = record config { limits = record config.limits { base = base } }
+
 -- the same, with other numbers of remembered messages
 abbrev pub with_remembered : Config → (client server : ℕ) → Config
 with_remembered config client server = record config {

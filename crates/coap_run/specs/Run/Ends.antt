@@ -17,7 +17,7 @@ pub record ClientLed {A : Type 0} (config : Config) (t : List C.Call) (e : Clien
   pub led : client.Led config.addresses.server config.client_sizes config.client_setup t e.client
   pub senders : (token : List ℕ) → sender_in e.senders token ≡ sender_of config.client_sizes token t
 
--- a server over a store, by what that holds, and how many changes there were
+-- a server over a store, by what that holds, and the version of the last change
 pub record ServerLed {K A : Type 0} (content : K → Content) (config : Config) (t : List S.Call)
     (e : ServerEnd K A) : Type 0 where
   pub led : server.Led config.limits config.server_szx config.server_setup t (state_of content e.server)

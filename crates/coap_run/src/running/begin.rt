@@ -37,7 +37,12 @@ pub(crate) fn client_of<A: Allocator + Copy>(config: &WorldConfig<A>) -> ClientE
 fn fresh_server<S: Store<A>, A: Allocator + Copy>(config: &WorldConfig<A>) -> Server<S, A>
     ensures { Led config.now.limits config.now.server_szx config.now.server_setup [] (state_of S.content result) }
 {
-    let Some(store) = S::new_sized(config.alloc, config.changes, config.server_limit) else {
+    let Some(store) = S::new_after(
+        config.alloc,
+        config.changes,
+        config.server_limit,
+        config.base,
+    ) else {
         unreachable!()
     };
     Server::with_setup(
@@ -113,8 +118,9 @@ pub(crate) fn server_of<S: Store<A>, A: Allocator + Copy>(
     ensures { IfOk result (λ server. ServerLed S.content config.now (begun_with config.now) server) }
 {
     let mut server = fresh_server(config);
+    let version = config.base.get();
     match set_up(&mut server, config) {
-        Ok(()) => Ok(ServerEnd { server, version: 0 }),
+        Ok(()) => Ok(ServerEnd { server, version }),
         Err(why) => {
             put_away(server);
             Err(why)

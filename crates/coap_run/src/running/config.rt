@@ -7,7 +7,8 @@ ghost use Rattle.coap_resource.specs.Limits.{usual_limits};
 ghost use Rattle.coap_server.specs.Plain.{is_plain, may_be_plain, plains_with};
 ghost use Rattle.coap_server.specs.declared.server.plain.PlainRefusal.TheVariants as plain_refusals;
 ghost use Rattle.coap_record.specs.Events.{usual_addresses};
-ghost use Rattle.coap_run.specs.Run.Configs.{with_addresses, with_delays, with_limits, with_plains, with_remembered};
+ghost use Rattle.coap_run.specs.Run.Configs.{with_addresses, with_base, with_delays, with_limits, with_plains};
+ghost use Rattle.coap_run.specs.Run.Configs.{with_remembered};
 ghost use Rattle.coap_layer.specs.Machine.State.{usual};
 
 use crate::running::deliver::is_end;
@@ -15,14 +16,14 @@ use crate::running::ranges::show_endpoint;
 use coap_ends::{Delay, DelayRefusal, PlainRefusal, give_delay, give_plain};
 use coap_layer::Setup;
 use coap_record::{Addresses, CLIENT_END, SERVER_END};
-use coap_resource::MAX_CHANGES_PER_WINDOW;
+use coap_resource::{MAX_CHANGES_PER_WINDOW, VersionBase};
 use coap_types::{BodyLimit, Endpoint, Path, Remembered, Szx};
 use std::alloc::{Allocator, Global};
 use std::marker::Model;
 
 /// With what a run begins: where its ends stand, the words, the numbers of remembered messages, the block sizes and the
-/// limits of bodies of both ends, how many changes a window takes, which paths are answered later, and which are
-/// notified in NONs.
+/// limits of bodies of both ends, how many changes a window takes, after which version the server's versions begin,
+/// which paths are answered later, and which are notified in NONs.
 #[derive(Drop)]
 pub struct WorldConfig<A: Allocator + Copy = Global> {
     pub(crate) alloc: A,
@@ -34,6 +35,7 @@ pub struct WorldConfig<A: Allocator + Copy = Global> {
     pub(crate) server_szx: Szx,
     pub(crate) server_limit: BodyLimit,
     pub(crate) changes: u32,
+    pub(crate) base: VersionBase,
     pub(crate) delays: Vec<Delay<A>, A>,
     pub(crate) plains: Vec<Path<A>, A>,
 }
@@ -47,19 +49,19 @@ impl<A: Allocator + Copy> Model for WorldConfig<A> {
     ghost use Rattle.coap_run.specs.Run.Configs.{config_of};
 
     ghost view = { λ c. config_of c.addresses c.client_setup (record { szx = c.client_szx; limit = c.client_limit })
-        c.server_setup
-        c.server_szx (record { changes = c.changes; body = c.server_limit }) c.delays.items c.plains.items };
+        c.server_setup c.server_szx
+        (record { changes = c.changes; body = c.server_limit; base = c.base }) c.delays.items c.plains.items };
 
     ghost invariant = { λ c. IsConfig (config_of c.addresses c.client_setup
         (record { szx = c.client_szx; limit = c.client_limit })
-        c.server_setup c.server_szx (record { changes = c.changes; body = c.server_limit }) c.delays.items
-        c.plains.items) };
+        c.server_setup c.server_szx (record { changes = c.changes; body = c.server_limit; base = c.base })
+        c.delays.items c.plains.items) };
 }
 
 impl<A: Allocator + Copy> WorldConfig<A> {
-    /// At `CLIENT_END` and `SERVER_END`, with no delays and no plain path, and with the limits of
-    /// `BodyLimit::default()` and as many remembered messages as `Remembered::default()`; None where a store does not
-    /// take so many changes in a window.
+    /// At `CLIENT_END` and `SERVER_END`, with no delays and no plain path, with the limits of
+    /// `BodyLimit::default()`, as many remembered messages as `Remembered::default()`, and versions from 1 on; None
+    /// where a store does not take so many changes in a window.
     pub fn new(
         alloc: A,
         client_word: u64,
@@ -99,6 +101,7 @@ impl<A: Allocator + Copy> WorldConfig<A> {
             server_szx,
             server_limit: BodyLimit::default(),
             changes,
+            base: VersionBase::default(),
             delays: Vec::new(alloc),
             plains: Vec::new(alloc),
         })
@@ -129,6 +132,15 @@ impl<A: Allocator + Copy> WorldConfig<A> {
     {
         self.client_limit = client;
         self.server_limit = server;
+    }
+
+    /// Has the versions of the server begin after this base.
+    pub fn base(&mut self, base: VersionBase)
+        // The versions of the run's server begin after this base, and all else is as it was.
+        ensures { self.new ≡ with_base self.old base }
+    {
+        let _version = base.get();
+        self.base = base;
     }
 
     /// Has the client and the server remember so many messages at most (RFC 7252, section 4.5).

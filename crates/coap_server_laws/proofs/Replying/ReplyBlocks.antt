@@ -35,7 +35,11 @@ part_small : (held : Held) (by_block : Bool) (offset szx : ℕ) → szx ≤ 6 �
 part_small held by_block offset szx size low = by (by_block || nat_lt (size_of szx) (length held.body))
   where
     by : (b : Bool) → IsSmall (block_number (cond b
-        (Some (offset / size_of szx, nat_lt (offset + size_of szx) (length held.body), szx)) None))
+        (Some (record {
+          num = offset / size_of szx;
+          more = nat_lt (offset + size_of szx) (length held.body);
+          szx = szx;
+        })) None))
     by true =
         let less : offset / size_of szx ≤ offset = div-le_self offset (size_of szx) in
         value_small (offset / size_of szx) szx (nat_lt (offset + size_of szx) (length held.body))

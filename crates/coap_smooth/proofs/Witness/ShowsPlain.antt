@@ -81,6 +81,7 @@ by_non_range = record {
   some = omega arith;
   limit = config_range.limit;
   server_limit = config_range.server_limit;
+  base = config_range.base;
   delays = config_range.delays;
   few = omega arith;
   plains = of_one IsPath t t_is;

@@ -5,7 +5,7 @@ use super::words::{
 };
 use bytes::Bytes;
 use coap_ends::CallId;
-use coap_resource::MAX_CHANGES_PER_WINDOW;
+use coap_resource::{MAX_CHANGES_PER_WINDOW, VersionBase};
 use coap_run::{Event, Side, What, WorldConfig};
 use coap_types::{DEFAULT_BODY_LIMIT, MAX_SZX, Moment, Request, Tags};
 use std::alloc::{Allocator, Global};
@@ -20,10 +20,11 @@ struct Settings {
     client_limit: usize,
     server_limit: usize,
     changes: u32,
+    base: u64,
 }
 
-// What the run says, and otherwise the word 0, blocks of 1,024 bytes, and all the changes that a
-// window can take.
+// What the run says, and otherwise the word 0, blocks of 1,024 bytes, all the changes that a window
+// can take, and versions from 1 on.
 fn settings_of(run: &str) -> Result<Settings, Fail> {
     let mut settings = Settings {
         word: 0,
@@ -32,6 +33,7 @@ fn settings_of(run: &str) -> Result<Settings, Fail> {
         client_limit: DEFAULT_BODY_LIMIT,
         server_limit: DEFAULT_BODY_LIMIT,
         changes: MAX_CHANGES_PER_WINDOW,
+        base: 0,
     };
     for line in run.lines() {
         let Some(words) = line.strip_prefix("with ") else {
@@ -45,6 +47,7 @@ fn settings_of(run: &str) -> Result<Settings, Fail> {
                 ("client-limit", value) => settings.client_limit = value.parse()?,
                 ("server-limit", value) => settings.server_limit = value.parse()?,
                 ("changes", value) => settings.changes = value.parse()?,
+                ("base", value) => settings.base = value.parse()?,
                 _ => return Err(Fail::new("no setting")),
             }
         }
@@ -67,6 +70,10 @@ pub(crate) fn config_of<A: Allocator + Copy>(memory: A, run: &str) -> Result<Wor
         limit_of(settings.client_limit)?,
         limit_of(settings.server_limit)?,
     );
+    let Some(base) = VersionBase::new(settings.base) else {
+        return Err(Fail::new("no base"));
+    };
+    config.base(base);
     for line in run.lines() {
         if let Some(words) = line.strip_prefix("delay ") {
             let (path, ms) = cut(words, " ");

@@ -44,7 +44,7 @@ pub record IsShown (held : Held) (m : Message) : Type 0 where
   pub sequence : is_notification m ≡ true → sequence_in m ≡ sequence_number held.version
   pub part : IsPartOf held.body m
 
-part_by : (m : Message) (body part : List ℕ) (o : Option (ℕ × Bool × ℕ)) → IfSome o (λ b. b.2 ≤ 6)
+part_by : (m : Message) (body part : List ℕ) (o : Option Block) → IfSome o (λ b. b.szx ≤ 6)
     → value_of block2 (said m) ≡ option_map uint (block_number o) → m.payload ≡ part → IsPart o body part
     → IsPartOf body m
 part_by m body part None low is payload h =
@@ -54,15 +54,14 @@ part_by m body part None low is payload h =
           ∙ at in absurd (cc k));
     }
 part_by m body part (Some x) low is payload h =
-    let b0 : Block = record { num = x.0; more = x.1; szx = x.2 } in
     record {
       alone = λ none. absurd (cc (none, is));
       piece = λ b at. (
-          let k : block_in (uint (block_value b0)) ≡ Some b =
+          let k : block_in (uint (block_value x)) ≡ Some b =
           sym (ap (λ v. elim v [ None ↦ None | Some value ↦ block_in value ]) is) ∙ at in
-          let same : b0 ≡ b = same_block b0 b low k in
+          let same : x ≡ b = same_block x b low k in
           subst (λ (z : Block). Piece body z.num z.more z.szx m.payload) same
-          (subst (λ p. Piece body x.0 x.1 x.2 p) (sym payload) h));
+          (subst (λ p. Piece body x.num x.more x.szx p) (sym payload) h));
     }
 
 low_sequence : (v : ℕ) → sequence_number v < 16777216
@@ -72,11 +71,12 @@ low_if : (b : Bool) (held : Held) → IfSome (sequence_if b (Some held)) (λ n. 
 low_if true held = low_sequence held.version
 low_if false held = tt
 
-low_block : (by : Bool) (offset szx len : ℕ) → szx ≤ 6 → IfSome (block2_of by offset szx len) (λ b. b.2 ≤ 6)
+low_block : (by : Bool) (offset szx len : ℕ) → szx ≤ 6 → IfSome (block2_of by offset szx len) (λ b. b.szx ≤ 6)
 low_block by offset szx len small = go (by || nat_lt (size_of szx) len)
   where
-    go : (c : Bool) → IfSome {T = ℕ × Bool × ℕ} (cond c
-        (Some (offset / size_of szx, nat_lt (offset + size_of szx) len, szx)) None) (λ b. b.2 ≤ 6)
+    go : (c : Bool) → IfSome {T = Block} (cond c
+        (Some (record { num = offset / size_of szx; more = nat_lt (offset + size_of szx) len; szx = szx })) None)
+        (λ b. b.szx ≤ 6)
     go true = small
     go false = tt
 
@@ -121,8 +121,8 @@ content_read m held by offset szx b more options payload part small format none 
 
 -- what it says is the reply: its Block2, where that can be written, its ETag, its format and its part
 
-abbrev IsSmallBlock : Option (ℕ × Bool × ℕ) → Type 0
-IsSmallBlock o = IfSome o (λ b. (b.0 ≤ 1048575) × (b.2 ≤ 6))
+abbrev IsSmallBlock : Option Block → Type 0
+IsSmallBlock o = IfSome o (λ b. (b.num ≤ 1048575) × (b.szx ≤ 6))
 
 small_value : (num szx : ℕ) (more : Bool) → num ≤ 1048575 → szx ≤ 6
     → block_value (record { num = num; more = more; szx = szx }) < 16777216
@@ -137,11 +137,11 @@ block_back b num szx =
     (le-leb (length (uint n)) 3 (few_bytes (uint n) n 3 spelt low))
     ∙ (ap block_by spelt.spelt ∙ block_reads_back b num szx)
 
-says_block : (m : Message) (o : Option (ℕ × Bool × ℕ)) → IsSmallBlock o
+says_block : (m : Message) (o : Option Block) → IsSmallBlock o
     → value_of block2 (said m) ≡ option_map uint (block_number o) → SaysBlock o m
 says_block m None small is = is
 says_block m (Some x) small is = ap (λ v. elim v [ None ↦ None | Some value ↦ block_in value ]) is
-    ∙ block_back (record { num = x.0; more = x.1; szx = x.2 }) small.0 small.1
+    ∙ block_back x small.0 small.1
 
 few_blocks : (offset size : ℕ) → offset ≤ 1048576 → 2 ≤ size → offset / size ≤ 1048575
 few_blocks offset size h k = div-le_of_le-mul size (omega (arith, h, k))
@@ -153,7 +153,7 @@ small_block : (by : Bool) (offset szx len : ℕ) → szx ≤ 6 → offset ≤ 10
 small_block by offset szx len small low = go (by || nat_lt (size_of szx) len)
   where
     go : (c : Bool) → IsSmallBlock (cond c
-        (Some (offset / size_of szx, nat_lt (offset + size_of szx) len, szx)) None)
+        (Some (record { num = offset / size_of szx; more = nat_lt (offset + size_of szx) len; szx = szx })) None)
     go true = (few_blocks offset (size_of szx) low (size_least szx), small)
     go false = tt
 

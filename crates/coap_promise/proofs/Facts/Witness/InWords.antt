@@ -52,6 +52,7 @@ configured delays each few = record {
   some = omega arith;
   limit = (let most : 4194303 ≤ 4194303 = omega arith in most);
   server_limit = (omega arith, omega arith);
+  base = record { multiple = refl; below = omega arith };
   delays = each;
   few = few;
   plains = All-nil IsPath;

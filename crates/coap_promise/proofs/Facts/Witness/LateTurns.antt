@@ -96,6 +96,7 @@ by_16_range = record {
   some = omega arith;
   limit = config_range.limit;
   server_limit = config_range.server_limit;
+  base = config_range.base;
   delays = config_range.delays;
   few = omega arith;
   plains = config_range.plains;

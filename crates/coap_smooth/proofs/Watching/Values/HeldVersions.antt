@@ -1,9 +1,10 @@
--- What a path holds later is the same, or has a later version; each version is the number of a change (RFC 7252,
--- section 5.10.6).
-use Rattle.std.proofs.Common.{◌≡◌, ◌≤◌, ◌<◌, ◌⊎◌, inl, inr, ℕ, ◌+◌, ◌^◌, Bool, true, false, Option, Some, None, List}
-use Rattle.std.proofs.Common.{[], ◌∷◌, ◌++◌, refl, ap, sym, subst, ◌∙◌, cond, arith}
+-- What a path holds later is the same, or has a later version; each version is that of a change (RFC 7252, section
+-- 5.10.6).
+use Rattle.std.proofs.Common.{◌≡◌, ◌≤◌, ◌<◌, ◌⊎◌, inl, inr, ℕ, ◌+◌, ◌%◌, ◌^◌, Bool, true, false, Option, Some, None}
+use Rattle.std.proofs.Common.{List, [], ◌∷◌, ◌++◌, refl, ap, sym, subst, ◌∙◌, cond, arith}
 use Rattle.coap_types.specs.Path.{same_path}
 use Rattle.coap_observe.specs.Versions.{sequence_number}
+use Rattle.coap_resource.specs.Base.{IsBase}
 use Rattle.coap_resource.specs.Content.{Held}
 use Rattle.coap_resource.specs.Limits.{Limits}
 use Rattle.coap_server.specs.Follows.Holds.{Change, change, counted, held_then, changes, held_at, HoldsChanges}
@@ -18,12 +19,42 @@ use Rattle.coap_promise.specs.Words.{holds_at, last_at, changes_in}
 use Rattle.coap_smooth.proofs.Smoothly.Ticks.NothingIsLeft.{ForServer, server_behind}
 use Rattle.coap_smooth.specs.HeldVersions.{IsOrFollows, VersionsRise, VersionsAreCounted, VersionsAreNumbers}
 
--- a small version is its own sequence number
-pub own_number : (version : ℕ) → version < 2 ^ 23 → sequence_number version ≡ version
-own_number version low = omega (arith, low)
+-- a version that follows the base soon follows it by its own sequence number
+own_number : (base version : ℕ) → IsBase base → base ≤ version → version < base + 2 ^ 23
+    → base + sequence_number version ≡ version
+own_number base version is from low =
+    let multiple : base % 16777216 ≡ 0 = is.multiple in
+    omega (arith, multiple, from, low)
 
 module _ (limits : Limits) (szx : ℕ) where
-  -- a version is the number of a change, so at most that of the last one
+  -- the last change has the base as its version, or a later one
+  from_base : (t : List Call) → limits.base ≤ changes limits szx t
+  from_base [] = omega arith
+  from_base (c ∷ t) = let k = from_base t in omega (arith, k)
+
+  -- a version is that of a change, so it comes after the base
+  pub comes_after : (path : List (List ℕ)) (held : Held) (t : List Call) → AreStamped limits szx t
+      → HoldsChanges limits szx t
+      → held_at limits szx path t ≡ Some held → limits.base < held.version
+  comes_after path held [] stamps holds is = absurd (cc is)
+  comes_after path held (c ∷ t) stamps holds is =
+      by (change (own_of limits szx t) c) refl is (comes_after path held t stamps.1 holds.1)
+    where
+      by : (o : Option Change) → change (own_of limits szx t) c ≡ o
+          → held_then path o (held_at limits szx path t) ≡ Some held
+          → (held_at limits szx path t ≡ Some held → limits.base < held.version) → limits.base < held.version
+      by None made h before = before h
+      by (Some x) made h before = in_path (same_path x.path path) h
+        where
+          in_path : (b : Bool) → cond b x.held (held_at limits szx path t) ≡ Some held → limits.base < held.version
+          in_path true k =
+              let a = stamps.0.held x held made k in
+              let b = holds.0.version x made in
+              let least = from_base t in
+              omega (arith, a, b, least)
+          in_path false k = before k
+
+  -- a version is that of a change, so at most that of the last one
   pub at_most : (path : List (List ℕ)) (held : Held) (t : List Call) → AreStamped limits szx t
       → HoldsChanges limits szx t
       → held_at limits szx path t ≡ Some held → held.version ≤ changes limits szx t
@@ -81,6 +112,11 @@ module _ (config : Config) where
   version_counted path held t law is = at_most config.limits config.server_szx path held (server_trace config t)
       (stamps_of t law) (changes_of t law) is
 
+  version_after : (path : List (List ℕ)) (held : Held) (t : List Entry) → ForServer config t
+      → last_at config path t ≡ Some held → config.limits.base < held.version
+  version_after path held t law is = comes_after config.limits config.server_szx path held (server_trace config t)
+      (stamps_of t law) (changes_of t law) is
+
   -- the changes are no fewer later
   pub fewer_before : (newer older : List Entry) → changes_in config older ≤ changes_in config (newer ++ older)
   fewer_before [] older = omega arith
@@ -131,16 +167,24 @@ module _ (config : Config) where
   pub versions_counted : (all : List Entry) → ForServer config all → VersionsAreCounted config all
   versions_counted all law path newer older held split is =
       let before : ForServer config older = server_behind config newer older (subst (ForServer config) split law) in
-      let low = version_counted path held older before (last_of path held older before is) in
+      let last = last_of path held older before is in
+      let low = version_counted path held older before last in
       record {
+        after_base = version_after path held older before last;
         so_far = low;
         in_all = (let n = fewer_before newer older in let e = ap (λ t. changes_in config t) split in omega
             (arith, low, n, e));
       }
 
-  pub versions_are_numbers : (all : List Entry) → ForServer config all → changes_in config all < 2 ^ 23
-      → VersionsAreNumbers config all
-  versions_are_numbers all law few path newer older held split is =
-      let k = (versions_counted all law path newer older held split is).in_all in
-      let low : held.version < 2 ^ 23 = omega (arith, k, few) in
-      record { low = low; is = own_number held.version low }
+  pub versions_are_numbers : (all : List Entry) → ForServer config all → IsBase config.limits.base
+      → changes_in config all < config.limits.base + 2 ^ 23 → VersionsAreNumbers config all
+  versions_are_numbers all law base few path newer older held split is =
+      let k = versions_counted all law path newer older held split is in
+      let most = k.in_all in
+      let least = k.after_base in
+      let low : held.version < config.limits.base + 2 ^ 23 = omega (arith, most, few) in
+      record {
+        after_base = least;
+        low = low;
+        is = own_number config.limits.base held.version base (omega (arith, least)) low;
+      }

@@ -9,6 +9,7 @@ use Rattle.coap_types.specs.Piece.{size_of}
 use Rattle.coap_types.specs.Recognised.{lacks_critical}
 use Rattle.coap_types.specs.declared.direction.Direction.TheVariants as direction
 use Rattle.coap_types.specs.declared.message.TheConstants.Code as codes
+use Rattle.coap_types.specs.declared.block.Block.{Block}
 use Rattle.coap_types.specs.declared.option_number.TheConstants.{BLOCK2 as block2}
 use Rattle.coap_codec.specs.Message.{Message}
 use Rattle.coap_observe.specs.Observers.{Observer}
@@ -56,8 +57,9 @@ use Rattle.coap_promise.proofs.Facts.Requests.AtAnyTime.{at_any_time}
 
 -- a body that fits the block needs no Block2
 one_block : (szx len : ℕ) → len ≤ size_of szx → block2_of false 0 szx len ≡ None
-one_block szx len fits = ap (λ b. cond b (Some (0 / size_of szx, nat_lt (0 + size_of szx) len, szx)) None)
-    (le-ltb (size_of szx) len fits)
+one_block szx len fits =
+    let one : Block = record { num = 0 / size_of szx; more = nat_lt (0 + size_of szx) len; szx = szx } in
+    ap (λ b. cond b (Some one) None) (le-ltb (size_of szx) len fits)
 
 module _ (config : Config) where
   -- what a path holds behind some entries fits a block

@@ -9,6 +9,7 @@ use Rattle.coap_types.proofs.Facts.Traces.{Sometime_back}
 use Rattle.coap_codec.specs.Message.{Message}
 use Rattle.coap_observe.specs.Newer.{Newer}
 use Rattle.coap_observe.specs.Versions.{sequence_number}
+use Rattle.coap_resource.specs.Base.{IsBase}
 use Rattle.coap_resource.specs.Content.{Held}
 use Rattle.coap_resource.specs.RequestOptions.{tag_of}
 use Rattle.coap_resource.specs.Serves.{Reply, content_reply}
@@ -55,9 +56,8 @@ use Rattle.coap_promise.proofs.Facts.Requests.HoldsChanges.{last_is}
 use Rattle.coap_promise.proofs.Facts.Requests.OfACall.{Lawful}
 use Rattle.coap_smooth.proofs.Smoothly.Ticks.NothingIsLeft.{ForClient, ForServer, client_behind, server_behind}
 use Rattle.coap_smooth.specs.NoticesCome.{notice_message, server_moment}
-use Rattle.coap_smooth.specs.HeldVersions.{IsOrFollows}
+use Rattle.coap_smooth.specs.HeldVersions.{IsNumber, IsOrFollows}
 use Rattle.coap_smooth.specs.NoticesTaken.{IsTakenIn}
-use Rattle.coap_smooth.proofs.Watching.Values.HeldVersions.{own_number}
 use Rattle.coap_smooth.proofs.Watching.Values.Known.{Known}
 use Rattle.coap_smooth.proofs.Watching.Notifications.Newest.{registered_taken}
 use Rattle.coap_smooth.proofs.Watching.Notifications.NoticesTell.{NotifiedBy, notified_by, tells_held}
@@ -78,12 +78,14 @@ client_more P [] es h = h
 client_more P (OfClient c ∷ later) es h = inr (client_more P later es h)
 client_more P (OfServer c ∷ later) es h = client_more P later es h
 
-small_version : (v : ℕ) → v < 2 ^ 23 → v < 2 ^ 64
-small_version v h = omega (arith, h)
+small_version : (base v : ℕ) → IsBase base → v < base + 2 ^ 23 → v < 2 ^ 64
+small_version base v is h =
+    let below : base < 9223372036854775808 = is.below in
+    omega (arith, h, below)
 
--- a later version of the two is newer, where both are small
-later_newer : (v w s t n m : ℕ) → v < 2 ^ 23 → w < 2 ^ 23 → v < w → n ≡ v → m ≡ w → Newer n s m t
-later_newer v w s t n m a b less i j = inl (omega (arith, less, i, j), omega (arith, a, b, i, j))
+-- a later version of the two is newer, where both follow the base soon, each by its number
+later_newer : (base v w s t n m : ℕ) → w < base + 2 ^ 23 → v < w → base + n ≡ v → base + m ≡ w → Newer n s m t
+later_newer base v w s t n m low less i j = inl (omega (arith, less, i, j), omega (arith, low, i, j))
 
 module _ (config : Config) (x : Observed) (held : Held) (turn : Turn) (past : List Turn) (k : Known config x turn past)
     (now : holds_at config x.path (entries_of (turn ∷ past)) ≡ Some held) where
@@ -114,17 +116,20 @@ module _ (config : Config) (x : Observed) (held : Held) (turn : Turn) (past : Li
   no_later newer older other is there =
       k.rise x.path [] newer older other held is there (subst (λ l. holds_at config x.path l ≡ Some held) is now)
 
-  low : (newer older : List Entry) (other : Held) → es ≡ newer ++ older → holds_at config x.path older ≡ Some other
-      → other.version < 2 ^ 23
-  low newer older other is there = (k.numbers x.path newer older other is there).low
+  number : (newer older : List Entry) (other : Held) → es ≡ newer ++ older → holds_at config x.path older ≡ Some other
+      → IsNumber config other
+  number newer older other is there = k.numbers x.path newer older other is there
 
-  held_low : held.version < 2 ^ 23
-  held_low = low [] es held refl now
+  held_number : IsNumber config held
+  held_number = number [] es held refl now
+
+  is_small : (other : Held) → IsNumber config other → other.version < 2 ^ 64
+  is_small other is = small_version config.limits.base other.version k.run.legal.range.base is.low
 
   -- a notification that was taken, and what it shows
   record Took (n : Newly) : Type 0 where
     shows : Held
-    is_low : shows.version < 2 ^ 23
+    is_number : IsNumber config shows
     shown : shown_by n ≡ shown_as shows
     same : IsOrFollows held shows
     told : Telling
@@ -159,7 +164,7 @@ module _ (config : Config) (x : Observed) (held : Held) (turn : Turn) (past : Li
       ∙ sym (append_assoc there.newer (OfClient c.0 ∷ s.between) (OfServer s.call ∷ s.oldest))) in
       record {
         shows = s.held;
-        is_low = low front (OfServer s.call ∷ s.oldest) s.held where_told s.told.behind;
+        is_number = number front (OfServer s.call ∷ s.oldest) s.held where_told s.told.behind;
         shown = s.shown;
         same = no_later front (OfServer s.call ∷ s.oldest) s.held where_told s.told.behind;
         told = s.told.told;
@@ -180,7 +185,7 @@ module _ (config : Config) (x : Observed) (held : Held) (turn : Turn) (past : Li
       cc s
 
   names : (n : Newly) (t : Took n) → Names t.shows.version (tag_in n.message)
-  names n t = record { small = small_version t.shows.version t.is_low; is = shows_tag n t }
+  names n t = record { small = is_small t.shows t.is_number; is = shows_tag n t }
 
   next : Always (RisesNext config.client_sizes x.number) (client_of es)
   next = each_next config k.run.legal.range.server_szx k.run.legal.range.limit x.number es lawful formats
@@ -288,7 +293,7 @@ module _ (config : Config) (x : Observed) (held : Held) (turn : Turn) (past : Li
               let s : Sometime (Taken z) (client_of es) = there z (inl of_it) in
               let t : Took z = took z refl s in
               let one = one_version held.version t.shows.version (tag_in m)
-              (record { small = small_version held.version held_low; is = read.tag }) (names z t) in
+              (record { small = is_small held held_number; is = read.tag }) (names z t) in
               let least = no_less z refl t s in
               omega (arith, one, least)
 
@@ -311,13 +316,13 @@ module _ (config : Config) (x : Observed) (held : Held) (turn : Turn) (past : Li
               let least = no_less b of_b t s in
               elim (dec_le held.version t.shows.version) [
                 | yes more ↦ omega (arith, more, least)
-                | no less ↦ absurd (o.older (later_newer t.shows.version held.version b.mark.at
+                | no less ↦ absurd (o.older (later_newer config.limits.base t.shows.version held.version b.mark.at
                     (moment_of (C.own_of config.client_sizes (client_of older)) d) b.mark.number (sequence_in m)
-                    t.is_low
-                    held_low (omega (arith, less))
-                    (sequence_taken config.client_sizes b (client_of es) taken_all s ∙ (shows_sequence b t
-                    ∙ own_number t.shows.version t.is_low))
-                    (read.sequence ∙ own_number held.version held_low)))
+                    held_number.low (omega (arith, less))
+                    (ap (λ n. config.limits.base + n)
+                    (sequence_taken config.client_sizes b (client_of es) taken_all s ∙ shows_sequence b t)
+                    ∙ t.is_number.is)
+                    (ap (λ n. config.limits.base + n) read.sequence ∙ held_number.is)))
               ]
 
           noticed : IsLive config.client_sizes x.number x.path m.token (client_of older) × (notes d ≡ Some m)

@@ -141,7 +141,7 @@ returns-clause-rise c config events turns run legal = versions_rise config (entr
 
 pub returns-clause-numbers : goal.returns-clause-numbers
 returns-clause-numbers c config events turns run legal smooth =
-    versions_are_numbers config (entries_of turns) run.server smooth.smooth.versions
+    versions_are_numbers config (entries_of turns) run.server legal.range.base smooth.smooth.versions
 
 pub returns-clause-shows : goal.returns-clause-shows
 returns-clause-shows c config events turns run legal x alone fits limit =

@@ -6,7 +6,7 @@ invariant_of-self g c =
     let d = c.self.inside in
     still_plain d.addresses d.client_setup (record { szx = d.client_szx; limit = d.client_limit }) d.server_setup
     d.server_szx
-    (record { changes = d.changes; body = d.server_limit }) d.delays.items d.plains.items
+    (record { changes = d.changes; body = d.server_limit; base = d.base }) d.delays.items d.plains.items
     c.give_plain.new.plains.items c.args.path.now c.give_plain.result
     c.self.invariant (record { bounds = c.segments-path.ensures.bounds; bytes = c.segments-path.ensures.bytes })
     c.give_plain.ensures.given c.give_plain.ensures.err
