@@ -58,7 +58,8 @@ enum {
     KS_BAD_BLOCK_SIZE = -7, /* ks_config.block_size is none of 0, 16, 32, 64, 128, 256, 512 and 1,024 */
     KS_BAD_BODY_LIMIT = -8, /* ks_config.body_limit is over 1,048,576 */
     KS_BAD_REMEMBERED = -9, /* ks_config.remembered is over 1,048,576 */
-    KS_BAD_CHANGES = -10    /* ks_config.changes is over 4,194,303 */
+    KS_BAD_CHANGES = -10,   /* ks_config.changes is over 4,194,303 */
+    KS_BAD_BASE = -11       /* ks_config.base is no multiple of 2^24, or not below 2^63 */
 };
 
 #define KS_VERSION 200u         /* of this header: 0.2.0 */
@@ -83,8 +84,22 @@ typedef struct { uint8_t ip[4]; uint16_t port; } ks_address;
  *   remembered  how many messages are remembered at once, to tell repeats: up to 1,048,576 (4,096). One is remembered for
  *               247 s, with its reply of up to 1,152 bytes; while all places are taken, new messages go unanswered
  *   changes     how many changes a server's store takes in 256 s: up to 4,194,303 (4,194,303); a client has no use for it
+ *   base        the version after which a server's versions begin: a multiple of 2^24 below 2^63. With 0 the first is 1. A
+ *               server that begins anew at its address should have a base that ks_base draws for each of its lives: else
+ *               an entity-tag of a life before names another body. A client has no use for it
  * Later versions add fields at the end; an older library refuses the larger size. */
-typedef struct { uint32_t size; uint32_t block_size; uint32_t body_limit; uint32_t remembered; uint32_t changes; } ks_config;
+typedef struct {
+    uint32_t size;
+    uint32_t block_size;
+    uint32_t body_limit;
+    uint32_t remembered;
+    uint32_t changes;
+    uint64_t base;
+} ks_config;
+
+/* The base that 39 bits of a random word choose: `config.base = ks_base(word())`. Two lives of a server share a version
+ * with a chance of some 2^-38; no order between two lives is promised. */
+uint64_t ks_base(uint64_t word);
 
 /* 24 random bytes: the word picks the first Message ID and token, the keys those of the hash of what is remembered. */
 typedef struct { uint64_t word; uint64_t key0; uint64_t key1; } ks_seed;
@@ -99,8 +114,8 @@ typedef struct { uint64_t word; uint64_t key0; uint64_t key1; } ks_seed;
 /* ---- The server -------------------------------------------------------------------------------------------------- */
 
 /* Makes a server that holds nothing; what the handle held is freed. KS_OK; KS_BAD_SIZE, KS_BAD_BLOCK_SIZE,
- * KS_BAD_BODY_LIMIT, KS_BAD_REMEMBERED, KS_BAD_CHANGES, KS_NO_MEMORY, after which the handle holds what it held. A number
- * names a field that is wrong, and KS_NO_MEMORY says that none is. */
+ * KS_BAD_BODY_LIMIT, KS_BAD_REMEMBERED, KS_BAD_CHANGES, KS_BAD_BASE, KS_NO_MEMORY, after which the handle holds what it
+ * held. A number names a field that is wrong, and KS_NO_MEMORY says that none is. */
 int32_t ks_server_new(ks_server *handle, const ks_config *config, const ks_seed *seed);
 
 /* Frees it. The handle is empty then: it may be freed again, and used for a new end. */
@@ -185,7 +200,7 @@ int32_t ks_server_applied(ks_server *handle, ks_applied *done, char *room, size_
 /* ---- The client of one server ------------------------------------------------------------------------------------ */
 
 /* Makes a client of that server, to which nothing has happened; what the handle held is freed. As ks_server_new,
- * but for KS_BAD_CHANGES. */
+ * but for KS_BAD_CHANGES and KS_BAD_BASE. */
 int32_t ks_client_new(ks_client *handle, const ks_address *server, const ks_config *config, const ks_seed *seed);
 
 /* Frees it, as ks_server_free does. What it asked for is not cancelled: an observation ends at the server's next
@@ -355,6 +370,7 @@ static inline const char *ks_answer_text(int32_t answer) {
     case KS_BAD_BODY_LIMIT: return "the limit of bodies is not 1 to 1,048,576";
     case KS_BAD_REMEMBERED: return "the number of remembered messages is not 1 to 1,048,576";
     case KS_BAD_CHANGES: return "the number of changes is not 1 to 4,194,303";
+    case KS_BAD_BASE: return "the base of versions is no multiple of 2^24 below 2^63";
     case KS_SET_TOO_LARGE: return "the body is longer than the server's limit";
     case KS_SET_TOO_MANY_PATHS: return "256 other paths hold something";
     case KS_SET_RATE_EXCEEDED: return "the window of 256 s has no change left";

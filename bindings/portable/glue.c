@@ -175,8 +175,9 @@ static void get_address(ks_end *e, u32 at, ks_address *a) {
 
 static u32 lent_config(ks_end *e, const ks_config *c) {
     const u32 fields[] = {c->size, c->block_size, c->body_limit, c->remembered, c->changes};
-    u32 at = take(e, sizeof fields);
+    u32 at = take(e, sizeof *c);
     for (u32 i = 0; at != 0 && i < 5; i++) put_number(e, at + 4 * i, fields[i], 4);
+    if (at != 0) put_number(e, at + offsetof(ks_config, base), c->base, 8);
     return at;
 }
 
@@ -215,6 +216,14 @@ uint32_t ks_version(void) {
     uint32_t version = Z_knifesilverZ_ks_version(&e->module);
     end_free(e);
     return version;
+}
+
+uint64_t ks_base(uint64_t word) {
+    ks_end *e = end_new();
+    if (e == NULL) return 0;
+    uint64_t base = Z_knifesilverZ_ks_base(&e->module, word);
+    end_free(e);
+    return base;
 }
 
 /* ---- What both ends have ---- */

@@ -60,6 +60,27 @@ static void each_field(void) {
     both(&config);
 }
 
+/* Versions begin after the base: of it a server alone is asked. */
+static void base(void) {
+    ks_config config = config_of(0);
+    ks_seed seed = {1, 2, 3};
+    uint64_t version;
+    config.base = 1;
+    IS(ks_server_new(&server, &config, &seed), KS_BAD_BASE);
+    IS(ks_client_new(&client, &there, &config, &seed), KS_OK);
+    config.base = (uint64_t)1 << 63;
+    IS(ks_server_new(&server, &config, &seed), KS_BAD_BASE);
+    config.base = ks_base(UINT64_MAX);
+    IS(config.base == 0x7fffffffff000000u, 1);
+    IS(ks_base(0), 0);
+    IS(ks_base(1), 1 << 24);
+    IS(ks_server_new(&server, &config, &seed), KS_OK);
+    IS(ks_server_set(&server, 0, P("a"), -1, P("1"), &version), KS_OK);
+    IS(version == config.base + 1, 1);
+    ks_server_free(&server);
+    ks_client_free(&client);
+}
+
 /* Of changes a server alone is asked. */
 static void changes(void) {
     ks_config config = config_of(0);
@@ -147,6 +168,7 @@ int main(void) {
     handles();
     each_field();
     changes();
+    base();
     a_server_remembers(1, 1);
     a_server_remembers(2, 2);
     a_server_remembers(0, 4096);

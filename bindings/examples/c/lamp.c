@@ -110,7 +110,7 @@ int main(int argc, char **argv) {
         return fprintf(stderr, "lamp serve PORT | lamp switch PORT on|off\n"), 2;
     if (ks_version() != KS_VERSION) return fprintf(stderr, "the library is not the header's\n"), 2;
     uint16_t port = (uint16_t)atoi(argv[2]);
-    ks_config config = {0};
+    ks_config config = {.size = sizeof config, .base = ks_base(random_word())};
     ks_seed seed = {random_word(), random_word(), random_word()};
     struct sockaddr_in a = {.sin_family = AF_INET, .sin_port = htons(serves ? port : 0), .sin_addr = {htonl(INADDR_LOOPBACK)}};
     udp = socket(AF_INET, SOCK_DGRAM, 0);

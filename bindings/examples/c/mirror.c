@@ -88,7 +88,7 @@ int main(int argc, char **argv) {
     if (argc < 3) return fprintf(stderr, "mirror PORT DEVICE [PATH [FRESH_MS]]\n"), 2;
     if (ks_version() != KS_VERSION) return fprintf(stderr, "the library is not the header's\n"), 2;
     ks_address device = {{127, 0, 0, 1}, (uint16_t)atoi(argv[2])};
-    ks_config usual = {0};
+    ks_config usual = {.size = sizeof usual, .base = ks_base(random_word())};
     ks_seed seeds[] = {{random_word(), random_word(), random_word()}, {random_word(), random_word(), random_word()}};
     if (ks_client_new(&shown.client, &device, &usual, &seeds[OF_DEVICE]) != KS_OK) return 1;
     if (ks_server_new(&server, &usual, &seeds[OWN]) != KS_OK) return 1;

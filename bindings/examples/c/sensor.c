@@ -87,7 +87,7 @@ int main(int argc, char **argv) {
                             .sin_addr = {htonl(INADDR_LOOPBACK)}};
     udp = socket(AF_INET, SOCK_DGRAM, 0);
     if (udp < 0 || bind(udp, (struct sockaddr *)&a, sizeof a) < 0) return perror("bind"), 1;
-    ks_config config = {0};
+    ks_config config = {.size = sizeof config, .base = ks_base(random_word())};
     ks_seed seed = {random_word(), random_word(), random_word()};
     if (ks_server_new(&server, &config, &seed) != KS_OK || list() != KS_OK) return 1;
     for (;;) {

@@ -72,7 +72,7 @@ int main(int argc, char **argv) {
     if (ks_version() != KS_VERSION) return fprintf(stderr, "the library is not the header's\n"), 2;
     uint64_t period = argc > 3 ? strtoull(argv[3], NULL, 10) : 5000, next = 0, due;
     if ((udp = ks_udp6_open(argc > 2 ? argv[2] : "::", (uint16_t)atoi(argv[1]))) < 0) return perror("sensor6"), 1;
-    ks_config config = {0};
+    ks_config config = {.size = sizeof config, .base = ks_base(random_word())};
     ks_seed seed = random_seed();
     if (ks_server_new(&server, &config, &seed) != KS_OK || !tell_links(&server)) return 1;
     ks_names_init(&names, places, PEERS, DAY_MS, random_word(), random_word());

@@ -66,7 +66,9 @@ private:
 
 static int serve(std::uint16_t port) {
     Socket socket(port);
-    Server server;
+    knifesilver::Config config = {};
+    config.base = ks_base(knifesilver::random_word());
+    Server server(config);
     server.set(now(), "lamp", "off", 0);
     for (;;) {
         server.tick(now());

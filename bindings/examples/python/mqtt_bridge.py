@@ -27,7 +27,7 @@ import secrets
 import sys
 
 import paho.mqtt.client as mqtt
-from knifesilver import Refused
+from knifesilver import Config, Refused, drawn_base
 from knifesilver.aio import PORT, Server
 
 QOS = 1
@@ -93,7 +93,7 @@ def message_of(run, applied):
 async def bridge(port, host, broker_port, name, room):
     """Runs until it is cancelled."""
     run = secrets.token_hex(8)
-    async with Server(port=port) as server:
+    async with Server(port=port, config=Config(base=drawn_base())) as server:
 
         def command(path, body):
             try:

@@ -83,7 +83,7 @@ fn main() -> Result<(), Box<dyn Error>> {
         let client = Client::new(&Config::default(), SocketAddrV4::new(Ipv4Addr::LOCALHOST, *at), Instant::now())?;
         clients.push(Source { client, socket: open(end, 0, &to)?, watched: None, again: Instant::now() });
     }
-    let mut config = Config::default();
+    let mut config = Config::default().with_drawn_base();
     // It takes 265 new messages a second for good, and not the usual 16.
     config.remembered = 65_536;
     let mut server = Server::new(&config, Instant::now())?;

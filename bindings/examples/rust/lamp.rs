@@ -35,7 +35,8 @@ fn main() -> Result<(), Box<dyn std::error::Error>> {
     }
     let words: Vec<String> = std::env::args().skip(1).collect();
     let [port] = words.as_slice() else { return Err("lamp PORT".into()) };
-    let mut server = Server::open(SocketAddrV4::new(Ipv4Addr::LOCALHOST, port.parse()?), &Config::default())?;
+    let config = Config::default().with_drawn_base();
+    let mut server = Server::open(SocketAddrV4::new(Ipv4Addr::LOCALHOST, port.parse()?), &config)?;
     let mut lamp = Lamp { is_on: false };
     server.run(TURN, |server, _told| {
         lamp.follow(server.get("lamp"));

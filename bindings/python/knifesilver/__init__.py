@@ -23,7 +23,7 @@ if sys.version_info[:2] < OLDEST_PYTHON:
     )
 
 from ._library import LibraryError, version
-from .ends import Client, Server, peek
+from .ends import Client, Server, drawn_base, peek
 from .errors import *
 from .errors import __all__ as _errors
 from .values import (
@@ -53,6 +53,7 @@ __all__ = [
     "ReportKind",
     "Representation",
     "Server",
+    "drawn_base",
     "path_of",
     "peek",
     "segments_of",

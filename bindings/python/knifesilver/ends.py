@@ -53,6 +53,12 @@ def _random_word() -> int:
     return secrets.randbits(_WORD_BITS)
 
 
+def drawn_base() -> int:
+    """A random `Config.base`. A server that begins anew at its address should have one for each of its lives: else an
+    entity-tag of a life before names another body. No order between two lives is promised."""
+    return library.ks_base(_random_word())
+
+
 def _moment(now: int) -> int:
     return min(max(now, 0), _GREATEST)
 

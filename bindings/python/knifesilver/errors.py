@@ -112,6 +112,7 @@ _REFUSED: Dict[str, Type[Refused]] = {
     "KS_BAD_BODY_LIMIT": BadConfig,
     "KS_BAD_REMEMBERED": BadConfig,
     "KS_BAD_CHANGES": BadConfig,
+    "KS_BAD_BASE": BadConfig,
     "KS_CALL_QUEUE_FULL": QueueFull,
     "KS_CANCEL_QUEUE_FULL": QueueFull,
 }

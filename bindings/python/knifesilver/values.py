@@ -95,6 +95,9 @@ class Config(NamedTuple):
     remembered: int = 0
     #: How many changes a server's store takes in 256 s: up to 4,194,303 (4,194,303).
     changes: int = 0
+    #: The version after which a server's versions begin: a multiple of 2**24 below 2**63, as `drawn_base()` is. With 0
+    #: the first is 1.
+    base: int = 0
 
 
 class Representation(NamedTuple):
@@ -175,7 +178,7 @@ def raw_config(config: Config) -> Any:
     it = made("ks_config")
     it.size = ctypes.sizeof(it)
     for field, value in config._asdict().items():
-        if not 0 <= value < 2**32:
+        if not 0 <= value < (2**64 if field == "base" else 2**32):
             raise ValueError(f"Config.{field} is {value}")
         setattr(it, field, value)
     return it

@@ -174,7 +174,7 @@ class Refusals(unittest.TestCase):
             self.assertIsInstance(self.refused("KS_CALL_QUEUE_FULL", client.observe, 0, "a"), QueueFull)
 
     def test_of_a_configuration(self):
-        wrong = {"block_size": 17, "body_limit": 1_048_577, "remembered": 1_048_577, "changes": 4_194_304}
+        wrong = {"block_size": 17, "body_limit": 1_048_577, "remembered": 1_048_577, "changes": 4_194_304, "base": 1}
         for field, number in wrong.items():
             why = self.refused(f"KS_BAD_{field.upper()}", Server, Config(**{field: number}))
             self.assertIsInstance(why, BadConfig)

@@ -39,6 +39,8 @@ errors! {
         Remembered = "the number of remembered messages is not 1 to 1,048,576",
         /// No window takes so many changes.
         Changes = "the number of changes is not 1 to 4,194,303",
+        /// No versions begin after this one.
+        Base = "the base of versions is no multiple of 2^24 below 2^63",
     }
 
     /// Why a server's resource is not changed.
@@ -147,6 +149,7 @@ pub(crate) fn made(answer: i32) -> Result<(), NewError> {
         raw::KS_BAD_BODY_LIMIT => Err(NewError::BodyLimit),
         raw::KS_BAD_REMEMBERED => Err(NewError::Remembered),
         raw::KS_BAD_CHANGES => Err(NewError::Changes),
+        raw::KS_BAD_BASE => Err(NewError::Base),
         _ => Err(NewError::Memory),
     }
 }

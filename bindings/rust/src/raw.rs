@@ -18,6 +18,7 @@ pub const KS_BAD_BLOCK_SIZE: i32 = -7;
 pub const KS_BAD_BODY_LIMIT: i32 = -8;
 pub const KS_BAD_REMEMBERED: i32 = -9;
 pub const KS_BAD_CHANGES: i32 = -10;
+pub const KS_BAD_BASE: i32 = -11;
 pub const KS_SET_TOO_LARGE: i32 = 18;
 pub const KS_SET_TOO_MANY_PATHS: i32 = 19;
 pub const KS_SET_RATE_EXCEEDED: i32 = 20;
@@ -98,6 +99,7 @@ pub struct ks_config {
     pub body_limit: u32,
     pub remembered: u32,
     pub changes: u32,
+    pub base: u64,
 }
 
 #[repr(C)]
@@ -172,6 +174,7 @@ pub struct ks_message {
 #[rustfmt::skip]
 extern "C" {
     fn ks_version() -> u32;
+    fn ks_base(word: u64) -> u64;
     fn ks_server_new(handle: *mut ks_server, config: *const ks_config, seed: *const ks_seed) -> i32;
     fn ks_server_free(handle: *mut ks_server);
     fn ks_server_set(handle: *mut ks_server, now: u64, path: *const c_char, path_len: usize, format: i32, body: *const c_void, body_len: usize, version: *mut u64) -> i32;
@@ -211,6 +214,11 @@ pub const EMPTY: ks_handle = ks_handle { at: null_mut(), live: false };
 /// The version of the library that is linked.
 pub fn version() -> u32 {
     unsafe { ks_version() }
+}
+
+/// The base that this word chooses.
+pub fn base(word: u64) -> u64 {
+    unsafe { ks_base(word) }
 }
 
 /// What a datagram says.

@@ -25,13 +25,15 @@ pub struct Config {
     pub remembered: u32,
     /// How many changes a server's store takes in 256 s: 1 to 4,194,303.
     pub changes: u32,
+    /// The version after which a server's versions begin: a multiple of 2^24 below 2^63. With 0 the first is 1.
+    pub base: u64,
     /// Where the end's random numbers come from: the operating system, or for tests this seed.
     pub rng_seed: Option<u64>,
 }
 
 impl Default for Config {
     fn default() -> Config {
-        Config { block_size: 1024, body_limit: 65_536, remembered: 4_096, changes: 4_194_303, rng_seed: None }
+        Config { block_size: 1024, body_limit: 65_536, remembered: 4_096, changes: 4_194_303, base: 0, rng_seed: None }
     }
 }
 
@@ -60,6 +62,21 @@ impl Config {
         Config { changes, ..self }
     }
 
+    /// The same with versions of a server that begin after this one.
+    #[must_use]
+    pub fn with_base(self, base: u64) -> Config {
+        Config { base, ..self }
+    }
+
+    /// The same with versions that begin after a base that is drawn now. A server that begins anew at its address should
+    /// have one for each of its lives: else an entity-tag of a life before names another body (RFC 7252, section 5.10.6).
+    /// Two lives share a version with a chance of some 2^-38. No order between two lives is promised.
+    #[must_use]
+    pub fn with_drawn_base(self) -> Config {
+        let word = RandomState::new().build_hasher().finish();
+        self.with_base(raw::base(word))
+    }
+
     /// The same with random numbers from this seed, for tests: whoever knows it can guess Message IDs and tokens.
     #[must_use]
     pub fn with_rng_seed(self, seed: u64) -> Config {
@@ -73,6 +90,7 @@ impl Config {
             body_limit: self.body_limit,
             remembered: self.remembered,
             changes: self.changes,
+            base: self.base,
         }
     }
 }

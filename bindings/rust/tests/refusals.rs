@@ -36,6 +36,9 @@ fn configurations_are_refused() {
     assert_eq!(refused(|c| c.remembered = 1_048_576), (None, None));
     assert_eq!(refused(|c| c.remembered = 1), (None, None));
     assert_eq!(refused(|c| c.changes = 4_194_304), (Some(NewError::Changes), None));
+    assert_eq!(refused(|c| c.base = 1), (Some(NewError::Base), None));
+    assert_eq!(refused(|c| c.base = 1 << 63), (Some(NewError::Base), None));
+    assert_eq!(refused(|c| c.base = 1 << 24), (None, None));
     assert_eq!(refused(|c| c.block_size = 16), (None, None));
     assert_eq!(NewError::BodyLimit.to_string(), "the limit of bodies is not 1 to 1,048,576");
 }

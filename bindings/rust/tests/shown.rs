@@ -35,9 +35,11 @@ fn each_with_changes_one_field() {
     assert_eq!(usual.clone().with_block_size(16).with_body_limit(1), changed);
     changed.remembered = 2;
     changed.changes = 3;
+    changed.base = 1 << 24;
     changed.rng_seed = Some(4);
     let all = usual.clone().with_rng_seed(4).with_changes(3).with_remembered(2).with_body_limit(1).with_block_size(16);
-    assert_eq!(all, changed);
+    assert_eq!(all.with_base(1 << 24), changed);
+    assert_eq!(usual.clone().with_drawn_base().base % (1 << 24), 0);
     assert_eq!(usual, Config::default());
 }
 

@@ -3,8 +3,10 @@ use Rattle.std.specs.Prelude.{◌≡◌, ◌≤◌, ◌<◌, ◌+◌, ◌^◌, �
 use Rattle.coap_types.specs.declared.body_limit.TheConstants.{MAX_BODY_LIMIT as max_limit}
 use Rattle.coap_types.specs.declared.remembered.TheConstants.{MAX_REMEMBERED as max_remembered}
 use Rattle.coap_types.specs.declared.szx.TheConstants.{MAX_SZX as max_szx}
+use Rattle.coap_resource.specs.Base.{IsBase}
 use Rattle.coap_resource.specs.declared.tally.TheConstants.{MAX_CHANGES_PER_WINDOW as max_changes}
-use Rattle.knifesilver.specs.declared.answers.TheConstants.{BAD_BLOCK_SIZE as bad_block_size, BAD_SIZE as bad_size}
+use Rattle.knifesilver.specs.declared.answers.TheConstants.{BAD_BASE as bad_base, BAD_BLOCK_SIZE as bad_block_size}
+use Rattle.knifesilver.specs.declared.answers.TheConstants.{BAD_SIZE as bad_size}
 use Rattle.knifesilver.specs.declared.answers.TheConstants.{BAD_BODY_LIMIT as bad_body_limit, BAD_CHANGES as bad_changes}
 use Rattle.knifesilver.specs.declared.answers.TheConstants.{BAD_REMEMBERED as bad_remembered}
 use Rattle.knifesilver.specs.declared.config.KsConfig.{KsConfig}
@@ -45,6 +47,7 @@ pub record CanBeTaken (config : KsConfig) : Type 0 where
 pub record ServesWith (config : KsConfig) : Type 0 where
   pub taken : CanBeTaken config
   pub changes : config.changes ≤ max_changes
+  pub base : IsBase config.base
 
 -- the answer says what is wrong with the configuration
 abbrev pub SaysWrong : KsConfig → ℤ → Type 0
@@ -54,7 +57,9 @@ SaysWrong config answer =
     ⊎ ((answer ≡ bad_body_limit) × (max_limit < config.body_limit))
     ⊎ ((answer ≡ bad_remembered) × (max_remembered < config.remembered))
 
--- .. or, of a server, that no window takes so many changes
+-- .. or, of a server, that no window takes so many changes, or that no versions begin after that one
 abbrev pub SaysWrongOfServer : KsConfig → ℤ → Type 0
 SaysWrongOfServer config answer =
-    SaysWrong config answer ⊎ ((answer ≡ bad_changes) × (max_changes < config.changes))
+    SaysWrong config answer
+    ⊎ ((answer ≡ bad_changes) × (max_changes < config.changes))
+    ⊎ ((answer ≡ bad_base) × (IsBase config.base → ⊥))

@@ -17,12 +17,13 @@ use Rattle.knifesilver.specs.ServerHeld as server
 abbrev pub setup_of : KsConfig → (word : ℕ) → Setup
 setup_of config word = record { word = word; remembered = chosen default_remembered config.remembered }
 
--- a server, whose blocks have so many bytes (RFC 7959, section 2.2)
+-- a server, whose blocks have so many bytes (RFC 7959, section 2.2), and whose versions begin after the base
 abbrev pub IsFreshServer : KsConfig → (word : ℕ) → Option Held → Type 0
 IsFreshServer config word held = (szx : ℕ) × (2 ^ (szx + 4) ≡ chosen usual_block config.block_size)
     × server.HoldsLed (record {
       changes = chosen max_changes config.changes;
       body = chosen default_limit config.body_limit;
+      base = config.base;
     }) szx (setup_of config word) [] held
 
 -- a client of that server, likewise, and no report waits beside it

@@ -27,6 +27,8 @@ pub(crate) const BAD_BODY_LIMIT: i32 = -8;
 pub(crate) const BAD_REMEMBERED: i32 = -9;
 /// No window takes so many changes.
 pub(crate) const BAD_CHANGES: i32 = -10;
+/// No versions begin after this one.
+pub(crate) const BAD_BASE: i32 = -11;
 
 // C has these numbers in its header.
 const _: () = prove!(NOTHING == 0 && DONE == 1 && TOO_LONG == 2);
@@ -39,4 +41,4 @@ const _: () = prove!(
     BAD_SIZE == -6 && BAD_BLOCK_SIZE == -7 && BAD_BODY_LIMIT == -8 && BAD_REMEMBERED == -9
 );
 
-const _: () = prove!(BAD_CHANGES == -10);
+const _: () = prove!(BAD_CHANGES == -10 && BAD_BASE == -11);

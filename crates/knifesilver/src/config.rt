@@ -24,14 +24,16 @@ pub struct KsConfig {
     pub remembered: u32,
     /// How many changes a window of a server's store takes: 1 to 4,194,303, or 0 for that.
     pub changes: u32,
+    /// The version after which a server's versions begin: a multiple of 2^24 below 2^63.
+    pub base: u64,
 }
 
 // How many bytes a configuration has.
-const CONFIG_LEN: u32 = 20;
+const CONFIG_LEN: u32 = 32;
 // How many bytes a block has at most, where no other number is chosen (RFC 7959, section 2.2).
 const USUAL_BLOCK: u32 = 1_024;
 
-const _: () = prove!(CONFIG_LEN == 20 && USUAL_BLOCK == 1_024 && MAX_SZX == 6);
+const _: () = prove!(CONFIG_LEN == 32 && USUAL_BLOCK == 1_024 && MAX_SZX == 6);
 
 // The blocks of so many bytes.
 fn szx_of(block_size: u32) -> Option<Szx>

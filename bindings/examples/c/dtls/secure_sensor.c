@@ -97,7 +97,7 @@ static bool take_users(int count, char **words) {
 static bool begin_all(char **words) {
     dtls_config of_dtls = {.psk = key_of, .hint = "sensor"};
     uint64_t secret[DTLS_SECRET / 8];
-    ks_config config = {0};
+    ks_config config = {.size = sizeof config, .base = ks_base(random_word())};
     ks_seed seed = random_seed();
     if (getenv("IDLE_MS") != NULL) of_dtls.idle_ms = strtoull(getenv("IDLE_MS"), NULL, 10);
     for (size_t i = 0; i < DTLS_SECRET / 8; i++) secret[i] = random_word();

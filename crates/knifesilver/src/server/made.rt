@@ -1,18 +1,19 @@
 //! A server is made and freed.
 ghost use Rattle.std.specs.Prelude.{◌≡◌, ◌≢◌, ◌⊎◌, pos, None, Some, IfOk, IfErr, OnOk};
+ghost use Rattle.coap_resource.specs.Base.{IsBase, base_of_word};
 ghost use Rattle.knifesilver.specs.Answers.{IsAnswered, IsRefused};
 ghost use Rattle.knifesilver.specs.Configs.{SaysWrongOfServer, ServesWith, chosen};
 ghost use Rattle.knifesilver.specs.Fresh.{IsFreshServer};
 ghost use Rattle.knifesilver.specs.declared.held.Held.TheVariants.{Server as ServerHeld};
 
-use crate::answers::{BAD_CHANGES, NO_MEMORY, NOTHING};
+use crate::answers::{BAD_BASE, BAD_CHANGES, NO_MEMORY, NOTHING};
 use crate::config::{KsConfig, choice_of};
 use crate::handle::KsHandle;
 use crate::held::{Held, OurServer};
 use crate::seed::{KsSeed, hash_of};
 use coap_ends::Server;
 use coap_layer::Setup;
-use coap_resource::{MAX_CHANGES_PER_WINDOW, MapStore, Store};
+use coap_resource::{MAX_CHANGES_PER_WINDOW, MapStore, Store, VersionBase};
 use std::alloc::Global;
 
 // How many changes a window takes.
@@ -38,7 +39,11 @@ fn fresh_server(alloc: Global, config: &KsConfig, seed: &KsSeed) -> Result<OurSe
         Ok(choice) => choice,
         Err(answer) => return Err(answer),
     };
-    let Some(store) = MapStore::new_sized(alloc, changes_of(config.changes), choice.limit) else {
+    let Some(base) = VersionBase::new(config.base) else {
+        return Err(BAD_BASE);
+    };
+    let changes = changes_of(config.changes);
+    let Some(store) = MapStore::new_after(alloc, changes, choice.limit, base) else {
         return Err(BAD_CHANGES);
     };
     let setup = Setup {
@@ -46,6 +51,17 @@ fn fresh_server(alloc: Global, config: &KsConfig, seed: &KsSeed) -> Result<OurSe
         remembered: choice.remembered,
     };
     Ok(Server::with_setup(alloc, store, choice.szx, setup, hash_of(seed)))
+}
+
+/// The base that 39 bits of a random word choose.
+#[unsafe(no_mangle)]
+pub extern "C" fn ks_base(word: u64) -> u64
+    // The base that is drawn is the one that the word's last 39 bits choose.
+    ensures drawn { result ≡ base_of_word word }
+    // A base that is drawn is one with which a server can be made.
+    ensures within { IsBase result }
+{
+    VersionBase::drawn(word).get()
 }
 
 /// Makes a server; what the handle held is freed.

@@ -13,12 +13,17 @@ pub returns-clause-made : goal.returns-clause-made
 returns-clause-made c =
     let choice = c.in-Ok.choice in
     let changes = chosen max_changes c.args.config.now.changes in
-    let limits : Limits = record { changes = changes; body = chosen default_limit c.args.config.now.body_limit } in (
+    let base = c.args.config.now.base in
+    let limits : Limits = record {
+      changes = changes;
+      body = chosen default_limit c.args.config.now.body_limit;
+      base = base;
+    } in (
       choice.szx,
       c.in-Ok.ensures.block,
       subst (λ n. Led limits choice.szx (record { word = c.args.seed.now.word; remembered = n }) []
           (state_of content_of c.with_setup.result)) c.in-Ok.ensures.remembered
           (c.with_setup.ensures.led _ (c.in-Some.ensures.empty
-          ∙ ap (λ n. nothing (record { changes = n; body = choice.limit })) c.changes_of.ensures
-          ∙ ap (λ n. nothing (record { changes = changes; body = n })) c.in-Ok.ensures.limit)),
+          ∙ ap (λ n. nothing (record { changes = n; body = choice.limit; base = base })) c.changes_of.ensures
+          ∙ ap (λ n. nothing (record { changes = changes; body = n; base = base })) c.in-Ok.ensures.limit)),
     )
