@@ -2,7 +2,7 @@
 mod due;
 mod end;
 mod event;
-mod fetch;
+mod get_answer;
 mod heard;
 mod held;
 mod last_request;

@@ -11,12 +11,12 @@ ghost use Rattle.coap_client.specs.Object.Shown.{shown_asked, shown_report};
 
 use crate::client::end::{end_call, end_observation, fail};
 use crate::client::heard::Heard;
-use crate::client::notification::{noticed, registered};
-use crate::client::observation_fetch::fetch_answered;
+use crate::client::notification::{hear_notification, hear_registration};
+use crate::client::observation_fetch::hear_rest;
 use crate::client::operation::Waiting;
 use crate::client::parts::{Now, Parts};
 use crate::client::report::{CallId, Report};
-use crate::client::request::close;
+use crate::client::request::note_sending;
 use crate::client::taken_call::TakenCall;
 use coap_codec::View;
 use coap_exchange::Event;
@@ -78,19 +78,19 @@ fn happen_now<A: Allocator + Copy, H: BuildHasher>(
     ensures before { parts.new.asker.before ≡ parts.old.asker.before }
 {
     match event {
-        Event::Answer(m) => answered(parts, now, &m),
+        Event::Answer(m) => hear_answer(parts, now, &m),
         Event::Notice(m) => {
-            noticed(parts, now.at, &m)?;
+            hear_notification(parts, now.at, &m)?;
             Ok(None)
         }
-        Event::Timeout => Ok(failed(parts, Report::Timeout)),
-        Event::Reset => Ok(failed(parts, Report::Reset)),
-        Event::NoResponse => Ok(failed(parts, Report::NoResponse)),
+        Event::Timeout => Ok(hear_failure(parts, Report::Timeout)),
+        Event::Reset => Ok(hear_failure(parts, Report::Reset)),
+        Event::NoResponse => Ok(hear_failure(parts, Report::NoResponse)),
     }
 }
 
-// The operation that runs ends so.
-fn failed<A: Allocator + Copy, H: BuildHasher>(
+// The request of the operation that runs has failed: that ends it with this report.
+fn hear_failure<A: Allocator + Copy, H: BuildHasher>(
     parts: &mut Parts<A, H>,
     report: Report<A>,
 ) -> Option<(CallId, Token)>
@@ -106,7 +106,7 @@ fn failed<A: Allocator + Copy, H: BuildHasher>(
 }
 
 // The answer to the request of the operation that runs.
-fn answered<A: Allocator + Copy, H: BuildHasher>(
+fn hear_answer<A: Allocator + Copy, H: BuildHasher>(
     parts: &mut Parts<A, H>,
     now: Now,
     m: &View<'_>,
@@ -123,13 +123,13 @@ fn answered<A: Allocator + Copy, H: BuildHasher>(
         None => Ok(None),
         Some(Running::Dropped) => Ok(None),
         Some(Running::Started(Waiting::Calling(number, call))) => {
-            call_answered(parts, now, Ongoing { number, call }, m)
+            hear_for_call(parts, now, Ongoing { number, call }, m)
         }
         Some(Running::Started(Waiting::Registering(number, path))) => {
-            registered(parts, now.at, number, path, m)?;
+            hear_registration(parts, now.at, number, path, m)?;
             Ok(None)
         }
-        Some(Running::Fetching(number)) => fetch_answered(parts, now, number, m),
+        Some(Running::Fetching(number)) => hear_rest(parts, now, number, m),
         Some(Running::Cancelling(number)) => {
             end_observation(parts, number, Report::Cancelled);
             Ok(None)
@@ -145,7 +145,7 @@ struct Ongoing<A: Allocator> {
 }
 
 // The answer to the request of a call.
-fn call_answered<A: Allocator + Copy, H: BuildHasher>(
+fn hear_for_call<A: Allocator + Copy, H: BuildHasher>(
     parts: &mut Parts<A, H>,
     now: Now,
     ongoing: Ongoing<A>,
@@ -200,7 +200,7 @@ fn ask_next<A: Allocator + Copy, H: BuildHasher>(
     match call.send(&mut parts.asker, now) {
         Ok(given) => {
             parts.held.operations.run(Waiting::Calling(number, call));
-            Ok(close(parts, now.at, given))
+            Ok(note_sending(parts, now.at, given))
         }
         Err(refused) => {
             call.undo();

@@ -18,7 +18,7 @@ use crate::client::observations;
 use crate::client::operation::{Notified, Observation, Waiting};
 use crate::client::parts::Parts;
 use crate::client::report::{Report, give, give_some};
-use crate::client::responses::notified;
+use crate::client::responses::sequence_of;
 use crate::client::short_path::ShortPath;
 use coap_codec::View;
 use coap_observe::Watch;
@@ -28,7 +28,7 @@ use std::hash::BuildHasher;
 
 /// What the answer to the registration of an observation makes of a client: it is live where the answer
 /// is a notification. After an `Err` it is as before.
-pub fn registered<A: Allocator + Copy, H: BuildHasher>(
+pub fn hear_registration<A: Allocator + Copy, H: BuildHasher>(
     parts: &mut Parts<A, H>,
     at: Moment,
     number: u64,
@@ -44,7 +44,7 @@ pub fn registered<A: Allocator + Copy, H: BuildHasher>(
     ensures held { OnErr result (own_of parts.new.held ≡ running (Registering number path) (own_of parts.old.held)) }
     ensures before { parts.new.asker.before ≡ parts.old.asker.before }
 {
-    let Some(sequence) = notified(m) else {
+    let Some(sequence) = sequence_of(m) else {
         give(&mut parts.held, number, Report::Ended(m.code()));
         return Ok(());
     };
@@ -56,7 +56,7 @@ pub fn registered<A: Allocator + Copy, H: BuildHasher>(
                 sequence,
                 rest,
             };
-            let token = live(&mut parts.held, at, first, m);
+            let token = make_live(&mut parts.held, at, first, m);
             let _kept = parts.asker.keep(&token);
             give_some(&mut parts.held, number, report);
             Ok(())
@@ -101,8 +101,13 @@ struct Begun<A: Allocator> {
     rest: Option<Notified<A>>,
 }
 
-// The observation is live: its token.
-fn live<A: Allocator + Copy>(held: &mut Held<A>, at: Moment, first: Begun<A>, m: &View<'_>) -> Token
+// Makes the observation live, and answers its token.
+fn make_live<A: Allocator + Copy>(
+    held: &mut Held<A>,
+    at: Moment,
+    first: Begun<A>,
+    m: &View<'_>,
+) -> Token
     requires room { length held.old.operations.live < held.old.operations.places }
     requires idle { held.old.operations.running ≡ None }
     requires spare { 0 < held.old.operations.spare }
@@ -138,7 +143,7 @@ fn token_in(m: &View<'_>) -> Token
 }
 
 /// What a notification makes of a client. After an `Err` it is as before.
-pub fn noticed<A: Allocator + Copy, H: BuildHasher>(
+pub fn hear_notification<A: Allocator + Copy, H: BuildHasher>(
     parts: &mut Parts<A, H>,
     at: Moment,
     m: &View<'_>,
@@ -157,7 +162,7 @@ pub fn noticed<A: Allocator + Copy, H: BuildHasher>(
     };
     let number = observation.number;
     let watch = observation.watch;
-    match notified(m) {
+    match sequence_of(m) {
         Some(sequence) => tell(&mut parts.held, at, number, watch, sequence, m),
         None => {
             end_observation(parts, number, Report::Ended(m.code()));
@@ -166,7 +171,7 @@ pub fn noticed<A: Allocator + Copy, H: BuildHasher>(
     }
 }
 
-// .. which is one, with this sequence number.
+// A notification with this sequence number.
 fn tell<A: Allocator + Copy>(
     held: &mut Held<A>,
     at: Moment,
@@ -193,7 +198,7 @@ fn tell<A: Allocator + Copy>(
     }
 }
 
-// .. which is newer: it replaces what is fetched for an older one.
+// A newer notification: it replaces what is fetched for an older one.
 fn renew<A: Allocator + Copy>(
     held: &mut Held<A>,
     number: u64,

@@ -15,14 +15,14 @@ ghost use Rattle.coap_client.specs.Object.Held.{own_of, seen};
 ghost use Rattle.coap_client.specs.Object.Shown.{reported, shown_asked, shown_rest};
 ghost use Rattle.coap_client.specs.Object.AnswerSteps.{CanTakeBack, rest_by, value_by, verdict_on};
 
-use crate::client::fetch::whole;
+use crate::client::get_answer::representation;
 use crate::client::heard::Part;
 use crate::client::held::Held;
 use crate::client::observations;
 use crate::client::operation::Notified;
 use crate::client::parts::{Now, Parts};
 use crate::client::report::{CallId, Report, give};
-use crate::client::request::{close, get};
+use crate::client::request::{get, note_sending};
 use crate::client::request_options::bytes_in;
 use crate::client::responses::take_part;
 use crate::client::transfer::block2_of;
@@ -73,14 +73,14 @@ pub fn take<A: Allocator + Copy>(
 {
     match take_part(&mut rest.fetch, m)? {
         Step::Next(_) => Ok(Part::Asks),
-        Step::Whole(body) => Ok(Part::Whole(Report::Value(rest.sequence, whole(m, body)))),
+        Step::Whole(body) => Ok(Part::Whole(Report::Value(rest.sequence, representation(m, body)))),
         Step::Restart => Ok(Part::Useless),
         Step::Refused(_) => Ok(Part::Useless),
     }
 }
 
 /// What the answer to a fetch makes of a client. After an `Err` it is as before.
-pub fn fetch_answered<A: Allocator + Copy, H: BuildHasher>(
+pub fn hear_rest<A: Allocator + Copy, H: BuildHasher>(
     parts: &mut Parts<A, H>,
     now: Now,
     number: u64,
@@ -113,7 +113,7 @@ pub fn fetch_answered<A: Allocator + Copy, H: BuildHasher>(
     }
 }
 
-// .. of a 2.05 alone.
+// What is fetched takes the part of a 2.05, and of no other answer.
 fn take_if_content<A: Allocator + Copy>(
     rest: &mut Notified<A>,
     m: &View<'_>,
@@ -159,7 +159,7 @@ fn ask_next<A: Allocator + Copy, H: BuildHasher>(
     match get(&mut parts.asker, None, None, path, bytes_in(&block), now) {
         Ok(given) => {
             resume(&mut parts.held, number, rest);
-            Ok(close(parts, now.at, given))
+            Ok(note_sending(parts, now.at, given))
         }
         Err(refused) => {
             rest.fetch.undo();

@@ -86,7 +86,7 @@ pub fn give_some<A: Allocator + Copy>(held: &mut Held<A>, number: u64, report: O
 }
 
 /// What is reported of a response of that code to a call (RFC 7252, section 5.9.1).
-pub fn done<A: Allocator + Copy>(method: Method, code: Code) -> Report<A>
+pub fn code_report<A: Allocator + Copy>(method: Method, code: Code) -> Report<A>
     ensures { shown_report result ≡ done method code.0 }
 {
     let success = match method {

@@ -77,8 +77,8 @@ pub fn register<A: Allocator + Copy, H: BuildHasher>(
     )
 }
 
-/// The fetch of the rest of a representation (RFC 7959, section 2.6).
-pub fn fetch<A: Allocator + Copy, H: BuildHasher>(
+/// Asks for the rest of a representation (RFC 7959, section 2.6).
+pub fn ask_rest<A: Allocator + Copy, H: BuildHasher>(
     asker: &mut Asker<A, H>,
     operations: &ClientOperations<A>,
     number: u64,
@@ -149,9 +149,9 @@ pub fn get<A: Allocator + Copy, H: BuildHasher>(
     ask(asker, &request, now)
 }
 
-/// What becomes of the operation that runs by the sending of its request, which was given a token, or
-/// could not be sent: the request that was sent.
-pub fn close<A: Allocator + Copy, H: BuildHasher>(
+/// Notes that the request of the operation that runs was sent, and answers it. A request that was given no
+/// token could not be sent: that ends the operation.
+pub fn note_sending<A: Allocator + Copy, H: BuildHasher>(
     parts: &mut Parts<A, H>,
     at: Moment,
     given: Option<Token>,

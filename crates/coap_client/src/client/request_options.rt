@@ -121,8 +121,8 @@ pub fn bytes_in(bytes: &Option<UintBytes>) -> Option<&[u8]>
     Some(bytes.as_ref()?.as_slice())
 }
 
-/// The value of the option behind the path: Accept of a GET, Content-Format of a POST or a PUT.
-pub fn told<A: Allocator + Copy>(request: &Request<A>) -> Option<UintBytes>
+/// The value of the option after the path: Accept of a GET, Content-Format of a POST or a PUT.
+pub fn format_value<A: Allocator + Copy>(request: &Request<A>) -> Option<UintBytes>
     ensures { result ≡ told_value (shown_request request.now) }
 {
     let number = match request.method {
@@ -138,18 +138,18 @@ pub fn told<A: Allocator + Copy>(request: &Request<A>) -> Option<UintBytes>
 #[inline(always)]
 pub fn call_options<'a, A: Allocator + Copy>(
     request: &'a Request<A>,
-    told: Option<&'a [u8]>,
+    format: Option<&'a [u8]>,
     number: u16,
     block: Option<&'a [u8]>,
 ) -> RequestOptions<'a>
-    requires { option_copied told ≡ told_value (shown_request request.now) }
+    requires { option_copied format ≡ told_value (shown_request request.now) }
     ensures { result ≡ options_of (shown_request request.now) ++ option_with number (option_copied block.entry) }
 {
     request.ranges();
     let mut options = RequestOptions::new();
     push_before(&mut options, request);
     options.push_path(request.path.segments());
-    push_after(&mut options, request.method, told);
+    push_after(&mut options, request.method, format);
     options.push_some(number, block);
     options
 }
@@ -172,16 +172,16 @@ fn push_before<'a, A: Allocator + Copy>(options: &mut RequestOptions<'a>, reques
     }
 }
 
-// The option behind the path.
-fn push_after<'a>(options: &mut RequestOptions<'a>, method: Method, told: Option<&'a [u8]>)
+// The option after the path.
+fn push_after<'a>(options: &mut RequestOptions<'a>, method: Method, format: Option<&'a [u8]>)
     requires room { length options.old + 1 < MAX_OPTIONS }
-    ensures list { (r : Asking) → option_copied told.entry ≡ option_map uint (told_number method r)
+    ensures list { (r : Asking) → option_copied format.entry ≡ option_map uint (told_number method r)
         → options.new ≡ options.old ++ after_path method r }
     ensures len { length options.new ≤ length options.old + 1 }
 {
     match method {
-        Method::Get => options.push_some(ACCEPT, told),
-        Method::Post | Method::Put => options.push_some(CONTENT_FORMAT, told),
+        Method::Get => options.push_some(ACCEPT, format),
+        Method::Post | Method::Put => options.push_some(CONTENT_FORMAT, format),
         Method::Delete => {}
     }
 }
@@ -225,10 +225,10 @@ pub fn is_long_request<A: Allocator + Copy>(request: &Request<A>) -> bool
     ensures { result ≡ is_long (shown_request request.now) }
 {
     request.ranges();
-    let told = told(request);
+    let format = format_value(request);
     let number = block_option_number(request.method);
     let longest = LONGEST_BLOCK;
-    let options = call_options(request, bytes_in(&told), number, Some(&longest));
+    let options = call_options(request, bytes_in(&format), number, Some(&longest));
     exceed(&options)
 }
 

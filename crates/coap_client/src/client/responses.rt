@@ -37,7 +37,7 @@ pub fn format_in(m: &View<'_>) -> Option<u16>
 
 /// The sequence number of a notification, which is a 2.05 with Observe.
 #[tactic(auto, using(crate::proofs::Calls::ResponseLemmas::observe_few))]
-pub fn notified(m: &View<'_>) -> Option<u32>
+pub fn sequence_of(m: &View<'_>) -> Option<u32>
     ensures { result ≡ (if is_notification m.now then Some (sequence_in m.now) else None) }
 {
     if m.code() != Code::CONTENT {

@@ -29,7 +29,7 @@ use crate::client::held::Held;
 use crate::client::operation::{ClientOperations, Waiting};
 use crate::client::parts::{Now, Parts};
 use crate::client::report::Report;
-use crate::client::request::{cancel, close, fetch, register};
+use crate::client::request::{ask_rest, cancel, note_sending, register};
 use coap_exchange::{Asker, Event, Turn};
 use coap_operations::Queued;
 use coap_types::transmission::MAX_LATENCY_MS;
@@ -190,7 +190,7 @@ fn start_fetch<A: Allocator + Copy, H: BuildHasher>(
     ensures before { parts.new.asker.before ≡ parts.old.asker.before }
 {
     parts.held.reports.reserve(1)?;
-    let given = fetch(&mut parts.asker, &parts.held.operations, number, now)?;
+    let given = ask_rest(&mut parts.asker, &parts.held.operations, number, now)?;
     parts.held.operations.fetch(number);
     begin(parts, now.at, given);
     Ok(true)
@@ -333,5 +333,5 @@ fn begin<A: Allocator + Copy, H: BuildHasher>(
     ensures before { parts.new.asker.before ≡ parts.old.asker.before }
 {
     parts.held.clock = at;
-    parts.held.asked = close(parts, at, given);
+    parts.held.asked = note_sending(parts, at, given);
 }

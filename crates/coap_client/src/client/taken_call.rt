@@ -9,14 +9,14 @@ ghost use Rattle.coap_client.specs.Object.CallShown.{is_long, shown_request};
 ghost use Rattle.coap_client.specs.Object.Sends.{Sends};
 ghost use Rattle.coap_client.specs.Object.AnswerSteps.{Hears};
 
-use crate::client::fetch::got;
+use crate::client::get_answer::hear_get;
 use crate::client::heard::Heard;
 use crate::client::parts::Now;
-use crate::client::report::done;
+use crate::client::report::code_report;
 use crate::client::request::ask;
-use crate::client::request_options::{bytes_in, call_options, told};
+use crate::client::request_options::{bytes_in, call_options, format_value};
 use crate::client::transfer::{Transfer, block_of, payload_of};
-use crate::client::upload::{is_longer, sent};
+use crate::client::upload::{hear_upload, is_longer};
 use bytes::Bytes;
 use coap_block::{Fetch, Upload};
 use coap_codec::View;
@@ -78,9 +78,9 @@ impl<A: Allocator + Copy> TakenCall<A> {
         ensures transfer { OnErr result (self.new.transfer ≡ self.old.transfer) }
     {
         match &mut self.transfer {
-            Transfer::Fetches(fetch) => got(fetch, &self.request, m),
-            Transfer::Uploads(upload) => Ok(sent(upload, self.request.method, m)),
-            Transfer::Single => Ok(Heard::Over(true, done(self.request.method, m.code()))),
+            Transfer::Fetches(fetch) => hear_get(fetch, &self.request, m),
+            Transfer::Uploads(upload) => Ok(hear_upload(upload, self.request.method, m)),
+            Transfer::Single => Ok(Heard::Over(true, code_report(self.request.method, m.code()))),
         }
     }
 
@@ -131,9 +131,9 @@ impl<A: Allocator + Copy> TakenCall<A> {
         ensures err { OnErr result (asker.new ≡ asker.old) }
     {
         self.request.ranges();
-        let told = told(&self.request);
+        let format = format_value(&self.request);
         let (number, block) = block_of(&self.transfer);
-        let options = call_options(&self.request, bytes_in(&told), number, bytes_in(&block));
+        let options = call_options(&self.request, bytes_in(&format), number, bytes_in(&block));
         let request = Ask {
             method: self.request.method,
             token: None,

@@ -7,7 +7,7 @@ ghost use Rattle.coap_client.specs.Requests.{is_longer};
 ghost use Rattle.coap_client.specs.Object.AnswerSteps.{HearsUpload};
 
 use crate::client::heard::Heard;
-use crate::client::report::{Report, done};
+use crate::client::report::{Report, code_report};
 use crate::client::responses::block_at;
 use coap_block::Upload;
 use coap_codec::View;
@@ -24,21 +24,25 @@ pub fn is_longer<A: Allocator + Copy>(upload: &Upload<A>) -> bool
 }
 
 /// What a POST or a PUT makes of an answer. A 2.31 is no final response.
-pub fn sent<A: Allocator + Copy>(upload: &mut Upload<A>, method: Method, m: &View<'_>) -> Heard<A>
+pub fn hear_upload<A: Allocator + Copy>(
+    upload: &mut Upload<A>,
+    method: Method,
+    m: &View<'_>,
+) -> Heard<A>
     ensures { HearsUpload upload.old.state (sent method upload.old.state m.now) result upload.new }
 {
     if m.code() == Code::CONTINUE && is_longer(upload) {
-        return continued(upload, m);
+        return hear_continue(upload, m);
     }
     let (block, _) = upload.next();
     if block.more && m.code().0 < Code::BAD_REQUEST.0 {
         return Heard::Over(true, Report::BadBlock);
     }
-    Heard::Over(true, done(method, m.code()))
+    Heard::Over(true, code_report(method, m.code()))
 }
 
-// .. of a 2.31: the next block is sent where the answer lets it be.
-fn continued<A: Allocator + Copy>(upload: &mut Upload<A>, m: &View<'_>) -> Heard<A>
+// What a POST or a PUT makes of a 2.31: the next block is sent where the answer lets it be.
+fn hear_continue<A: Allocator + Copy>(upload: &mut Upload<A>, m: &View<'_>) -> Heard<A>
     ensures { HearsUpload upload.old.state (continued upload.old.state (block_at block1 m.now)) result upload.new }
 {
     let Some(answer) = block_at(BLOCK1, m) else {

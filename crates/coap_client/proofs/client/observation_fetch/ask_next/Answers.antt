@@ -21,8 +21,8 @@ resume-requires-in-Err g c = record {
   idle = c.requires.idle;
 }
 
-pub close-requires-clause-apart : goal.close-requires-clause-apart
-close-requires-clause-apart g c = subst Apart (sym c.resume.ensures.own)
+pub note_sending-requires-clause-apart : goal.note_sending-requires-clause-apart
+note_sending-requires-clause-apart g c = subst Apart (sym c.resume.ensures.own)
     (resumed_apart (own_of c.args.parts.now.held) c.args.number _ c.requires.apart)
 
 pub returns-in-Ok-clause-happens : goal.returns-in-Ok-clause-happens
@@ -30,6 +30,6 @@ returns-in-Ok-clause-happens g c =
     let s = own_of c.args.parts.now.held in
     let same = fetch_request c.args.number (shown_rest c.args.rest) s.observations _ _ c.requires.there
     c.segments_of-path.ensures.path (ap (option_with 23) c.bytes_in.ensures ∙ c.block2_of-block.ensures.option) in
-    closed_as _ _ _ _ _ _ _ c.resume.ensures.own c.close.ensures.closes
+    closed_as _ _ _ _ _ _ _ c.resume.ensures.own c.note_sending.ensures.closes
     (Fetching c.args.number) c.args.parts.now.asker.state c.args.now.word refl
     (sends_as _ _ _ _ _ _ _ same c.in-Ok.ensures.sends)

@@ -6,8 +6,8 @@ use Rattle.coap_client.proofs.client.scheduler.begin.Goals as goal
 pub returns-clause-begun : goal.returns-clause-begun
 returns-clause-begun g c op behind setup runs sends =
     record {
-      asked = shown_asked c.close-parts.result;
-      own = own_of c.close-parts.new.parts.held;
-      happens = c.close-parts.ensures.closes op behind setup runs sends;
+      asked = shown_asked c.note_sending-parts.result;
+      own = own_of c.note_sending-parts.new.parts.held;
+      happens = c.note_sending-parts.ensures.closes op behind setup runs sends;
       own_is = refl;
     }

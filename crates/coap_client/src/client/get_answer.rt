@@ -1,4 +1,4 @@
-//! A Block2 transfer of a call, and of an observation (RFC 7959, sections 2.4 and 2.6).
+//! What a GET makes of the answer to a request of its (RFC 7959, section 2.4).
 ghost use Rattle.std.specs.Prelude.{◌≡◌, IfOk, OnErr};
 ghost use Rattle.coap_client.specs.Calls.{got, fetched};
 ghost use Rattle.coap_client.specs.Reports.{refused};
@@ -17,7 +17,7 @@ use coap_types::{Code, Request};
 use std::alloc::{AllocError, Allocator};
 
 /// What a GET makes of an answer. After an `Err` the fetch is as before.
-pub fn got<A: Allocator + Copy>(
+pub fn hear_get<A: Allocator + Copy>(
     fetch: &mut Fetch<A>,
     request: &Request<A>,
     m: &View<'_>,
@@ -27,7 +27,7 @@ pub fn got<A: Allocator + Copy>(
     ensures err { OnErr result (fetch.new.state ≡ fetch.old.state) }
 {
     match m.code() {
-        Code::CONTENT => fetched(fetch, m),
+        Code::CONTENT => hear_content(fetch, m),
         Code::VALID if !request.etags.as_slice().is_empty() => {
             Ok(Heard::Over(true, Report::Valid(tag_in(m))))
         }
@@ -35,8 +35,11 @@ pub fn got<A: Allocator + Copy>(
     }
 }
 
-// .. of a 2.05.
-fn fetched<A: Allocator + Copy>(fetch: &mut Fetch<A>, m: &View<'_>) -> Result<Heard<A>, AllocError>
+// What a GET makes of a 2.05.
+fn hear_content<A: Allocator + Copy>(
+    fetch: &mut Fetch<A>,
+    m: &View<'_>,
+) -> Result<Heard<A>, AllocError>
     ensures hears { IfOk result (λ heard. HearsFetch fetch.old.state
         (fetched fetch.old.state m.now (part fetch.old.state m.now)) heard fetch.new) }
     ensures err { OnErr result (fetch.new.state ≡ fetch.old.state) }
@@ -44,13 +47,13 @@ fn fetched<A: Allocator + Copy>(fetch: &mut Fetch<A>, m: &View<'_>) -> Result<He
     match take_part(fetch, m)? {
         Step::Next(_) => Ok(Heard::Asks),
         Step::Restart => Ok(Heard::Asks),
-        Step::Whole(body) => Ok(Heard::Over(true, Report::Body(whole(m, body)))),
-        Step::Refused(why) => Ok(Heard::Over(true, refused(why))),
+        Step::Whole(body) => Ok(Heard::Over(true, Report::Body(representation(m, body)))),
+        Step::Refused(why) => Ok(Heard::Over(true, refusal_report(why))),
     }
 }
 
 /// A representation, of which this is the last part.
-pub fn whole<A: Allocator + Copy>(m: &View<'_>, body: Bytes<A>) -> Fetched<A>
+pub fn representation<A: Allocator + Copy>(m: &View<'_>, body: Bytes<A>) -> Fetched<A>
     ensures tag { result.tag ≡ tag_in m.now }
     ensures format { result.format ≡ format_in m.now }
     ensures body { result.body ≡ body }
@@ -63,7 +66,7 @@ pub fn whole<A: Allocator + Copy>(m: &View<'_>, body: Bytes<A>) -> Fetched<A>
 }
 
 /// Why the parts are no body.
-pub fn refused<A: Allocator + Copy>(why: FetchRefusal) -> Report<A>
+pub fn refusal_report<A: Allocator + Copy>(why: FetchRefusal) -> Report<A>
     ensures { shown_report result ≡ refused why }
 {
     match why {

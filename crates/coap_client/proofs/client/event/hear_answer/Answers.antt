@@ -3,7 +3,7 @@ use Rattle.std.specs.Option.{option_map}
 use Rattle.coap_client.specs.Object.Held.{own_of}
 use Rattle.coap_client.specs.Object.Shown.{shown_operation}
 use Rattle.coap_client.proofs.Calls.AnsweringLemmas.{answered_cancelling, answered_dropped, answered_none}
-use Rattle.coap_client.proofs.client.event.answered.Goals as goal
+use Rattle.coap_client.proofs.client.event.hear_answer.Goals as goal
 
 pub returns-in-None-clause-happens : goal.returns-in-None-clause-happens
 returns-in-None-clause-happens g c =

@@ -2,7 +2,7 @@ use Rattle.std.proofs.Common.{ap, ◌∙◌}
 use Rattle.coap_client.specs.Calls.{answer}
 use Rattle.coap_client.specs.Object.Held.{own_of}
 use Rattle.coap_client.proofs.Facts.Calls.Happening.{asks_hears, on_err, over_happens, over_hears, same_call}
-use Rattle.coap_client.proofs.client.event.call_answered.Goals as goal
+use Rattle.coap_client.proofs.client.event.hear_for_call.Goals as goal
 
 pub returns-in-Ok-Over-clause-happens : goal.returns-in-Ok-Over-clause-happens
 returns-in-Ok-Over-clause-happens g c =

@@ -8,7 +8,7 @@ use Rattle.coap_client.specs.Object.Held.{own_of}
 use Rattle.coap_client.specs.Object.Shown.{shown_observation}
 use Rattle.coap_client.proofs.Calls.HeldLemmas.{one_observation}
 use Rattle.coap_client.proofs.Calls.NoticingLemmas.{found_by, found_fresh, noticed_none, noticed_over, told_happens}
-use Rattle.coap_client.proofs.client.notification.noticed.Goals as goal
+use Rattle.coap_client.proofs.client.notification.hear_notification.Goals as goal
 
 pub returns-in_default-clause-happens : goal.returns-in_default-clause-happens
 returns-in_default-clause-happens g c setup =
@@ -34,8 +34,8 @@ returns-in-Some-notified-clause-happens g c setup =
     c.in-Some.observation.now)
     (found_by c.args.m.now.token c.token.result.now s.observations s.observations _ _ c.find_with.ensures
     c.token.ensures.bytes refl
-    (ap (λ r. option_map (λ o. shown_observation o.now) r) c.in-Some.is)) c.notified.result c.notified.ensures
-    c.in-Some-notified.sequence _ c.tell.result c.in-Some-notified.is
+    (ap (λ r. option_map (λ o. shown_observation o.now) r) c.in-Some.is)) c.sequence_of.result c.sequence_of.ensures
+    c.in-Some-sequence_of.sequence _ c.tell.result c.in-Some-sequence_of.is
     (one_observation s _ c.requires.apart) c.tell.ensures.old c.tell.ensures.new
 
 pub returns-in-None-clause-happens : goal.returns-in-None-clause-happens
@@ -45,7 +45,7 @@ returns-in-None-clause-happens g c setup =
     noticed_over c.args.parts.now.asker.state s c.args.at.0 setup c.args.m.now o
     (found_by c.args.m.now.token c.token.result.now s.observations s.observations _ _ c.find_with.ensures
     c.token.ensures.bytes refl
-    (ap (λ r. option_map (λ o. shown_observation o.now) r) c.in-Some.is)) c.notified.result c.notified.ensures
+    (ap (λ r. option_map (λ o. shown_observation o.now) r) c.in-Some.is)) c.sequence_of.result c.sequence_of.ensures
     c.end_observation.new.parts.asker.state _ c.in-None.is
     (subst (λ k. IsDone c.args.parts.now.asker.state (is_over o.number (Ended k) s).deed
     c.end_observation.new.parts.asker.state)

@@ -16,7 +16,7 @@ use Rattle.coap_client.proofs.Calls.HeldLemmas.{taken_own}
 use Rattle.coap_client.proofs.Calls.FetchingLemmas.{asks_back, asks_next, asks_rest, fetch_held, if_ok, rest_there}
 use Rattle.coap_client.proofs.Calls.FetchingLemmas.{same_rest, unfetched, useless_fetch, useless_rest, useless_value}
 use Rattle.coap_client.proofs.Calls.FetchingLemmas.{whole_fetch, whole_rest, whole_value}
-use Rattle.coap_client.proofs.client.observation_fetch.fetch_answered.Goals as goal
+use Rattle.coap_client.proofs.client.observation_fetch.hear_rest.Goals as goal
 
 pub returns-in_default-clause-happens : goal.returns-in_default-clause-happens
 returns-in_default-clause-happens g c =
