@@ -1,6 +1,5 @@
 use Rattle.std.proofs.Common.{refl, ap, ◌∙◌}
 use Rattle.coap_server.specs.Object.Shown.{Kept}
-use Rattle.coap_server.proofs.Facts.Exact.Leads.{led_further}
 use Rattle.coap_server.proofs.server.Server.get.Goals as goal
 
 pub returns-clause-step : goal.returns-clause-step
@@ -10,6 +9,3 @@ returns-clause-step g c = record {
   own_is = refl;
   under = refl;
 }
-
-pub returns-clause-led : goal.returns-clause-led
-returns-clause-led g c limits szx begin t led = led_further limits szx begin t _ _ _ led (returns-clause-step g c)
