@@ -114,9 +114,9 @@ static sum sum_of(const lane *lanes, uint32_t threads) {
     return all;
 }
 
-static void print_gets(uint32_t threads, const sum *all, double resident) {
+static void print_gets(uint32_t threads, uint32_t clients, uint32_t servers, const sum *all, double resident) {
     double count = (double)all->bodies;
-    printf("| %u | %.0f | %.0f | %.2f | %.0f |\n", threads, count, count / all->seconds,
+    printf("| %u | %u | %u | %.0f | %.2f | %.0f |\n", clients, servers, threads, count / all->seconds,
            all->processor * US_PER_S / count, resident);
 }
 
@@ -155,7 +155,7 @@ static void run(workload work, uint32_t threads, uint32_t clients, uint32_t serv
         best.seconds = least(best.seconds, more.seconds);
         best.processor = least(best.processor, more.processor);
     }
-    if (work.kind == WORK_GETS) print_gets(threads, &best, resident);
+    if (work.kind == WORK_GETS) print_gets(threads, clients, servers, &best, resident);
     else print_changes(threads, clients, servers, &best);
 }
 
