@@ -14,7 +14,7 @@ use crate::assembly_step::{AssemblyRefusal, Took};
 use crate::assembly_undo::{Before, Change};
 use crate::block_verdict::BlockVerdict;
 use crate::partial::Partial;
-use crate::partials::{counts, join, restore, take_out, whole};
+use crate::partials::{counts, join, live, restore, take_out, whole};
 use crate::upload_key::UploadKey;
 use coap_types::{Block, BodyLimit, Moment, Szx};
 use std::alloc::{AllocError, Allocator, Global};
@@ -118,6 +118,15 @@ impl<A: Allocator + Copy> Assembly<A> {
         self.clock = at;
         self.before = Some(Before { clock: was, change });
         Ok(took)
+    }
+
+    /// How many uploads have a partial body at this moment. A moment before the last one counts as the last. Nothing
+    /// changes: the moment doesn't count. It takes no memory.
+    pub fn partial_len(&self, now: Moment) -> usize
+        // The number is that of the partial bodies whose last block is not too long ago.
+        ensures { result ≡ length (forgotten (max self.now.state.clock now.0) self.now.state.partials) }
+    {
+        live(&self.partials, later(self.clock, now))
     }
 
     /// Takes the last block back, so that the assembly is as before it. There is to have been one that

@@ -32,8 +32,8 @@ fn place_of<A: Allocator + Copy>(
     }
 }
 
-// How many partial bodies there are.
-fn live<A: Allocator + Copy>(partials: &[Partial<A>], now: Moment) -> usize
+/// How many partial bodies there are.
+pub(crate) fn live<A: Allocator + Copy>(partials: &[Partial<A>], now: Moment) -> usize
     ensures { result ≡ length (filter (λ p. is_live now.0 (body_of p)) partials.now) }
 {
     partials

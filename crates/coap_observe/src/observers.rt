@@ -54,6 +54,14 @@ impl<A: Allocator + Copy> Observers<A> {
         }
     }
 
+    /// How many are registered.
+    pub fn len(&self) -> usize
+        // The number is that of the registrations.
+        ensures { result ≡ length self.now.list }
+    {
+        self.list.len()
+    }
+
     /// Registers an observer last, with nothing due to it, in place of an earlier registration of
     /// the same endpoint and token (RFC 7641, section 4.1). False where `MAX_OBSERVERS` others are
     /// there: then the moment alone counts. After an `Err` all is as before. Where that endpoint and
