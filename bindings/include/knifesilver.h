@@ -54,7 +54,7 @@ enum {
     KS_BAD_PATH = -3,       /* over 16 segments, one of over 255 bytes, or a % without two hexadecimal digits */
     KS_SMALL_ROOM = -4,     /* the buffer is too small: nothing was taken, call again with a larger one */
     KS_BAD_ARGUMENT = -5,   /* an entity-tag of 0 or over 8 bytes, over 4 of them, a method or an error that is none */
-    KS_BAD_SIZE = -6,       /* ks_config.size is neither 0 nor sizeof (ks_config); ks_load.size is not sizeof (ks_load) */
+    KS_BAD_SIZE = -6,       /* ks_config.size is neither 0 nor sizeof (ks_config); ks_end_load.size is not sizeof (ks_end_load) */
     KS_BAD_BLOCK_SIZE = -7, /* ks_config.block_size is none of 0, 16, 32, 64, 128, 256, 512 and 1,024 */
     KS_BAD_BODY_LIMIT = -8, /* ks_config.body_limit is over 1,048,576 */
     KS_BAD_REMEMBERED = -9, /* ks_config.remembered is over 1,048,576 */
@@ -352,10 +352,10 @@ int32_t ks_refuse(const void *datagram, size_t datagram_len, uint8_t code, void 
 
 /* ---- How much an end has, and what a datagram would be ------------------------------------------------------------- */
 
-/* How much an end has at a moment. Set `size` to sizeof (ks_load) before the call. What an end of the other kind has alone
+/* How much an end has at a moment. Set `size` to sizeof (ks_end_load) before the call. What an end of the other kind has alone
  * is 0. Each count is exact; what has lived its time is not counted. Later versions add fields at the end. */
 typedef struct {
-    uint32_t size;              /* sizeof (ks_load) */
+    uint32_t size;              /* sizeof (ks_end_load) */
     uint32_t ids_left;          /* Message IDs that can be given now, one after the other: at 0 nothing new can be sent */
     uint64_t changes_left;      /* of a server: changes that its store can take now, one after the other */
     uint64_t remembered;        /* messages that are remembered, to tell repeats */
@@ -371,12 +371,12 @@ typedef struct {
     uint64_t waiting;           /* of a client: calls and cancels that wait; 8 at most */
     uint64_t observations;      /* of a client: live ones; 16 at most */
     uint64_t reports;           /* of a client: reports that wait for ks_client_next_report */
-} ks_load;
+} ks_end_load;
 
 /* How much the end has at this moment. A moment before the last one counts as the last. Nothing changes, and it takes no
  * memory. KS_OK with *load written; KS_BAD_SIZE; KS_NOT_LIVE. */
-int32_t ks_server_load(ks_server *handle, uint64_t now, ks_load *load);
-int32_t ks_client_load(ks_client *handle, uint64_t now, ks_load *load);
+int32_t ks_server_load(ks_server *handle, uint64_t now, ks_end_load *load);
+int32_t ks_client_load(ks_client *handle, uint64_t now, ks_end_load *load);
 
 /* What a datagram would be if it were fed now. */
 enum ks_would {

@@ -13,7 +13,7 @@
 
 typedef struct {
     const char *name;           /* has no quotation mark, no backslash and no line break in it */
-    ks_load load;
+    ks_end_load load;
     uint64_t would[KS_STATS_WOULDS];
 } ks_stats_end;
 
@@ -45,13 +45,13 @@ static inline size_t ks_stats_number(char *room, size_t room_len, size_t len, ui
  * is not below room_len, the text is cut. */
 static inline size_t ks_stats_text(char *room, size_t room_len, const ks_stats_end *ends, size_t count) {
     static const ks_stats_gauge gauges[] = {
-        {"changes_left", offsetof(ks_load, changes_left)}, {"remembered", offsetof(ks_load, remembered)},
-        {"remembered_most", offsetof(ks_load, remembered_most)}, {"outstanding", offsetof(ks_load, outstanding)},
-        {"queued", offsetof(ks_load, queued)}, {"observers", offsetof(ks_load, observers)},
-        {"partial", offsetof(ks_load, partial)}, {"deferred", offsetof(ks_load, deferred)},
-        {"paths", offsetof(ks_load, paths)}, {"delays", offsetof(ks_load, delays)},
-        {"plains", offsetof(ks_load, plains)}, {"waiting", offsetof(ks_load, waiting)},
-        {"observations", offsetof(ks_load, observations)}, {"reports", offsetof(ks_load, reports)},
+        {"changes_left", offsetof(ks_end_load, changes_left)}, {"remembered", offsetof(ks_end_load, remembered)},
+        {"remembered_most", offsetof(ks_end_load, remembered_most)}, {"outstanding", offsetof(ks_end_load, outstanding)},
+        {"queued", offsetof(ks_end_load, queued)}, {"observers", offsetof(ks_end_load, observers)},
+        {"partial", offsetof(ks_end_load, partial)}, {"deferred", offsetof(ks_end_load, deferred)},
+        {"paths", offsetof(ks_end_load, paths)}, {"delays", offsetof(ks_end_load, delays)},
+        {"plains", offsetof(ks_end_load, plains)}, {"waiting", offsetof(ks_end_load, waiting)},
+        {"observations", offsetof(ks_end_load, observations)}, {"reports", offsetof(ks_end_load, reports)},
     };
     static const char *const woulds[KS_STATS_WOULDS] = {
         "ignore", "reject", "repeat", "take", "no_place", "no_id", "acknowledge", "reset",

@@ -130,7 +130,7 @@ class _AnyEnd:
     def load(self, now: int) -> Load:
         """How much the end has at that moment."""
         with self._lock:
-            told = made("ks_load")
+            told = made("ks_end_load")
             told.size = ctypes.sizeof(told)
             answered(self._call("load", _moment(now), ctypes.byref(told)))
             return Load(*(getattr(told, field) for field in Load._fields))

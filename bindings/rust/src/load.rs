@@ -39,12 +39,12 @@ pub struct Load {
 }
 
 // A struct to be written.
-pub(crate) fn empty() -> raw::ks_load {
-    raw::ks_load { size: std::mem::size_of::<raw::ks_load>() as u32, ..raw::ks_load::default() }
+pub(crate) fn empty() -> raw::ks_end_load {
+    raw::ks_end_load { size: std::mem::size_of::<raw::ks_end_load>() as u32, ..raw::ks_end_load::default() }
 }
 
 impl Load {
-    pub(crate) fn of(told: &raw::ks_load) -> Load {
+    pub(crate) fn of(told: &raw::ks_end_load) -> Load {
         Load {
             ids_left: told.ids_left,
             changes_left: told.changes_left,

@@ -180,7 +180,7 @@ pub struct ks_message {
 
 #[repr(C)]
 #[derive(Clone, Copy, Default)]
-pub struct ks_load {
+pub struct ks_end_load {
     pub size: u32,
     pub ids_left: u32,
     pub changes_left: u64,
@@ -238,8 +238,8 @@ extern "C" {
     fn ks_client_next_report(handle: *mut ks_client, report: *mut ks_report, room: *mut c_void, room_len: usize) -> i32;
     fn ks_server_refuse(handle: *mut ks_server, now: u64, from: *const ks_address, datagram: *const c_void, datagram_len: usize, word: u64) -> i32;
     fn ks_refuse(datagram: *const c_void, datagram_len: usize, code: u8, room: *mut c_void, room_len: usize, len: *mut usize) -> i32;
-    fn ks_server_load(handle: *mut ks_server, now: u64, load: *mut ks_load) -> i32;
-    fn ks_client_load(handle: *mut ks_client, now: u64, load: *mut ks_load) -> i32;
+    fn ks_server_load(handle: *mut ks_server, now: u64, load: *mut ks_end_load) -> i32;
+    fn ks_client_load(handle: *mut ks_client, now: u64, load: *mut ks_end_load) -> i32;
     fn ks_server_would(handle: *mut ks_server, now: u64, from: *const ks_address, datagram: *const c_void, datagram_len: usize) -> i32;
     fn ks_client_would(handle: *mut ks_client, now: u64, from: *const ks_address, datagram: *const c_void, datagram_len: usize) -> i32;
     fn ks_server_ended(handle: *mut ks_server, ended: *mut ks_ended) -> i32;
@@ -342,7 +342,7 @@ impl Server {
         unsafe { ks_server_applied(self.0.get(), done, room.as_mut_ptr().cast(), room.len()) }
     }
 
-    pub fn load(&self, now: u64, load: &mut ks_load) -> i32 {
+    pub fn load(&self, now: u64, load: &mut ks_end_load) -> i32 {
         unsafe { ks_server_load(self.0.get(), now, load) }
     }
 
@@ -424,7 +424,7 @@ impl Client {
         unsafe { ks_client_next_out(self.0.get_mut(), to, room.as_mut_ptr().cast(), room.len(), len) }
     }
 
-    pub fn load(&self, now: u64, load: &mut ks_load) -> i32 {
+    pub fn load(&self, now: u64, load: &mut ks_end_load) -> i32 {
         unsafe { ks_client_load(self.0.get(), now, load) }
     }
 

@@ -14,7 +14,6 @@ ghost use Rattle.coap_layer.specs.Machine.State.{State, answer_to, is_free, is_r
 ghost use Rattle.coap_layer.specs.Machine.Ups.{disposition_of};
 ghost use Rattle.coap_layer.specs.Machine.Would.{would_at};
 
-use crate::{Up, Would};
 use crate::arrival::{Known, Verdict, classify};
 use crate::datagram::Datagram;
 use crate::dedup::Memory;
@@ -23,6 +22,7 @@ use crate::lists::Lists;
 use crate::mark::Awaiting;
 use crate::retransmission::{Sending, end_all, is_outstanding};
 use crate::would::would_by;
+use crate::{Up, Would};
 use coap_codec::{Fault, View, decode};
 use coap_types::{Endpoint, Id, Kind, Moment, Remembered, Role};
 use std::alloc::{AllocError, Allocator};
@@ -154,10 +154,7 @@ fn message_would<A: Allocator + Copy, S: BuildHasher>(
         full: false,
         ..known
     };
-    would_by(
-        classify(kind, role, placed),
-        classify(kind, role, known),
-    )
+    would_by(classify(kind, role, placed), classify(kind, role, known))
 }
 
 /// What a datagram would be.

@@ -1,5 +1,5 @@
 //! Whether something is of a peer.
-ghost use Rattle.std.specs.Prelude.{◌≡◌};
+ghost use Rattle.std.specs.Prelude.{◌≡◌, ◌||◌};
 ghost use Rattle.coap_layer.specs.Machine.Parts.{awaited};
 ghost use Rattle.coap_layer.specs.Machine.Peers.{goes_to as goes_to_lem, is_awaited as is_awaited_lem};
 
@@ -27,4 +27,11 @@ pub(crate) fn is_awaited(awaits: Option<Awaiting>, peer: Endpoint) -> bool
         Some(awaiting) => awaiting.from == peer,
         None => false,
     }
+}
+
+/// Whether one of three holds.
+pub(crate) fn one_of(first: bool, second: bool, third: bool) -> bool
+    ensures { result ≡ (first || (second || third)) }
+{
+    first || second || third
 }

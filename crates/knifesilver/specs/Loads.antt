@@ -6,11 +6,11 @@ use Rattle.coap_client.specs.Load.{IsClientLoad}
 use Rattle.coap_server.specs.declared.server.load.Load.{Load}
 use Rattle.coap_server.specs.Led as server
 use Rattle.coap_server.specs.Load.{IsLoad}
-use Rattle.knifesilver.specs.declared.load.KsLoad.{KsLoad}
+use Rattle.knifesilver.specs.declared.load.KsEndLoad.{KsEndLoad}
 use Rattle.knifesilver.specs.declared.load.TheConstants.{LOAD_LEN as load_len}
 
 -- the numbers of a server; those that a client has alone are 0
-abbrev pub server_told : Load → KsLoad
+abbrev pub server_told : Load → KsEndLoad
 server_told load =
     record {
       size = load_len;
@@ -32,7 +32,7 @@ server_told load =
     }
 
 -- .. of a client; those that a server has alone are 0
-abbrev pub client_told : ClientLoad → KsLoad
+abbrev pub client_told : ClientLoad → KsEndLoad
 client_told load =
     record {
       size = load_len;
@@ -54,9 +54,9 @@ client_told load =
     }
 
 -- it is what a server in this state tells of itself at this moment
-abbrev pub IsServerLoad : ℕ → KsLoad → server.State → Type 0
+abbrev pub IsServerLoad : ℕ → KsEndLoad → server.State → Type 0
 IsServerLoad now told s = (load : Load) × IsLoad now load s × (told ≡ server_told load)
 
 -- .. a client
-abbrev pub IsLoadOfClient : ℕ → KsLoad → client.State → Type 0
+abbrev pub IsLoadOfClient : ℕ → KsEndLoad → client.State → Type 0
 IsLoadOfClient now told s = (load : ClientLoad) × IsClientLoad now load s × (told ≡ client_told load)

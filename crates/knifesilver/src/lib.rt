@@ -19,4 +19,3 @@ mod released;
 mod seed;
 mod server;
 mod version;
-mod would;

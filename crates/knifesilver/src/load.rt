@@ -4,10 +4,10 @@ ghost use Rattle.knifesilver.specs.Loads.{client_told, server_told};
 
 use coap_ends::{ClientLoad, Load};
 
-/// C's `ks_load`: how much an end has at a moment. What the other kind of end has alone is 0.
+/// C's `ks_end_load`: how much an end has at a moment. What the other kind of end has alone is 0.
 #[repr(C)]
 #[derive(Clone, Copy)]
-pub struct KsLoad {
+pub struct KsEndLoad {
     /// How many bytes the struct has.
     pub size: u32,
     /// How many Message IDs are left.
@@ -48,10 +48,10 @@ pub(crate) const LOAD_LEN: u32 = 120;
 const _: () = prove!(LOAD_LEN == 120);
 
 /// What is told of a server.
-pub(crate) fn server_load(load: Load) -> KsLoad
+pub(crate) fn server_load(load: Load) -> KsEndLoad
     ensures { result ≡ server_told load }
 {
-    KsLoad {
+    KsEndLoad {
         size: LOAD_LEN,
         ids_left: load.layer.ids_left,
         changes_left: u64::from(load.changes_left),
@@ -72,10 +72,10 @@ pub(crate) fn server_load(load: Load) -> KsLoad
 }
 
 /// What is told of a client.
-pub(crate) fn client_load(load: ClientLoad) -> KsLoad
+pub(crate) fn client_load(load: ClientLoad) -> KsEndLoad
     ensures { result ≡ client_told load }
 {
-    KsLoad {
+    KsEndLoad {
         size: LOAD_LEN,
         ids_left: load.layer.ids_left,
         changes_left: 0,

@@ -1,11 +1,11 @@
-//! What the server's side of the exchanges tells of itself: how much it has, what a datagram would be, and whom it knows.
+//! What the server's side of the exchanges tells of itself: how much it has, what a datagram would be, whom it knows.
 ghost use Rattle.std.specs.Prelude.{◌≡◌, length};
 ghost use Rattle.coap_layer.specs.Machine.Load.{IsLayerLoad};
 ghost use Rattle.coap_layer.specs.Machine.Would.{would_of};
 ghost use Rattle.coap_exchange.specs.Peers.{knows};
 
 use crate::answerer::Answerer;
-use crate::peers::{is_asked_by, is_sent_to};
+use crate::peers::{is_asked_by, is_sent_to, one_of};
 use coap_layer::{LayerLoad, Would};
 use coap_types::{Endpoint, Moment};
 use std::alloc::Allocator;
@@ -45,9 +45,9 @@ impl<A: Allocator + Copy, S: BuildHasher> Answerer<A, S> {
         // Whether a peer is known is whether one of the lists of the exchanges, or of their message layer, has it.
         ensures { result ≡ knows peer self.now.state }
     {
-        self.layer.knows(peer)
-            || is_sent_to(&self.separate, peer)
-            || self.deferred.has_of(peer)
-            || is_asked_by(&self.pending, peer)
+        let known = self.layer.knows(peer);
+        let sent = is_sent_to(&self.separate, peer);
+        let deferred = self.deferred.has_of(peer);
+        one_of(known, sent, deferred, is_asked_by(&self.pending, peer))
     }
 }

@@ -1,18 +1,13 @@
 -- How long the lists are that a layer keeps, by what it counts.
-use Rattle.std.proofs.Common.{◌≡◌, ◌≤◌, ◌<◌, ◌+◌, ◌-◌, ℕ, zero, suc, arith, Bool, true, false, Option, Some, None, List, []}
-use Rattle.std.proofs.Common.{◌∷◌, ◌++◌, filter, length, length-drop, drop, max, refl, ap, sym, ◌∙◌, cond, is_some}
-use Rattle.std.proofs.Common.{option_to_list}
-use Rattle.std.specs.List.{cons_option, take_while}
+use Rattle.std.proofs.Common.{◌≡◌, ◌≤◌, ◌<◌, ◌+◌, ℕ, suc, arith, Bool, true, false, Option, Some, None, List, [], ◌∷◌, ◌++◌}
+use Rattle.std.proofs.Common.{filter, length, refl, ap, sym, ◌∙◌, cond, is_some}
+use Rattle.std.specs.List.{cons_option}
 use Rattle.coap_types.specs.declared.endpoint.Moment.{Moment}
-use Rattle.coap_layer.specs.declared.dedup.Key.{Key}
-use Rattle.coap_layer.specs.declared.dedup.Kept.{Kept}
 use Rattle.coap_layer.specs.declared.retransmission.Sending.{Sending}
-use Rattle.coap_layer.specs.Machine.Entries.{arrivals_as}
 use Rattle.coap_layer.specs.Machine.Load.{rested_first}
 use Rattle.coap_layer.specs.Machine.Sendings.{open_at, open_now}
-use Rattle.coap_layer.specs.Machine.State.{Arrived, State, forgotten, is_live, is_rested}
-use Rattle.coap_layer.proofs.Calls.Passed.{length_arrivals}
-use Rattle.coap_layer.proofs.ListLemmas.{filter_implied, filter_more, length_append}
+use Rattle.coap_layer.specs.Machine.State.{State, forgotten, is_live, is_rested}
+use Rattle.coap_layer.proofs.ListLemmas.{filter_implied}
 use Rattle.coap_layer.proofs.Machine.Forgetting.{live_before}
 
 -- groups of which each rests, and others behind them
@@ -23,9 +18,8 @@ all_rested now (x ∷ xs) ys h = go (is_rested now (Some x)) (all_rested now xs 
   where
     go : (b : Bool) → (length xs ≤ rested_first now xs
         → rested_first now (xs ++ ys) ≡ length xs + rested_first now ys)
-        → suc (length xs) ≤ length (cond b (x ∷ take_while (λ last. is_rested now (Some last)) xs) [])
-        → length (cond b (x ∷ take_while (λ last. is_rested now (Some last)) (xs ++ ys)) [])
-        ≡ suc (length xs) + rested_first now ys
+        → suc (length xs) ≤ cond b (1 + rested_first now xs) 0
+        → cond b (1 + rested_first now (xs ++ ys)) 0 ≡ suc (length xs) + rested_first now ys
     go true rest k = let e = rest (omega (arith, k)) in omega (arith, e)
     go false rest k = absurd (omega (arith, k))
 
@@ -36,25 +30,10 @@ one_held now [] ys h = absurd (omega (arith, h))
 one_held now (x ∷ xs) ys h = go (is_rested now (Some x)) (one_held now xs ys) h
   where
     go : (b : Bool) → (rested_first now xs < length xs → rested_first now (xs ++ ys) ≡ rested_first now xs)
-        → length (cond b (x ∷ take_while (λ last. is_rested now (Some last)) xs) []) < suc (length xs)
-        → length (cond b (x ∷ take_while (λ last. is_rested now (Some last)) (xs ++ ys)) [])
-        ≡ length (cond b (x ∷ take_while (λ last. is_rested now (Some last)) xs) [])
-    go true rest k = ap suc (rest (omega (arith, k)))
+        → cond b (1 + rested_first now xs) 0 < suc (length xs)
+        → cond b (1 + rested_first now (xs ++ ys)) 0 ≡ cond b (1 + rested_first now xs) 0
+    go true rest k = ap (λ n. 1 + n) (rest (omega (arith, k)))
     go false rest k = refl
-
--- what is remembered of those before the newest are those behind what has passed
-pub remembered_len : {Z : Type 0} (now passed known : ℕ) (es : List (Key × Kept Z)) (ns : List Arrived)
-    → passed ≤ length es
-    → arrivals_as (drop passed es) ≡ filter (is_live now) (arrivals_as (drop known es))
-    → length es - passed + length (filter (is_live now) ns)
-    ≡ length (filter (is_live now) (arrivals_as (drop known es) ++ ns))
-remembered_len now passed known es ns within live =
-    let left = length-drop passed es in
-    let same = length_arrivals (drop passed es) in
-    let kept = ap length live in
-    let all = ap length (filter_more (is_live now) (arrivals_as (drop known es)) ns) in
-    let sum = length_append (filter (is_live now) (arrivals_as (drop known es))) (filter (is_live now) ns) in
-    omega (arith, left, same, kept, all, sum, within)
 
 open_one : {Z : Type 0} (c : Sending Z) (cs : List (Sending Z)) (l : Option Moment)
     → length (filter (λ d. is_some d.last) cs) ≡ length (open_now cs)

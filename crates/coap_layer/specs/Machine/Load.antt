@@ -1,7 +1,6 @@
 -- How much a layer has at a moment, and how many Message IDs it has left (RFC 7252, sections 4.4 and 4.5).
-use Rattle.std.specs.Prelude.{◌≡◌, ℕ, ◌+◌, ◌-◌, ◌*◌, ◌/◌, ◌%◌, max, Option, Some, List, ◌++◌, length, filter, drop, take}
-use Rattle.std.specs.Prelude.{if◌then◌else◌}
-use Rattle.std.specs.List.{take_while}
+use Rattle.std.specs.Prelude.{◌≡◌, ℕ, ◌+◌, ◌-◌, ◌*◌, ◌/◌, ◌%◌, max, Option, Some, List, [], ◌∷◌, ◌++◌, length, filter}
+use Rattle.std.specs.Prelude.{drop, take, if◌then◌else◌}
 use Rattle.coap_layer.specs.Machine.State.{State, is_free, is_live, is_rested}
 use Rattle.coap_layer.specs.declared.load.LayerLoad.{LayerLoad}
 use Rattle.coap_layer.specs.declared.message_id.TheConstants.{GROUP_SIZE as group_size}
@@ -12,15 +11,16 @@ others_from group uses = drop (group + 1) uses ++ take group uses
 
 -- how many of these groups can be entered one after the other: each of them rests
 abbrev pub rested_first : ℕ → List (Option ℕ) → ℕ
-rested_first now uses = length (take_while (λ last. is_rested now (Some last)) uses)
+rested_first now [] = 0
+rested_first now (last ∷ uses) = if is_rested now (Some last) then 1 + rested_first now uses else 0
 
 -- how many Message IDs can be given one after the other at this moment: those that are left of the group of the next
 -- one, and those of the groups after it up to one that doesn't rest; none where the next one is not free
 abbrev pub ids_left : ℕ → (upcoming : ℕ) → List (Option ℕ) → ℕ
 ids_left now upcoming uses =
     if is_free now upcoming uses then
-      group_size - upcoming % group_size
-      + group_size * rested_first now (others_from (upcoming / group_size) uses)
+    group_size - upcoming % group_size
+    + group_size * rested_first now (others_from (upcoming / group_size) uses)
     else 0
 
 -- what is told of a layer at this moment: how long its lists are; what is no longer remembered is not counted

@@ -7,7 +7,7 @@ ghost use Rattle.coap_layer.specs.Machine.Would.{would_of};
 use crate::arriving::{read, would};
 use crate::layer::Layer;
 use crate::outstanding::outstanding_len;
-use crate::peers::{goes_to, is_awaited};
+use crate::peers::{goes_to, is_awaited, one_of};
 use crate::retransmission::is_busy;
 use crate::{LayerLoad, Would};
 use coap_types::{Endpoint, Moment};
@@ -18,7 +18,7 @@ impl<A: Allocator + Copy, S: BuildHasher> Layer<A, S> {
     /// How much the layer has at this moment. A moment before the last one counts as the last. Nothing changes: the
     /// moment doesn't count. It takes no memory.
     pub fn load(&self, now: Moment) -> LayerLoad
-        // What a layer tells of its load are the lengths of its lists at that moment, and the Message IDs that are left.
+        // What a layer tells of its load is how long its lists are at that moment, and how many Message IDs are left.
         ensures { IsLayerLoad now.0 result self.now.state }
     {
         let at = self.clock.later(now);
@@ -41,15 +41,15 @@ impl<A: Allocator + Copy, S: BuildHasher> Layer<A, S> {
         let free = self.ids.would_give(at);
         would(&read(bytes), at, from, &self.lists, self.most, free)
     }
-    /// Whether something is kept of this peer that may be sent, or may still be needed: a Confirmable message to it that
-    /// is outstanding, a datagram to it that waits to be taken, or its message that was handed up last. What is
+    /// Whether something is kept of this peer that may be sent, or may still be needed: a Confirmable message to it
+    /// that is outstanding, a datagram to it that waits to be taken, or its message that was handed up last. What is
     /// remembered of duplicates doesn't count. Nothing changes. It takes no memory.
     pub fn knows(&self, peer: Endpoint) -> bool
         // Whether a layer knows a peer is whether one of its lists has something of it.
         ensures { result ≡ knows peer self.now.state }
     {
-        is_busy(&self.lists.sendings, peer)
-            || goes_to(&self.lists.waiting, peer)
-            || is_awaited(self.awaits, peer)
+        let busy = is_busy(&self.lists.sendings, peer);
+        let queued = goes_to(&self.lists.waiting, peer);
+        one_of(busy, queued, is_awaited(self.awaits, peer))
     }
 }

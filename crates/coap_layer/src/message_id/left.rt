@@ -1,5 +1,5 @@
 //! How many Message IDs are left at a moment (RFC 7252, section 4.4).
-ghost use Rattle.std.specs.Prelude.{◌≡◌, ◌≤◌, ◌<◌, ◌++◌, length, drop, take};
+ghost use Rattle.std.specs.Prelude.{◌≡◌, ◌≤◌, ◌<◌, ◌+◌, ◌++◌, length};
 ghost use Rattle.coap_layer.specs.Machine.IdState.{uses_of};
 ghost use Rattle.coap_layer.specs.Machine.Load.{ids_left, others_from, rested_first};
 ghost use Rattle.coap_layer.specs.declared.message_id.TheConstants.{GROUPS as groups};
@@ -19,19 +19,26 @@ fn rested(last_used: &[Option<Moment>], now: Moment) -> usize
     }
 }
 
+// How many of these groups and then of those, from the first on, rest.
+fn rested_through(these: &[Option<Moment>], those: &[Option<Moment>], now: Moment) -> usize
+    ensures rested { result ≡ rested_first now.0 (uses_of these.now ++ uses_of those.now) }
+    ensures within { result ≤ length these.now + length those.now }
+{
+    let first = rested(these, now);
+    if first < these.len() {
+        first
+    } else {
+        first + rested(those, now)
+    }
+}
+
 // How many of the other groups, in the order in which they come after this one, can be entered one after the other.
 fn others_rested(last_used: &[Option<Moment>; GROUPS], group: usize, now: Moment) -> usize
     requires { group < groups }
     ensures rested { result ≡ rested_first now.0 (others_from group (uses_of last_used.now)) }
     ensures within { result < groups }
 {
-    let behind = &last_used[group + 1..];
-    let first = rested(behind, now);
-    if first < behind.len() {
-        first
-    } else {
-        first + rested(&last_used[..group], now)
-    }
+    rested_through(&last_used[group + 1..], &last_used[..group], now)
 }
 
 impl IdSource {

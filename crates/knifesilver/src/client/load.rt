@@ -7,12 +7,12 @@ ghost use Rattle.knifesilver.specs.ClientHeld.{HoldsClient, HoldsClientIn, IsCli
 use crate::answers::{BAD_SIZE, NOT_LIVE, NOTHING};
 use crate::handle::KsHandle;
 use crate::held::Held;
-use crate::load::{KsLoad, LOAD_LEN, client_load};
+use crate::load::{KsEndLoad, LOAD_LEN, client_load};
 use coap_types::Moment;
 use std::alloc::Global;
 
 // Tells how much it has.
-fn tell(held: &Held, now: u64, load: &mut KsLoad) -> i32
+fn tell(held: &Held, now: u64, load: &mut KsEndLoad) -> i32
     ensures load { IsAnswered result → (result ≡ pos 0) × IsClientIn (IsLoadOfClient now load.new) held.now }
     ensures left { IsRefused result → load.new ≡ load.old }
     ensures live { IsClient held.now → result ≢ NOT_LIVE }
@@ -33,7 +33,7 @@ pub extern "C" fn ks_client_load(
     alloc: Global,
     handle: &mut KsHandle,
     now: u64,
-    load: &mut KsLoad,
+    load: &mut KsEndLoad,
 ) -> i32
     // What is told of the load are the numbers of the client in the handle at that moment.
     ensures load { IsAnswered result

@@ -7,12 +7,12 @@ ghost use Rattle.knifesilver.specs.ServerHeld.{HoldsServer, HoldsServerIn, IsSer
 use crate::answers::{BAD_SIZE, NOT_LIVE, NOTHING};
 use crate::handle::KsHandle;
 use crate::held::Held;
-use crate::load::{KsLoad, LOAD_LEN, server_load};
+use crate::load::{KsEndLoad, LOAD_LEN, server_load};
 use coap_types::Moment;
 use std::alloc::Global;
 
 // Tells how much it has.
-fn tell(held: &Held, now: u64, load: &mut KsLoad) -> i32
+fn tell(held: &Held, now: u64, load: &mut KsEndLoad) -> i32
     ensures load { IsAnswered result → (result ≡ pos 0) × IsServerIn (IsServerLoad now load.new) held.now }
     ensures left { IsRefused result → load.new ≡ load.old }
     ensures live { IsServer held.now → result ≢ NOT_LIVE }
@@ -33,7 +33,7 @@ pub extern "C" fn ks_server_load(
     alloc: Global,
     handle: &mut KsHandle,
     now: u64,
-    load: &mut KsLoad,
+    load: &mut KsEndLoad,
 ) -> i32
     // What is told of the load are the numbers of the server in the handle at that moment.
     ensures load { IsAnswered result

@@ -8,7 +8,7 @@ use crate::answers::NOT_LIVE;
 use crate::crossing::{KsAddress, endpoint};
 use crate::handle::KsHandle;
 use crate::held::Held;
-use crate::would::would_number;
+use crate::numbers::would_number;
 use coap_types::{Endpoint, Moment};
 use std::alloc::Global;
 
