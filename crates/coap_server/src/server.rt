@@ -8,7 +8,6 @@ mod full_response;
 mod handling;
 mod load;
 mod local;
-mod moments;
 mod notification;
 mod observation;
 mod observation_end;
