@@ -126,7 +126,7 @@ impl<A: Allocator + Copy> Assembly<A> {
         // The number is that of the partial bodies whose last block is not too long ago.
         ensures { result ≡ length (forgotten (max self.now.state.clock now.0) self.now.state.partials) }
     {
-        live(&self.partials, later(self.clock, now))
+        live(&self.partials, self.clock.later(now))
     }
 
     /// Takes the last block back, so that the assembly is as before it. There is to have been one that

@@ -6,7 +6,6 @@ ghost use Rattle.coap_server.specs.Load.{IsLoad};
 ghost use Rattle.coap_server.specs.Object.Shown.{seen, state_of};
 
 use crate::server::Server;
-use crate::server::moments::later;
 use crate::server::parts::Parts;
 use coap_exchange::Ended;
 use coap_layer::{LayerLoad, Would};
@@ -43,7 +42,7 @@ fn load_parts<S: Store<A>, A: Allocator + Copy, H: BuildHasher>(
 ) -> Load
     ensures { IsLoad now.0 result (seen S.content parts.now) }
 {
-    let at = later(later(parts.exchanges.clock(), parts.clock), now);
+    let at = parts.exchanges.clock().later(parts.clock).later(now);
     Load {
         layer: parts.exchanges.load(at),
         observers: parts.observers.len(),
@@ -72,9 +71,8 @@ impl<S: Store<A>, A: Allocator + Copy, H: BuildHasher> Server<S, A, H> {
         // What a datagram would be at a server is the row of the table of arrivals that `feed` would take.
         ensures { result ≡ would_of self.now.exchanges.layer (max self.now.clock now.0) from bytes.now }
     {
-        self.parts
-            .exchanges
-            .would(later(self.parts.clock, now), from, bytes)
+        let at = self.parts.clock.later(now);
+        self.parts.exchanges.would(at, from, bytes)
     }
 
     /// The separate response or the notification that a Reset or a failure ended in the last `feed` or `tick` (RFC
