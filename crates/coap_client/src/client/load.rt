@@ -28,7 +28,8 @@ pub struct ClientLoad {
 fn load_parts<A: Allocator + Copy, H: BuildHasher>(parts: &Parts<A, H>, now: Moment) -> ClientLoad
     ensures { IsClientLoad now.0 result (seen parts.now) }
 {
-    let at = parts.asker.clock().later(parts.held.clock).later(now);
+    let last = parts.asker.clock().later(parts.held.clock);
+    let at = last.later(now);
     ClientLoad {
         layer: parts.asker.load(at),
         waiting: parts.held.operations.waiting_len(),

@@ -35,22 +35,26 @@ pub struct Load {
     pub changes_left: u32,
 }
 
-// How much the parts of a server have at this moment, which is no earlier than the last that was handed in.
+// How much the parts of a server have at this moment.
 fn load_parts<S: Store<A>, A: Allocator + Copy, H: BuildHasher>(
     parts: &Parts<S, A, H>,
     now: Moment,
 ) -> Load
     ensures { IsLoad now.0 result (seen S.content parts.now) }
 {
-    let at = parts.exchanges.clock().later(parts.clock).later(now);
+    let last = parts.exchanges.clock().later(parts.clock);
+    let at = last.later(now);
+    let observers = parts.observers.len();
+    let delays = parts.delays.len();
+    let plains = parts.plains.len();
     Load {
         layer: parts.exchanges.load(at),
-        observers: parts.observers.len(),
+        observers,
         partial: parts.uploads.partial_len(at),
         deferred: parts.exchanges.deferred_len(),
         paths: parts.store.paths(),
-        delays: parts.delays.len(),
-        plains: parts.plains.len(),
+        delays,
+        plains,
         changes_left: parts.store.changes_left(at),
     }
 }

@@ -53,11 +53,11 @@ fn tell(held: &Held, told: &mut KsEnded) -> i32
 pub extern "C" fn ks_server_ended(alloc: Global, handle: &mut KsHandle, ended: &mut KsEnded) -> i32
     // What is told to have ended is what the last feed or tick of the server in the handle ended.
     ensures ended { IsAnswered result → HoldsServerIn (TellsEnded result ended.new) handle.old.held }
-    // To ask what ended leaves the very server in the handle.
+    // To ask a server what ended leaves the very server in the handle.
     ensures kept { handle.new.held ≡ handle.old.held }
-    // `ended` never says of a handle with a server that it holds none.
+    // `ks_server_ended` never says of a handle with a server that it holds none.
     ensures live { HoldsServer handle.old.held → result ≢ NOT_LIVE }
-    // To ask what ended is refused for want of a server in the handle, and for nothing else.
+    // To ask a server what ended is refused for want of a server in the handle, and for nothing else.
     ensures why { IsRefused result → result ≡ NOT_LIVE }
 {
     let Some(held) = handle.take(alloc) else {

@@ -44,9 +44,10 @@ pub extern "C" fn ks_server_load(
     ensures kept { handle.new.held ≡ handle.old.held }
     // The size of a struct for a server's load is refused exactly where it is another one.
     ensures size { (result ≡ BAD_SIZE) ↔ (load.old.size ≢ LOAD_LEN) }
-    // `load` never says of a handle with a server that it holds none.
+    // `ks_server_load` never says of a handle with a server that it holds none.
     ensures live { HoldsServer handle.old.held → result ≢ NOT_LIVE }
-    // To ask for a server's load is refused for another size or for want of a server in the handle, and for nothing else.
+    // To ask for a server's load is refused for another size or for want of a server in the handle, and for nothing
+    // else.
     ensures why { IsRefused result → (result ≡ BAD_SIZE) ⊎ (result ≡ NOT_LIVE) }
 {
     if load.size != LOAD_LEN {

@@ -13,14 +13,14 @@ returns g c =
     let now = c.args.now.0 in
     let at : c.later-at.result.0 ≡ max h.clock now = c.later-at.ensures in
     let le : h.clock ≤ max h.clock now = omega arith in
-    let open = c.outstanding_len.ensures
+    let outstanding = c.outstanding_len.ensures
     ∙ (ap (λ cs. length (filter (λ x. is_some x.last) cs)) c.deref.ensures.value
     ∙ open_len c.self.inside.lists.sendings.items) in
     subst (IsLayerLoad now _) (ap (λ s. s.state) c.self.view_is) (record {
       remembered = c.remembered.ensures
           ∙ (ap (λ t. length (filter (is_live t) h.arrived)) at ∙ forgotten_len h (max h.clock now) le);
       remembered_most = c.get.ensures.number;
-      outstanding = open;
-      queued = c.len.ensures;
+      outstanding = outstanding;
+      queued = c.len.ensures ∙ c.self.inside.lists.waiting.ok.0;
       ids_left = c.left.ensures ∙ ap (λ t. ids_left t h.upcoming h.last_used) at;
     })
