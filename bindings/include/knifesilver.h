@@ -410,6 +410,12 @@ typedef struct {
  * none; KS_NOT_LIVE. The next feed or tick empties it, as ks_server_applied. */
 int32_t ks_server_ended(ks_server *handle, ks_ended *ended);
 
+/* Whether the server has something of this peer at this moment that it may send, or may still need: an observation, an
+ * upload that is not whole, a request that waits for its delay, a message that is not acknowledged or that waits for
+ * ks_server_next_out. KS_DONE; KS_OK where it has nothing; KS_NOT_LIVE. What tells repeats is not counted: that is over
+ * by itself, 247 s after the peer's last message. After both, a name of the peer can be given to another. */
+int32_t ks_server_knows(ks_server *handle, uint64_t now, const ks_address *peer);
+
 /* ---- What an answer says ----------------------------------------------------------------------------------------- */
 
 /* Whether a call refused. (Not of ks_peek, which answers KS_OK or what is wrong with the datagram, and not of

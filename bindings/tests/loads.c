@@ -73,6 +73,8 @@ static void a_server(void) {
     IS(load.partial, 1);
     IS(load.remembered, 3);
     IS(load.queued, 3);
+    IS(ks_server_knows(&server, 0, &here), KS_DONE);
+    IS(ks_server_knows(&server, 0, &there), KS_OK);
     while (ks_server_next_out(&server, &to, datagram, sizeof datagram, &len) == KS_DONE) {}
     IS(of_server(0).queued, 0);
     IS(of_server(247000).remembered, 3);

@@ -225,6 +225,12 @@ class Server(_AnyEnd):
             answered(self._call("refuse", _moment(now), ctypes.byref(sender), *words))
             self._took()
 
+    def knows(self, now: int, peer: Address) -> bool:
+        """Whether the server has something of this peer that it may send, or may still need. What tells repeats is not
+        counted."""
+        with self._lock:
+            return answered(self._call("knows", _moment(now), ctypes.byref(raw_address(peer)))) == _DONE
+
     def ended(self) -> List[Ended]:
         """The separate responses and notifications that the last feed or tick ended, in order, by a Reset or for want
         of an acknowledgement."""

@@ -39,6 +39,7 @@ class Loads(unittest.TestCase):
             self.assertEqual(server.would(0, CLIENT_AT, self.OBSERVE), Would.REPEAT)
             load = server.load(0)
             self.assertEqual((load.remembered, load.observers, load.paths, load.queued), (1, 1, 1, 1))
+            self.assertEqual((server.knows(0, CLIENT_AT), server.knows(0, SERVER_AT)), (True, False))
             self.assertEqual((server.load(247000).remembered, server.load(247001).remembered), (1, 0))
 
     def test_a_notification_that_is_rejected_is_told(self):

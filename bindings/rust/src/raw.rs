@@ -242,6 +242,7 @@ extern "C" {
     fn ks_client_load(handle: *mut ks_client, now: u64, load: *mut ks_end_load) -> i32;
     fn ks_server_would(handle: *mut ks_server, now: u64, from: *const ks_address, datagram: *const c_void, datagram_len: usize) -> i32;
     fn ks_client_would(handle: *mut ks_client, now: u64, from: *const ks_address, datagram: *const c_void, datagram_len: usize) -> i32;
+    fn ks_server_knows(handle: *mut ks_server, now: u64, peer: *const ks_address) -> i32;
     fn ks_server_ended(handle: *mut ks_server, ended: *mut ks_ended) -> i32;
     fn ks_peek(datagram: *const c_void, datagram_len: usize, shown: *mut ks_message, room: *mut c_char, room_len: usize) -> i32;
 }
@@ -348,6 +349,10 @@ impl Server {
 
     pub fn would(&self, now: u64, from: &ks_address, datagram: &[u8]) -> i32 {
         unsafe { ks_server_would(self.0.get(), now, from, datagram.as_ptr().cast(), datagram.len()) }
+    }
+
+    pub fn knows(&self, now: u64, peer: &ks_address) -> i32 {
+        unsafe { ks_server_knows(self.0.get(), now, peer) }
     }
 
     pub fn ended(&self, ended: &mut ks_ended) -> i32 {

@@ -224,6 +224,12 @@ impl Server {
         Would::of(self.raw.would(self.around.moment(now), &address(from), datagram))
     }
 
+    /// Whether the server has something of this peer that it may send, or may still need: an observation, an upload that is
+    /// not whole, a request that waits, a message that is not acknowledged. What tells repeats is not counted.
+    pub fn knows(&self, now: Instant, peer: SocketAddrV4) -> bool {
+        self.raw.knows(self.around.moment(now), &address(peer)) == raw::KS_DONE
+    }
+
     /// What the last `handle`, `refuse` or `handle_timeout` ended, in order.
     pub fn ended(&self) -> &[Ended] {
         &self.ended

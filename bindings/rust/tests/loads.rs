@@ -25,6 +25,7 @@ fn a_server_tells_how_much_it_has() {
     assert_eq!(server.would(now, HERE, b"@"), Would::Ignore);
     let load = server.load(now);
     assert_eq!((load.remembered, load.observers, load.paths, load.queued), (1, 1, 1, 1));
+    assert!(server.knows(now, HERE) && !server.knows(now, THERE));
     assert_eq!(server.load(now + REMEMBERED).remembered, 1);
     assert_eq!(server.load(now + REMEMBERED + Duration::from_millis(1)).remembered, 0);
 }

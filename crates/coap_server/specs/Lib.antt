@@ -18,3 +18,4 @@ pub mod Object
 pub mod Turns
 pub mod RefusalNumbers
 pub mod Load
+pub mod Peers

@@ -13,6 +13,7 @@ mod observation;
 mod observation_end;
 mod option_list;
 mod parts;
+mod peers;
 mod plain;
 mod request;
 mod request_checks;

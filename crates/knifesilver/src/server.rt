@@ -4,6 +4,7 @@ mod load;
 mod local;
 mod made;
 mod out;
+mod peers;
 mod plain;
 mod refusing;
 pub(crate) mod turns;

@@ -120,6 +120,7 @@ impl<'a, A: Allocator + Copy> Ends<'a, A> {
             "watch" => self.watch(words),
             "load" => self.load(words),
             "would" => self.would(words),
+            "knows" => self.knows(words),
             "ended" => self.ended(words),
             _ => self.serve(verb, words, text, answer),
         }

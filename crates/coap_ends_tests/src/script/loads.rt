@@ -1,4 +1,4 @@
-//! The steps that ask an end about itself: how much it has, what a datagram would be, what ended.
+//! The steps that ask an end about itself: how much it has, what a datagram would be, whom it knows, what ended.
 use super::End;
 use super::ends::Ends;
 use super::words::{bytes_of, cut, endpoint, first, is_of_client, port_of};
@@ -103,6 +103,14 @@ impl<A: Allocator + Copy> Ends<'_, A> {
                 .would(Moment(at), endpoint(port), bytes.as_slice())
         };
         self.is_same(word_of(would), wanted)
+    }
+
+    pub(super) fn knows(&self, words: &str) -> Result<(), Fail> {
+        let (at, words) = first(words);
+        let (port, wanted) = first(words);
+        let at: u64 = at.parse()?;
+        let known = self.server.knows(Moment(at), endpoint(port_of(port)?));
+        self.is_same(if known { "yes" } else { "no" }, wanted)
     }
 
     pub(super) fn ended(&self, words: &str) -> Result<(), Fail> {

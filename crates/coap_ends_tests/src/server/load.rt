@@ -1,4 +1,4 @@
-//! What a server tells of itself: how much it has, what a datagram would be, and what ended.
+//! What a server tells of itself: how much it has, what a datagram would be, whom it knows, and what ended.
 use crate::script::{End, run};
 use std::test::Fail;
 
@@ -65,6 +65,42 @@ would 0 C 50011000 no-place
 would 0 C 40010fff repeated
 would 247000 C 40011000 no-place
 would 247001 C 40011000 taken
+
+== whom_a_server_knows
+knows 0 C no
+set 0 /t 0 = a
+set 0 /u 0 = b
+delay /u 1000
+# What was answered is not known once it is taken and the next message came.
+feed 0 C 41010001 01 b174
+out C 61450001 01 480000000000000001 80 ff61
+feed 0 X 40
+knows 0 C no
+knows 0 X no
+# An observation.
+feed 0 C 41010002 ee 60 5174
+out C 61450002 ee 480000000000000001 2101 60 ff61
+feed 0 F 40
+knows 0 C yes
+knows 100000000 C yes
+# A request that waits.
+feed 0 D 41010001 02 b175
+out D 60000001
+feed 0 F 40
+knows 0 D yes
+# An upload.
+feed 0 E 41030002 03 b176 d1030e ff 61*1024
+out E 615f0002 03 d10e0e
+feed 0 F 40
+knows 247000 E yes
+knows 247001 E no
+# A response that is not acknowledged.
+tick 1000
+out D 41450000 02 480000000000000002 80 ff62
+knows 1000 D yes
+feed 1000 D 60000000
+feed 1000 F 40
+knows 1000 D no
 
 == what_ended_is_told
 ended nothing
