@@ -17,6 +17,7 @@ fn tell(held: &Held, now: u64, load: &mut KsEndLoad) -> i32
     ensures left { IsRefused result → load.new ≡ load.old }
     ensures live { IsServer held.now → result ≢ NOT_LIVE }
     ensures why { IsRefused result → result ≡ NOT_LIVE }
+    ensures size { result ≢ BAD_SIZE }
 {
     match held {
         Held::Server(server) => {
