@@ -1,6 +1,6 @@
 //! The server's side of a Block1 transfer: it joins the blocks of an upload (RFC 7959, section 2.5).
 ghost use Rattle.std.specs.Prelude.{◌≡◌, ◌≤◌, ◌+◌, true, None, Some, IfOk, OnOk, OnErr, IsOk, IsSome, length};
-ghost use Rattle.std.specs.Prelude.{vec_len, vec_capacity};
+ghost use Rattle.std.specs.Prelude.{max, vec_len, vec_capacity};
 ghost use Rattle.std.specs.List.{list_any};
 ghost use Rattle.coap_types.specs.SameEndpoint.{same_endpoint};
 ghost use Rattle.coap_block.specs.Sizes.{usual_sizes};

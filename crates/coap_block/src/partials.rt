@@ -52,9 +52,7 @@ pub(crate) fn any_from<A: Allocator + Copy>(
 ) -> bool
     ensures { result ≡ list_any (λ p. is_live now.0 (body_of p) && same_endpoint p.key.from from) partials.now }
 {
-    partials
-        .iter()
-        .any(|partial| partial.is_live(now) && partial.key.from == from)
+    partials.iter().any(|partial| partial.is_from(from, now))
 }
 
 /// How many bytes the key has, if it has a partial body, and how many other keys have one.
