@@ -4,6 +4,7 @@ pub mod Bearing
 pub mod Captured
 pub mod Capturing
 pub mod Discovers
+pub mod Drawn
 pub mod Dumps
 pub mod Ends
 pub mod Hosts

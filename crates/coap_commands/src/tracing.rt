@@ -1,6 +1,6 @@
 //! What `--trace` prints: a line for each datagram.
-ghost use Rattle.std.specs.Prelude.{◌≡◌, is_some};
-ghost use Rattle.coap_commands.specs.Tracings.{is_traced};
+ghost use Rattle.std.specs.Prelude.{◌≡◌, IfSome, is_some};
+ghost use Rattle.coap_commands.specs.Tracings.{colour_before, colour_behind, is_coloured, is_traced, tracing_of, way_sign};
 
 use crate::peers::{PeerWords, Peers};
 use crate::timekeeper::Timekeeper;
@@ -26,7 +26,8 @@ pub enum Tracing {
 impl Tracing {
     /// Whether lines are wanted, and in colour.
     pub(crate) fn of(is_wanted: bool, is_coloured: bool) -> Tracing
-        ensures { is_traced result ≡ is_wanted }
+        ensures wanted { is_traced result ≡ is_wanted }
+        ensures exact { result ≡ tracing_of is_wanted is_coloured }
     {
         match (is_wanted, is_coloured) {
             (false, _) => Tracing::Off,
@@ -55,11 +56,24 @@ const GREEN: &str = "\x1b[32m";
 const PLAIN: &str = "\x1b[0m";
 
 // What stands in front of a line and behind it.
-fn colours(way: Way, is_coloured: bool) -> (&'static str, &'static str) {
+fn colours(way: Way, is_coloured: bool) -> (&'static str, &'static str)
+    ensures before { result.0.now ≡ colour_before way is_coloured }
+    ensures behind { result.1.now ≡ colour_behind is_coloured }
+{
     match (way, is_coloured) {
         (_, false) => ("", ""),
         (Way::Goes, true) => (CYAN, PLAIN),
         (Way::Comes, true) => (GREEN, PLAIN),
+    }
+}
+
+// What stands for the way of a datagram.
+fn way_sign(way: Way) -> &'static str
+    ensures { result.now ≡ way_sign way }
+{
+    match way {
+        Way::Goes => ">",
+        Way::Comes => "<",
     }
 }
 
@@ -74,17 +88,17 @@ fn line_text<A: Allocator + Copy>(
 ) -> Result<String<A>, AllocError> {
     let at = at.0;
     let (begin, end) = colours(way, is_coloured);
-    let way = match way {
-        Way::Goes => ">",
-        Way::Comes => "<",
-    };
+    let way = way_sign(way);
     let words = DatagramWords(bytes);
     format!(in alloc; "{begin}{at} {way} {peer} {words}{end}\n")
 }
 
 impl<A: Allocator + Copy, T: Timekeeper, W: Write, P: Peers> LineTeller<A, T, W, P> {
     /// Tells on this writer, by this clock, of these peers; in colour where that is wanted.
-    pub fn new(alloc: A, time: T, out: W, peers: P, is_coloured: bool) -> LineTeller<A, T, W, P> {
+    pub fn new(alloc: A, time: T, out: W, peers: P, is_coloured: bool) -> LineTeller<A, T, W, P>
+        // A teller of lines tells in colour exactly where that is wanted.
+        ensures { result.is_coloured ≡ is_coloured }
+    {
         LineTeller {
             alloc,
             time,
@@ -104,7 +118,9 @@ pub fn teller_on<'a, A: Allocator + Copy, T: Timekeeper + Drop, W: Write, P: Pee
     tracing: Tracing,
 ) -> Option<LineTeller<A, T, SharedWriter<'a, W>, P>>
     // There is a teller exactly where one is wanted.
-    ensures { is_some result ≡ is_traced tracing }
+    ensures wanted { is_some result ≡ is_traced tracing }
+    // It tells in colour where that is wanted.
+    ensures coloured { IfSome result (λ teller. teller.is_coloured ≡ is_coloured tracing) }
 {
     let is_coloured = tracing == Tracing::Coloured;
     if tracing == Tracing::Off {

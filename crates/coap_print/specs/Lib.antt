@@ -1,6 +1,9 @@
 pub mod Charts
 pub mod CodeNames
+pub mod Lines
 pub mod OptionNames
+pub mod Places
 pub mod Printable
 pub mod Segments
+pub mod Traffic
 pub mod Values

@@ -1,6 +1,7 @@
 //! What becomes of the datagrams of a run.
 ghost use Rattle.std.specs.Prelude.{◌≡◌};
 ghost use Rattle.coap_print.specs.Charts.{side_at};
+ghost use Rattle.coap_print.specs.Traffic.{arrival, delivers, delivers_later, first_alike, is_alike, is_lost, side_of};
 
 use coap_run::{Addresses, Event, Given, Side, What};
 use coap_types::Endpoint;
@@ -27,12 +28,16 @@ pub(super) struct Traffic<'a, A: Allocator + Copy> {
 
 impl<'a, A: Allocator + Copy> Traffic<'a, A> {
     /// Whether the datagram of this number never arrives.
-    pub(super) fn is_lost(&self, number: usize) -> bool {
+    pub(super) fn is_lost(&self, number: usize) -> bool
+        ensures { result ≡ is_lost self.now.events.now number }
+    {
         !self.events.iter().any(|event| delivers(event, number))
     }
 
     /// The number of the first datagram between the same endpoints that has the same bytes, where that is another one.
-    pub(super) fn first_alike(&self, number: usize, given: &Given<A>) -> Option<usize> {
+    pub(super) fn first_alike(&self, number: usize, given: &Given<A>) -> Option<usize>
+        ensures { result ≡ first_alike self.now.given.now number given.now }
+    {
         self.given
             .iter()
             .take(number)
@@ -40,22 +45,31 @@ impl<'a, A: Allocator + Copy> Traffic<'a, A> {
     }
 
     /// How the datagram of this number arrives that is delivered behind so many events.
-    pub(super) fn arrival(&self, past: usize, number: usize, given: &Given<A>) -> Arrival {
+    pub(super) fn arrival(&self, past: usize, number: usize, given: &Given<A>) -> Arrival
+        ensures { result ≡ arrival self.now.events.now self.now.given.now past number given.now }
+    {
         let from = given.from();
-        let mut arrival = Arrival::InOrder;
-        for event in self.events.iter().take(past) {
-            if delivers(event, number) {
-                return Arrival::Again;
-            }
-            if self.delivers_later(event, number, from) {
-                arrival = Arrival::Late;
-            }
+        let again = self
+            .events
+            .iter()
+            .take(past)
+            .any(|event| delivers(event, number));
+        let late = self
+            .events
+            .iter()
+            .take(past)
+            .any(|event| self.delivers_later(event, number, from));
+        match (again, late) {
+            (true, _) => Arrival::Again,
+            (false, true) => Arrival::Late,
+            (false, false) => Arrival::InOrder,
         }
-        arrival
     }
 
     // Whether the event delivers a datagram that this end gave out behind that of this number.
-    fn delivers_later(&self, event: &Event<A>, number: usize, from: Endpoint) -> bool {
+    fn delivers_later(&self, event: &Event<A>, number: usize, from: Endpoint) -> bool
+        ensures { result ≡ delivers_later self.now.given.now number from event.now.what }
+    {
         match event.what {
             What::Deliver(later) => {
                 later > number
@@ -82,7 +96,9 @@ impl<'a, A: Allocator + Copy> Traffic<'a, A> {
     }
 
     /// The end at which an event happens.
-    pub(super) fn side_of(&self, what: &What<A>) -> Side {
+    pub(super) fn side_of(&self, what: &What<A>) -> Side
+        ensures { result ≡ side_of self.now.addresses self.now.given.now what.now }
+    {
         match what {
             What::Call(_) | What::Observe(_) | What::Cancel(_) | What::Forget(_) => Side::Client,
             What::Set(_, _, _) | What::Remove(_) => Side::Server,
@@ -97,7 +113,9 @@ impl<'a, A: Allocator + Copy> Traffic<'a, A> {
 }
 
 // Whether the event delivers the datagram of this number.
-fn delivers<A: Allocator + Copy>(event: &Event<A>, number: usize) -> bool {
+fn delivers<A: Allocator + Copy>(event: &Event<A>, number: usize) -> bool
+    ensures { result ≡ delivers number event.now.what }
+{
     match event.what {
         What::Deliver(delivered) => delivered == number,
         _ => false,
@@ -105,6 +123,8 @@ fn delivers<A: Allocator + Copy>(event: &Event<A>, number: usize) -> bool {
 }
 
 // Whether two datagrams have the same bytes, and go between the same endpoints.
-fn is_alike<A: Allocator + Copy>(one: &Given<A>, other: &Given<A>) -> bool {
+fn is_alike<A: Allocator + Copy>(one: &Given<A>, other: &Given<A>) -> bool
+    ensures { result ≡ is_alike one.now other.now }
+{
     one.from() == other.from() && one.to() == other.to() && one.bytes() == other.bytes()
 }
