@@ -15,10 +15,10 @@ is_traced Coloured = true
 abbrev pub tracing_of : Bool → Bool → Tracing
 tracing_of wanted coloured = if wanted then (if coloured then Coloured else Plain) else Off
 
-abbrev pub is_coloured : Tracing → Bool
-is_coloured Off = false
-is_coloured Plain = false
-is_coloured Coloured = true
+abbrev pub is_in_colour : Tracing → Bool
+is_in_colour Off = false
+is_in_colour Plain = false
+is_in_colour Coloured = true
 
 -- what stands for the way of a datagram
 abbrev pub way_sign : Way → List ℕ

@@ -1,7 +1,7 @@
 //! What `--trace` prints: a line for each datagram.
 ghost use Rattle.std.specs.Prelude.{◌≡◌, IfSome, is_some};
 ghost use Rattle.coap_commands.specs.Colours.{way_colour};
-ghost use Rattle.coap_commands.specs.Tracings.{is_coloured, is_traced, tracing_of, way_sign};
+ghost use Rattle.coap_commands.specs.Tracings.{is_in_colour, is_traced, tracing_of, way_sign};
 
 use crate::peers::{PeerWords, Peers};
 use crate::timekeeper::Timekeeper;
@@ -113,7 +113,7 @@ pub fn teller_on<'a, A: Allocator + Copy, T: Timekeeper + Drop, W: Write, P: Pee
     // There is a teller exactly where one is wanted.
     ensures wanted { is_some result ≡ is_traced tracing }
     // It tells in colour where that is wanted.
-    ensures coloured { IfSome result (λ teller. teller.is_coloured ≡ is_coloured tracing) }
+    ensures coloured { IfSome result (λ teller. teller.is_coloured ≡ is_in_colour tracing) }
 {
     let is_coloured = tracing == Tracing::Coloured;
     if tracing == Tracing::Off {

@@ -3,7 +3,6 @@ pub mod Colours
 pub mod CodeNames
 pub mod Lines
 pub mod OptionNames
-pub mod Places
 pub mod Printable
 pub mod Segments
 pub mod Traffic

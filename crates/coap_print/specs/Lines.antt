@@ -1,5 +1,6 @@
 -- What a line of a record says, as it is told and drawn.
-use Rattle.std.specs.Prelude.{ℕ, Bool, false, true, ◌==◌, ◌&&◌, nat_eq, is_some, List, Option, Some, None, Result, Ok, Err}
+use Rattle.std.specs.Prelude.{ℕ, Bool, false, true, ◌==◌, ◌&&◌, nat_eq, is_some, List, Option, Some, None, Result}
+use Rattle.std.specs.Prelude.{Ok, Err}
 use Rattle.std.specs.Cmp.Lexicographic.{pointwise}
 use Rattle.std.specs.Int.{w64, to_be_bytes}
 use Rattle.coap_client.specs.RefusalNumbers.{call_refusal_number, cancel_refusal_number}

@@ -1,8 +1,8 @@
 -- What becomes of the datagrams of a run: which never arrives, which repeats another, and how one arrives.
-use Rattle.std.specs.Prelude.{ℕ, Bool, false, ◌&&◌, ◌==◌, nat_eq, nat_lt, not, List, take, slice_get, Option, Some}
-use Rattle.std.specs.Prelude.{None, if◌then◌else◌}
+use Rattle.std.specs.Prelude.{ℕ, ◌-◌, Bool, false, ◌&&◌, ◌==◌, length, nat_eq, nat_lt, not, List, take, slice_get}
+use Rattle.std.specs.Prelude.{Option, Some, None, if◌then◌else◌}
 use Rattle.std.specs.Cmp.Lexicographic.{pointwise}
-use Rattle.std.specs.List.{last_or, list_any, position}
+use Rattle.std.specs.List.{list_any, position}
 use Rattle.std.specs.Option.{unwrap_or}
 use Rattle.coap_types.specs.SameEndpoint.{same_endpoint}
 use Rattle.coap_types.specs.declared.endpoint.Endpoint.{Endpoint}
@@ -48,15 +48,23 @@ module _ {A : Type 0} where
   delivers_later all number from (what.Deliver later) = nat_lt number later && is_given_by from (slice_get all later)
   delivers_later all number from other = false
 
-  -- no event delivers it
+  -- one of the events delivers it
+  abbrev pub is_delivered : List (Event A) → ℕ → Bool
+  is_delivered events number = list_any (λ e. delivers number e.what) events
+
+  -- .. and none
   abbrev pub is_lost : List (Event A) → ℕ → Bool
-  is_lost events number = not (list_any (λ e. delivers number e.what) events)
+  is_lost events number = not (is_delivered events number)
+
+  -- one of the events delivers one that this end gave out behind it
+  abbrev pub is_overtaken : List (Event A) → List Given → ℕ → Endpoint → Bool
+  is_overtaken events all number from = list_any (λ e. delivers_later all number from e.what) events
 
   -- how it arrives behind so many events
   abbrev pub arrival : List (Event A) → List Given → ℕ → ℕ → Given → Arrival
   arrival events all past number given =
-      if list_any (λ e. delivers number e.what) (take past events) then Again
-      else if list_any (λ e. delivers_later all number given.from e.what) (take past events) then Late
+      if is_delivered (take past events) number then Again
+      else if is_overtaken (take past events) all number given.from then Late
       else InOrder
 
   -- the end at which it happens: what is delivered, at the end to which it goes
@@ -77,4 +85,4 @@ module _ {A : Type 0} where
   moment_of (Some event) = event.at.0
 
   abbrev pub last_moment : List (Event A) → ℕ
-  last_moment events = moment_of (last_or None events)
+  last_moment events = moment_of (slice_get events (length events - 1))

@@ -64,7 +64,7 @@ pub fn draw_run<A: Allocator + Copy, W: Write>(
 fn last_moment<A: Allocator + Copy>(events: &[Event<A>]) -> Moment
     ensures { result.0 ≡ last_moment events.now }
 {
-    match events.last() {
+    match events.get(events.len().saturating_sub(1)) {
         Some(event) => event.at,
         None => Moment(0),
     }

@@ -1,7 +1,4 @@
 //! Paths and endpoints in words.
-ghost use Rattle.std.specs.Prelude.{Some};
-ghost use Rattle.coap_print.specs.Places.{endpoint_text};
-
 use crate::message_words::write_segment;
 use coap_types::{Endpoint, Path};
 use std::alloc::Allocator;
@@ -34,8 +31,6 @@ impl<'a, A: Allocator + Copy> fmt::Display for PathWords<'a, A> {
 pub struct EndpointWords(pub Endpoint);
 
 impl fmt::Display for EndpointWords {
-    ghost output = { λ words. Some (endpoint_text words.0) };
-
     fn fmt<W: fmt::Write>(&self, f: &mut fmt::Formatter<W>) -> fmt::Result {
         let [a, b, c, d] = self.0.ip;
         let port = self.0.port;
