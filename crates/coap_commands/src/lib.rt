@@ -87,7 +87,6 @@ pub use coap_scripts::sim_with;
 pub use connection::Connection;
 pub use connection::Terms;
 pub use discovering::discover_over;
-pub use driver::Terminal;
 pub use driver::close;
 pub use driver::command;
 pub use driver::command_on;
