@@ -1,5 +1,5 @@
 -- What stands in the file of a journal.
-use Rattle.std.specs.Prelude.{◌≡◌, ◌<◌, ◌+◌, ◌^◌, ⊤, ℕ, List, [], ◌∷◌, ◌++◌, Option, Some, None, length}
+use Rattle.std.specs.Prelude.{◌≡◌, ◌<◌, ◌+◌, ◌^◌, ℕ, List, [], ◌∷◌, ◌++◌, Option, Some, None, length, min, take}
 use Rattle.std.specs.Borrow.{Bor}
 use Rattle.coap_journal.specs.Frames.{IsDamage, around, frame}
 use Rattle.coap_journal.specs.Numbers.{number}
@@ -14,19 +14,17 @@ use Rattle.coap_journal_file.specs.declared.judging.FileError.TheVariants.{Damag
 use Rattle.coap_journal_file.specs.declared.judging.Judged.{Judged}
 use Rattle.coap_journal_file.specs.declared.judging.Judged.TheVariants.{Begun, Empty}
 
--- the same bytes, as far as both go
-abbrev pub AreAlike : List ℕ → List ℕ → Type 0
-AreAlike [] ys = ⊤
-AreAlike (x ∷ xs) [] = ⊤
-AreAlike (x ∷ xs) (y ∷ ys) = (x ≡ y) × AreAlike xs ys
-
 -- how many bytes the frame of a beginning holds, as its first four bytes say
 abbrev pub begun_front : List ℕ
 begun_front = 0 ∷ 0 ∷ 0 ∷ 89 ∷ []
 
+-- the same bytes, as far as both go
+abbrev pub AreAlike : List ℕ → Type 0
+AreAlike bytes = take (min (length bytes) 4) bytes ≡ take (min (length bytes) 4) begun_front
+
 -- no more than the front of such a frame
 abbrev pub IsTornBeginning : List ℕ → Type 0
-IsTornBeginning bytes = (length bytes < 109) × AreAlike bytes begun_front
+IsTornBeginning bytes = (length bytes < 109) × AreAlike bytes
 
 -- a frame holds a turn with these inputs
 abbrev pub IsTurn : List ℕ → List ℕ → Type 0
@@ -48,6 +46,7 @@ IsBegun bytes beginning setup = (life : Life) × (rest : List ℕ)
 -- no first frame says how a server began
 abbrev pub IsUnbegun : List ℕ → Type 0
 IsUnbegun bytes = (beginning : Beginning) (life : Life) (rest : List ℕ) → IsConfiguration beginning.configuration
+    → length (record_bytes (records.Begun beginning life)) < 2 ^ 32
     → bytes ≡ frame 0 (record_bytes (records.Begun beginning life)) ++ rest → ⊥
 
 -- so much of the bytes is whole, and no damage follows it

@@ -1,10 +1,11 @@
 //! What stands in the file of a journal.
-ghost use Rattle.std.specs.Prelude.{◌≡◌, ℕ, List, true, false, IfErr, IfNone, IfOk, IfSome};
+ghost use Rattle.std.specs.Prelude.{◌≡◌, ◌<◌, ◌^◌, ℕ, List, true, false, IfErr, IfNone, IfOk, IfSome};
 ghost use Rattle.coap_journal_file.specs.Judging.{AreAlike, IsBegun, IsFault, IsJudged, IsSetup, IsTornBeginning};
-ghost use Rattle.coap_journal_file.specs.Judging.{IsTurn, IsUnbegun, begun_front};
+ghost use Rattle.coap_journal_file.specs.Judging.{IsTurn, IsUnbegun};
 
 use coap_journal::{
-    BeginError, Beginning, Damage, TURN, Whole, read_begun, read_frame, read_turn, scan,
+    BeginError, Beginning, Damage, TURN, Whole, journal_law, read_begun, read_frame, read_turn,
+    scan,
 };
 use thiserror::Error;
 
@@ -57,21 +58,11 @@ fn is_torn_beginning(bytes: &[u8]) -> bool
 
 // Whether the bytes are those of the front of a first frame, as far as both go.
 fn begins_alike(bytes: &[u8]) -> bool
-    ensures alike { result ≡ true → AreAlike bytes.now begun_front }
-    ensures other { result ≡ false → AreAlike bytes.now begun_front → ⊥ }
+    ensures alike { result ≡ true → AreAlike bytes.now }
+    ensures other { result ≡ false → AreAlike bytes.now → ⊥ }
 {
-    match bytes {
-        [] => true,
-        [a] => *a == BEGUN_FRONT[0],
-        [a, b] => *a == BEGUN_FRONT[0] && *b == BEGUN_FRONT[1],
-        [a, b, c] => *a == BEGUN_FRONT[0] && *b == BEGUN_FRONT[1] && *c == BEGUN_FRONT[2],
-        [a, b, c, d, ..] => {
-            *a == BEGUN_FRONT[0]
-                && *b == BEGUN_FRONT[1]
-                && *c == BEGUN_FRONT[2]
-                && *d == BEGUN_FRONT[3]
-        }
-    }
+    let len = bytes.len().min(BEGUN_FRONT.len());
+    bytes[..len] == BEGUN_FRONT[..len]
 }
 
 // The inputs of a turn, of the bytes that a frame holds.
@@ -90,8 +81,10 @@ fn inputs_in(body: &[u8]) -> Option<&[u8]>
 
 // The inputs of the frame that begins here, where it is a turn.
 fn setup_in(place: u64, bytes: &[u8]) -> Option<&[u8]>
-    ensures { IsSetup place bytes.now result.entry }
+    requires room { place < 2 ^ 63 }
+    ensures { IsSetup place bytes.now result }
 {
+    journal_law();
     match read_frame(place, bytes) {
         Some((body, _)) => inputs_in(body),
         None => None,
@@ -103,6 +96,7 @@ fn began_in(bytes: &[u8], whole: Whole) -> Result<Began<'_>, BeginError>
     ensures ok { IfOk result (λ b. IsBegun bytes.now b.beginning b.setup × (b.whole ≡ whole)) }
     ensures err { IfErr result (λ _. IsUnbegun bytes.now) }
 {
+    journal_law();
     let Some((body, rest)) = read_frame(0, bytes) else {
         return Err(BeginError::Unreadable);
     };

@@ -108,7 +108,7 @@ pub fn differing_beginning(beginning: Beginning, wishes: &Wishes<'_>) -> Option<
 }
 
 /// What a server began with that the words say otherwise, if anything.
-pub fn differing(began: &Began<'_>, wishes: &Wishes<'_>) -> Option<Differing>
+pub fn what_differs(began: &Began<'_>, wishes: &Wishes<'_>) -> Option<Differing>
     // Nothing differs where the server began with each thing that the words say.
     ensures none { IfNone result (AgreesOn wishes.now began.now.beginning × IsWishedSetup wishes.now.setup began.now) }
     // What is named is something that the words say otherwise.
