@@ -14,8 +14,8 @@ use crate::silence::be_silent;
 use coap_ends::Server;
 use coap_journal::{Beginning, Life, SILENCE_MS, Waking, Whole, go_on};
 use coap_journal_file::{
-    Differing, FileError, FrameError, Judged, OpenError, OpenJournal, Wishes, begun_frame,
-    differing, judge, open_journal, setup_frame, sync_folder, woke_frame,
+    Differing, FileError, FrameError, Judged, OpenError, OpenJournal, Wishes, begun_frame, judge,
+    open_journal, setup_frame, sync_folder, what_differs, woke_frame,
 };
 use coap_journaled::Journaled;
 use coap_links::{Link, Timekeeper};
@@ -101,7 +101,7 @@ fn looked_at(bytes: &[u8], wishes: &Wishes<'_>) -> Result<Option<Whole>, KeepErr
 {
     match judge(bytes) {
         Ok(Judged::Empty) => Ok(None),
-        Ok(Judged::Begun(began)) => match differing(&began, wishes) {
+        Ok(Judged::Begun(began)) => match what_differs(&began, wishes) {
             Some(differing) => Err(KeepError::Differs(differing)),
             None => Ok(Some(began.whole)),
         },
