@@ -339,7 +339,7 @@ text_only (DumpCapture file chart) ended c h = tt
 text_only (Answer path body datagram) ended c h = absurd (carried_out ended c h)
 text_only (Pair path body word limit remembered) ended c h =
     absurd (carried_out ended (paired_done ended path body.now word limit remembered c) h)
-text_only (Serve port count options script pcap) ended c h = served_done ended count options script c h
+text_only (Serve port count options script pcap journal) ended c h = served_done ended count options script c h
 text_only (Ask server path what options pcap) ended c h =
     absurd (carried_out ended (asked_carried ended server path what options c) h)
 text_only (Discover server options pcap) ended c h =
