@@ -339,6 +339,7 @@ where
     let link = Trace::new(link, capture);
     let err = RefCell::new(&mut *err);
     let mut told = SharedWriter(&err);
+    let slow = SharedWriter(&err);
     let teller = teller_on(alloc, time.again(), &err, FourPeers, tracing);
     let mut link = Trace::new(link, teller);
     let changes = changes_on(alloc, &err, options.changes, options.json);
@@ -352,7 +353,7 @@ where
     let word = word_of(rt, WordChoice::Random)?;
     let hasher = RandomState::new(rt)?;
     let syncs = time.again();
-    match keep(rt, &keeping, &mut link, &mut time, syncs, told, hasher) {
+    match keep(rt, &keeping, &mut link, &mut time, syncs, slow, hasher) {
         Ok(KeptServer { journaled, first }) => {
             warn(options, port, &mut told);
             let begin = time.now()?;

@@ -9,6 +9,8 @@ mod closed_ports;
 #[cfg(test)]
 mod joined_link;
 #[cfg(test)]
+mod journals;
+#[cfg(test)]
 mod long_waits;
 #[cfg(test)]
 mod pair;
