@@ -9,8 +9,6 @@ mod closed_ports;
 #[cfg(test)]
 mod joined_link;
 #[cfg(test)]
-mod journals;
-#[cfg(test)]
 mod long_waits;
 #[cfg(test)]
 mod pair;
