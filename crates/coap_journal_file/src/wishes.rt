@@ -88,11 +88,11 @@ fn is_wished_setup(wish: Option<&[u8]>, began: &Began<'_>) -> bool
 }
 
 /// What a server began with that the words say otherwise, if anything; of its setup nothing is said.
-pub fn differing_beginning(beginning: Beginning, wishes: &Wishes<'_>) -> Option<Differing>
+pub fn differing_beginning(beginning: &Beginning, wishes: &Wishes<'_>) -> Option<Differing>
     // No number differs where the server began with each one that the words say.
-    ensures none { IfNone result (AgreesOn wishes.now beginning) }
+    ensures none { IfNone result (AgreesOn wishes.now beginning.now) }
     // What is named of a beginning is something that the words say otherwise.
-    ensures some { IfSome result (DiffersOn wishes.now beginning) }
+    ensures some { IfSome result (DiffersOn wishes.now beginning.now) }
 {
     if !is_wished(wishes.word, beginning.seed.word) {
         return Some(Differing::Word);
@@ -114,7 +114,7 @@ pub fn what_differs(began: &Began<'_>, wishes: &Wishes<'_>) -> Option<Differing>
     // What is named is something that the words say otherwise.
     ensures some { IfSome result (Differs wishes.now began.now) }
 {
-    let number = differing_beginning(began.beginning, wishes);
+    let number = differing_beginning(&began.beginning, wishes);
     if number.is_some() {
         return number;
     }

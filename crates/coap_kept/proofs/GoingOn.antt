@@ -1,7 +1,13 @@
 -- The run of a journal whose end commits each input.
 use Rattle.std.proofs.Common.{◌≡◌, ℕ, Bool, List, [], ◌∷◌, ◌++◌, Result, ap, append_assoc, subst, sym}
+use Rattle.std.proofs.Common.{◌+◌, ◌-◌, Err, IfOk, IfSome, None, Ok, Option, Some, arith, length}
+use Rattle.std.proofs.lemmas.List.{length-append}
 use Rattle.coap_layer.specs.Trace.{Packet}
+use Rattle.coap_journal.specs.Frames.{around, frame}
 use Rattle.coap_journal.specs.Input.{Input}
+use Rattle.coap_journal.proofs.Facts.{length-frame}
+use Rattle.coap_journal.specs.declared.waking.Waking.{Waking}
+use Rattle.coap_journal.specs.declared.waking.Waking.TheVariants.{AfterSilence, At}
 use Rattle.coap_journaled.specs.Journal.{IsNoted, IsTaken, Journal}
 use Rattle.coap_journaled.specs.Runs.{Act, Commits, Does, Gives, Runs, Takes}
 use Rattle.coap_journaled.specs.declared.journaled.CommitError.{CommitError}
@@ -47,3 +53,24 @@ module _ {S F : Type 0} (appends : F → List ℕ → Bool → F → Type 0) (sy
     pub given_on : (old new : Journal S F) (t : List Act) (p : Packet) → Runs takes gives appends syncs start t old
         → IsTaken old new → gives old.end p new.end → GoesOn takes gives appends syncs start t new
     given_on old new t p runs is one = (Gives p ∷ [], Runs.further t old (Gives p ∷ []) new runs (Does.given p is one))
+
+-- what holds of a value, if there is one, and what follows from that
+pub if_some : {X : Type 0} {P Q : X → Type 0} (r : Option X) → ((x : X) → P x → Q x) → IfSome r P → IfSome r Q
+if_some None on h = tt
+if_some (Some x) on h = on x h
+
+-- the moment at which a server goes on
+abbrev pub moment_of : Waking → ℕ
+moment_of (At moment) = moment.0
+moment_of (AfterSilence moment) = moment.0
+
+-- .. of an answer
+pub if_ok : {X E : Type 0} {P Q : X → Type 0} (r : Result X E) → ((x : X) → P x → Q x) → IfOk r P → IfOk r Q
+if_ok (Ok x) on h = on x h
+if_ok (Err e) on h = tt
+
+-- where what follows the first frame stands
+pub behind_first : (bytes body rest : List ℕ) → bytes ≡ frame 0 body ++ rest
+    → length bytes - length rest ≡ around + length body
+behind_first bytes body rest is =
+    omega (arith, ap (length {A = ℕ}) is, length-append (frame 0 body) rest, length-frame 0 body)

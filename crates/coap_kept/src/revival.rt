@@ -48,17 +48,24 @@ fn beginning_in(bytes: &[u8]) -> Result<(Beginning, Life, &[u8]), BeginError>
     }
 }
 
+// The version after which versions begin, where it is one.
+fn base_of(base: u64) -> Option<VersionBase>
+    ensures { IfSome result (λ made. made ≡ base) }
+{
+    VersionBase::new(base)
+}
+
 // A server that begins so; None where none can.
 fn fresh_server<H: BuildHasher + Drop>(
     alloc: Global,
-    beginning: Beginning,
+    beginning: &Beginning,
     hasher: H,
 ) -> Option<Server<MapStore, Global, H>>
-    ensures { IfSome result (λ server. Led (limits_of beginning) beginning.configuration.szx (setup_of beginning) []
-        (state_of content_of server)) }
+    ensures { IfSome result (λ server. Led (limits_of beginning.now) beginning.now.configuration.szx
+        (setup_of beginning.now) [] (state_of content_of server)) }
 {
     let configuration = beginning.configuration;
-    let base = VersionBase::new(beginning.base)?;
+    let base = base_of(beginning.base)?;
     let store = MapStore::new_after(alloc, configuration.changes, configuration.limit, base)?;
     let setup = Setup {
         word: beginning.seed.word,
@@ -81,10 +88,10 @@ pub fn revive<H: BuildHasher + Drop>(
         Ok(begun) => begun,
         Err(why) => return Err(RevivalError::Unbegun(why)),
     };
-    if let Some(differing) = differing_beginning(beginning, wishes) {
+    if let Some(differing) = differing_beginning(&beginning, wishes) {
         return Err(RevivalError::Differs(differing));
     }
-    let Some(server) = fresh_server(alloc, beginning, hasher) else {
+    let Some(server) = fresh_server(alloc, &beginning, hasher) else {
         return Err(RevivalError::Unbegun(BeginError::Unreadable));
     };
     replay_all(alloc, server, bytes, rest, life)
