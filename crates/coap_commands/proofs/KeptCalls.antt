@@ -1,6 +1,7 @@
 -- A server that commits each input to its journal is turned as one without: by what it is handed, and what is taken.
 use Rattle.std.proofs.Common.{◌≡◌, ◌≢◌, ◌⊎◌, ◌≤◌, ◌+◌, ◌^◌, ℕ, Bool, false, true, List, [], ◌∷◌, Option, Some, arith, if◌then◌else◌}
-use Rattle.std.proofs.Common.{ap, inl, inr, refl, subst, sym}
+use Rattle.std.proofs.Common.{ap, inl, inr, refl, subst, sym, ◌∙◌, ◌++◌, ◌<◌, Err, IfOk, Ok, Result, get_or, length, take}
+use Rattle.std.proofs.lemmas.List.{take_more}
 use Rattle.coap_types.specs.declared.endpoint.Endpoint.{Endpoint}
 use Rattle.coap_layer.specs.Trace as layer
 use Rattle.coap_journal.specs.Input.{Feed, Tick}
@@ -14,6 +15,8 @@ use Rattle.coap_links.specs.declared.tally.Tally.{Tally}
 use Rattle.coap_server.specs.Led.{State, Step}
 use Rattle.coap_server.specs.Trace.{NextOut, Ticks}
 use Rattle.coap_server.specs.Trace.{Feeds as FedIn}
+use Rattle.coap_arguments.specs.declared.orders.Hold.{Hold}
+use Rattle.coap_commands.specs.Kept.{HoldsEach, HoldsMissing}
 use Rattle.coap_commands.specs.Served.{FedFrom}
 use Rattle.coap_commands.proofs.ServedCalls.{FedMost, fed_call, fed_here, fed_less, most_on, most_same, server_feeds}
 use Rattle.coap_commands.proofs.ServedCalls.{server_gives, server_ticks, turn_fed}
@@ -82,3 +85,26 @@ pub enough_fed : (count fed : ℕ) (old new : State) → count ≤ fed → FedMo
 enough_fed count fed old new most h =
     let n = h.1 in
     fed_less count h.0 old new (omega (arith, most, n)) h.2
+
+-- ---- what is held
+
+pub each_more : (at : ℕ) (holds : List Hold) (hold : Hold) (old between new : State) → HoldsEach at holds old between
+    → HoldsMissing at hold.path hold.body.items between new → HoldsEach at (holds ++ hold ∷ []) old new
+each_more at [] hold old between new so one =
+    (new, subst (λ (s : State). HoldsMissing at hold.path hold.body.items s new) so one, refl)
+each_more at (h ∷ holds) hold old between new so one =
+    (so.0, so.1, each_more at holds hold so.0 between new so.2 one)
+
+pub one_each : (at : ℕ) (holds : List Hold) (i : ℕ) (x : Hold) → x ≡ get_or holds i x → i < length holds
+    → (old between new : State) → HoldsEach at (take i holds) old between
+    → HoldsMissing at x.path x.body.items between new → HoldsEach at (take (i + 1) holds) old new
+one_each at holds i x is lt old between new so one =
+    subst (λ (hs : List Hold). HoldsEach at hs old new)
+    (sym (take_more holds i x lt ∙ ap (λ y. take i holds ++ y ∷ []) (sym is)))
+    (each_more at (take i holds) x old between new so one)
+
+-- ---- what an answer comes to
+
+pub if_ok : {X E : Type 0} {P Q : X → Type 0} (r : Result X E) → ((x : X) → P x → Q x) → IfOk r P → IfOk r Q
+if_ok (Ok x) on h = on x h
+if_ok (Err e) on h = tt

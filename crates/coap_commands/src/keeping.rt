@@ -1,10 +1,12 @@
 //! `serve --journal`: a server that goes on from a file.
-ghost use Rattle.std.specs.Prelude.{◌≡◌, ◌⊎◌, IfNone, IfOk, fold};
+ghost use Rattle.std.specs.Prelude.{◌≡◌, ◌⊎◌, None, Some, IfNone, IfOk, true, false, fold};
+ghost use Rattle.coap_resource.specs.Content.{Held};
 ghost use Rattle.coap_resource.specs.Entries.{content_of};
-ghost use Rattle.coap_server.specs.Led.{State};
+ghost use Rattle.coap_server.specs.Led.{State, Step};
 ghost use Rattle.coap_server.specs.Object.Shown.{state_of};
+ghost use Rattle.coap_server.specs.Trace.{Gets};
 ghost use Rattle.coap_commands.specs.Kept.{AreWishes, HoldsEach, HoldsMissing, IsGoneOn, IsServedOn, IsSetMissing};
-ghost use Rattle.coap_commands.specs.Kept.{setup_bytes};
+ghost use Rattle.coap_commands.specs.Kept.{IsSaidSetup, said, setup_bytes, word_if};
 ghost use Rattle.coap_commands.specs.Kept.{with_delay_bytes, with_plain_bytes};
 ghost use Rattle.coap_commands.specs.Served.{FedFrom};
 ghost use Rattle.coap_scripts.specs.declared.status.Status.TheVariants.{Done, Refused};
@@ -30,7 +32,7 @@ use coap_kept::{KeepError, Keeping, Kept, KeptServer, KeptTime, keep};
 use coap_links::{Link, Trace, UdpLink, fresh_tally, send_all, serve_turn};
 use coap_resource::{MAX_CHANGES_PER_WINDOW, MapStore, StoreRefusal};
 use coap_scripts::{Status, Stop, TEXT_PLAIN, largest_szx};
-use coap_types::{Endpoint, Moment, Path};
+use coap_types::{BodyLimit, Endpoint, Moment, Path, Remembered};
 use std::alloc::Global;
 use std::cell::RefCell;
 use std::fs::File;
@@ -72,30 +74,49 @@ fn setup_of(alloc: Global, options: &ServeOptions) -> Result<Vec<u8>, Stop>
     Ok(inputs)
 }
 
+// The word that is said, if any.
+fn said_word(is_said: bool, choice: WordChoice) -> Option<u64>
+    ensures { result ≡ word_if is_said choice }
+{
+    match (is_said, choice) {
+        (true, WordChoice::Given(word)) => Some(word),
+        (true, WordChoice::Random) | (false, _) => None,
+    }
+}
+
+// The limit that is said, if any.
+fn said_limit(is_said: bool, limit: BodyLimit) -> Option<BodyLimit>
+    ensures { result ≡ said is_said limit }
+{
+    if is_said { Some(limit) } else { None }
+}
+
+// The number of remembered messages that is said, if any.
+fn said_number(is_said: bool, remembered: Remembered) -> Option<Remembered>
+    ensures { result ≡ said is_said remembered }
+{
+    if is_said { Some(remembered) } else { None }
+}
+
+// The inputs that are said, if any.
+fn said_setup(setup: &[u8]) -> Option<&[u8]>
+    ensures { IsSaidSetup setup.now result }
+{
+    match setup {
+        [] => None,
+        [_, ..] => Some(setup),
+    }
+}
+
 // What the words say of how a server began.
 fn wishes_of<'a>(options: &ServeOptions, journal: Journal<'_>, setup: &'a [u8]) -> Wishes<'a>
     ensures { AreWishes options.now journal setup.now result }
 {
-    let word = match (journal.says_word, options.word) {
-        (true, WordChoice::Given(word)) => Some(word),
-        _ => None,
-    };
-    let limit = if journal.says_limit {
-        Some(options.limit)
-    } else {
-        None
-    };
-    let remembered = if journal.says_remembered {
-        Some(options.remembered)
-    } else {
-        None
-    };
-    let setup = if setup.is_empty() { None } else { Some(setup) };
     Wishes {
-        word,
-        limit,
-        remembered,
-        setup,
+        word: said_word(journal.says_word, options.word),
+        limit: said_limit(journal.says_limit, options.limit),
+        remembered: said_number(journal.says_remembered, options.remembered),
+        setup: said_setup(setup),
     }
 }
 
@@ -129,6 +150,19 @@ fn drawn_of<R: RandomSource>(
     })
 }
 
+// Whether a path holds something.
+fn is_held<H: BuildHasher + Drop>(server: &Server<MapStore, Global, H>, path: &Path) -> bool
+    ensures held { result ≡ true → (held : Held) × Step (state_of content_of server.now)
+        (Gets path.now (Some held)) (state_of content_of server.now) }
+    ensures none { result ≡ false → Step (state_of content_of server.now) (Gets path.now None)
+        (state_of content_of server.now) }
+{
+    match server.get(path) {
+        Some(_) => true,
+        None => false,
+    }
+}
+
 // Has a server hold a body at a path that holds nothing; the refusal of its store where it doesn't.
 fn hold_missing<H: BuildHasher + Drop, F: JournalFile>(
     journaled: &mut Journaled<Server<MapStore, Global, H>, F, Global>,
@@ -139,7 +173,7 @@ fn hold_missing<H: BuildHasher + Drop, F: JournalFile>(
     ensures { IfOk result (λ refusal. IfNone refusal (HoldsMissing at.0 path.now body.now
         (state_of content_of journaled.old.end) (state_of content_of journaled.new.end))) }
 {
-    if journaled.end().get(path).is_some() {
+    if is_held(journaled.end(), path) {
         return Ok(None);
     }
     match journaled.set(at, path, Some(TEXT_PLAIN), body) {
