@@ -23,6 +23,7 @@ mod dump;
 mod ends;
 mod hosts;
 mod json_lines;
+mod keeping;
 mod link_lines;
 mod link_source;
 mod observe;

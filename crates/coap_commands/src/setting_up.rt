@@ -27,9 +27,9 @@ use std::alloc::Global;
 use std::hash::BuildHasher;
 
 // The resource that is served, and what it holds.
-const PATH: &str = "temperature";
+pub(crate) const PATH: &str = "temperature";
 
-const BODY: &str = "22.3 C";
+pub(crate) const BODY: &str = "22.3 C";
 
 /// Has the server hold the resource, the text of a temperature; the refusal of its store where it
 /// doesn't.

@@ -10,6 +10,7 @@ use coap_types::{Path, Remembered};
 use failing_allocator::Failing;
 use std::alloc::{Allocator, Global};
 use std::fs;
+use std::fs::File;
 use std::io::Write;
 use std::net::Net;
 use std::process::Abort;
@@ -306,7 +307,7 @@ fn colours_by_terminals(rt: HostRuntime) -> Result<(), Fail> {
 }
 
 // The chart of the script is this one on such terminals.
-fn check_chart_on<R: Abort + AllocGlobal + Files + Net + Clock + RandomSource>(
+fn check_chart_on<R: Abort + AllocGlobal + Files<File = File> + Net + Clock + RandomSource>(
     rt: &R,
     terminals: Terminals,
     chart: &str,
