@@ -43,10 +43,10 @@ fn know<S: Store<A>, A: Allocator + Copy, H: BuildHasher>(
 }
 
 impl<S: Store<A>, A: Allocator + Copy, H: BuildHasher> Server<S, A, H> {
-    /// Whether the server has something of this peer at this moment that it may send, or may still need: an observation,
-    /// an upload that is not whole, a request that waits, a message that is outstanding or that waits to be taken. What
-    /// is remembered of duplicates doesn't count: that is over by itself after 247 s. A moment before the last one counts
-    /// as the last. Nothing changes. It takes no memory.
+    /// Whether the server has something of this peer at this moment that it may send, or may still need: an
+    /// observation, an upload that is not whole, a request that waits, a message that is outstanding or that waits to
+    /// be taken. What is remembered of duplicates doesn't count: that is over by itself after 247 s. A moment before
+    /// the last one counts as the last. Nothing changes. It takes no memory.
     pub fn knows(&self, now: Moment, peer: Endpoint) -> bool
         // Whether a server knows a peer is whether one of its lists, or of those of its exchanges, has something of it.
         ensures { result ≡ knows (state_of S.content self.now) now.0 peer }
