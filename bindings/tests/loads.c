@@ -177,7 +177,8 @@ static void feed_foretold(bool at_server, const ks_address *from, const uint8_t 
         IS(is_same(&before, &after), true);
         break;
     case KS_WOULD_TAKE:
-        IS(after.remembered == before.remembered + 1 || after.outstanding + 1 == before.outstanding, true);
+        /* A response in an acknowledgement is handed up, and not remembered. */
+        IS(after.remembered, before.remembered + ((kept[0] >> 4 & 3) < 2));
         break;
     case KS_WOULD_ACKNOWLEDGE:
         IS(out, 0);
@@ -216,7 +217,7 @@ static void random_ones(bool at_server) {
     ks_config config = {0};
     uint64_t version, id;
     config.size = sizeof config;
-    config.remembered = 48;
+    config.remembered = at_server ? 48 : 8;
     begin_with(&config, &config);
     for (int i = 0; i < TRIES; i++, now += word() % 4000) {
         uint8_t bytes[16];
