@@ -232,7 +232,8 @@ static void print_kept(void) {
     const uint64_t until = (uint64_t)REMEMBERED * KEPT_EVERY_MS - 1;
     print_memory("fresh; the server has a value of 6 bytes", (workload){.kind = WORK_NONE}, 0);
     print_memory("after 512 GETs", (workload){WORK_GETS, KEPT_EVERY_MS, 0}, until);
-    print_memory("after 512 notifications", (workload){WORK_CHANGES, KEPT_EVERY_MS, REMEMBERED}, until + 2 * KEPT_EVERY_MS);
+    print_memory("after 512 notifications", (workload){WORK_CHANGES, KEPT_EVERY_MS, REMEMBERED},
+                 until + 2 * KEPT_EVERY_MS);
 }
 
 static uint32_t number(const char *word) {

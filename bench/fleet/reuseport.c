@@ -1,8 +1,8 @@
-/* reuseport PORT THREADS: a server of CoAP on several cores, which has coap://127.0.0.1:PORT/temperature. Each thread has
- * a socket of its own at that port (SO_REUSEPORT) and a server of the library of its own; they have nothing in common.
- * Linux hands all that comes from one peer to one of the sockets, as long as no socket comes or goes. So each peer has
- * one server. Prints `ready` once all sockets are there; after SIGTERM, for each thread, how many datagrams it was fed and
- * the microseconds of processor time that it took. */
+/* reuseport PORT THREADS: a server of CoAP on several cores, which has coap://127.0.0.1:PORT/temperature. Each thread
+ * has a socket of its own at that port (SO_REUSEPORT) and a server of the library of its own; they have nothing in
+ * common. Linux hands all that comes from one peer to one of the sockets, as long as no socket comes or goes. So each
+ * peer has one server. Prints `ready` once all sockets are there; after SIGTERM, for each thread, how many datagrams it
+ * was fed and the microseconds of processor time that it took. */
 #define _GNU_SOURCE
 #include "knifesilver.h"
 #include <arpa/inet.h>

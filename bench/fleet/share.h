@@ -1,6 +1,6 @@
-/* share.h: a share of the fleet: some servers, the clients of them and the moments at which they are due. One thread has
- * it to itself. Time is made up, in milliseconds, and goes on to the next moment at which something is due; a datagram
- * arrives at the moment at which it is sent. So each run does the same. */
+/* share.h: a share of the fleet: some servers, the clients of them and the moments at which they are due. One thread
+ * has it to itself. Time is made up, in milliseconds, and goes on to the next moment at which something is due; a
+ * datagram arrives at the moment at which it is sent. So each run does the same. */
 #ifndef SHARE_H
 #define SHARE_H
 
@@ -15,7 +15,7 @@
 typedef enum {
     WORK_NONE,
     WORK_GETS,                  /* each client asks each `period`; the values stay */
-    WORK_CHANGES                /* each client observes; each server changes its value `changes` times, a `period` apart */
+    WORK_CHANGES                /* each client observes; each server changes its value `changes` times, `period` apart */
 } work_kind;
 
 typedef struct {

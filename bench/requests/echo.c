@@ -1,5 +1,5 @@
-/* echo PORT: answers each datagram by itself, as a piggybacked 2.05 with its Message ID and token: what the two system calls
- * of an answer take, with no end of CoAP. */
+/* echo PORT: answers each datagram by itself, as a piggybacked 2.05 with its Message ID and token: what the two system
+ * calls of an answer take, with no end of CoAP. */
 #include <arpa/inet.h>
 #include <stdint.h>
 #include <stdlib.h>
