@@ -35,20 +35,36 @@ client tick 0
 
 #[test]
 fn each_byte_of_a_resource_is_changed(rt: HostRuntime) -> Result<(), Fail> {
-    change_each(rt.alloc(), &find(rt.alloc(), &TALKS, "a_resource_is_read")?, 0..2)
+    change_each(
+        rt.alloc(),
+        &find(rt.alloc(), &TALKS, "a_resource_is_read")?,
+        0..2,
+    )
 }
 
 #[test]
 fn each_byte_of_a_first_block_is_changed(rt: HostRuntime) -> Result<(), Fail> {
-    change_each(rt.alloc(), &find(rt.alloc(), &TALKS, "a_body_is_sent_in_blocks")?, 0..1)
+    change_each(
+        rt.alloc(),
+        &find(rt.alloc(), &TALKS, "a_body_is_sent_in_blocks")?,
+        0..1,
+    )
 }
 
 #[test]
 fn each_byte_of_two_blocks_is_changed(rt: HostRuntime) -> Result<(), Fail> {
-    change_each(rt.alloc(), &find(rt.alloc(), &TALKS, "a_body_is_sent_in_blocks")?, 1..5)
+    change_each(
+        rt.alloc(),
+        &find(rt.alloc(), &TALKS, "a_body_is_sent_in_blocks")?,
+        1..5,
+    )
 }
 
 #[test]
 fn each_byte_of_the_last_block_is_changed(rt: HostRuntime) -> Result<(), Fail> {
-    change_each(rt.alloc(), &find(rt.alloc(), &TALKS, "a_body_is_sent_in_blocks")?, 5..8)
+    change_each(
+        rt.alloc(),
+        &find(rt.alloc(), &TALKS, "a_body_is_sent_in_blocks")?,
+        5..8,
+    )
 }

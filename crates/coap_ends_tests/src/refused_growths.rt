@@ -54,12 +54,7 @@ fn each_growth_is_refused(rt: HostRuntime) -> Result<(), Fail> {
 // Refuses the growths of the script one after the other, each in a run of its own, until there is no
 // further one. One that is refused makes one step want memory, or none where a message is sent from the room
 // that was made for it, as it would have been; none that is refused makes none.
-fn refuse_each(
-    alloc: Global,
-    scripts: &Scripts<'_>,
-    name: &str,
-    path: &str,
-) -> Result<(), Fail> {
+fn refuse_each(alloc: Global, scripts: &Scripts<'_>, name: &str, path: &str) -> Result<(), Fail> {
     let script = find(alloc, scripts, name)?;
     let watch = format!(in alloc; "watch {path}")?;
     for number in 1..MANY {

@@ -8,8 +8,8 @@
 //!
 //! | Step | What happens, or what has to be so |
 //! |---|---|
-//! | `new szx=6 word=0 changes=4194303 limit=65536` | the end begins anew, with its block size, its word, how many changes
-//! a window takes, its limit of bodies |
+//! | `new szx=6 word=0 changes=4194303 limit=65536` | the end begins anew, with its block size, its word, how
+//! many changes a window takes, its limit of bodies |
 //! | `feed 0 C 40010001` | a datagram arrives from there |
 //! | `tick 0` · `idle 0` | a tick does something · finds nothing due |
 //! | `due 3000` · `due nothing` | its next tick is due then · never, unless something happens before |

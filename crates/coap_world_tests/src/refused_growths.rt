@@ -79,7 +79,11 @@ fn each_growth_is_refused(rt: HostRuntime) -> Result<(), Fail> {
     }
     let again = find(alloc, &SCRIPTS, "a_get_that_comes_again")?;
     refuse_each(alloc, &again, Some(&again))?;
-    refuse_each(alloc, &find(alloc, &calls::RUNS, "a_tick_of_two_steps")?, None)?;
+    refuse_each(
+        alloc,
+        &find(alloc, &calls::RUNS, "a_tick_of_two_steps")?,
+        None,
+    )?;
     let two = find(alloc, &SCRIPTS, "two_are_responded_to")?;
     let one = find(alloc, &SCRIPTS, "one_is_responded_to")?;
     refuse_each(alloc, &two, Some(&one))
@@ -115,10 +119,7 @@ fn refuse_each(alloc: Global, script: &Script<'_>, kept: Option<&Script<'_>>) ->
             .iter()
             .position(|other| is_same(told.as_str(), other.as_str()))
         else {
-            return Err(Fail::new(format_args!(
-                "{place}, at growth {number}: {}",
-                told.as_str()
-            )));
+            return Err(Fail::new(format_args!("{place}, at growth {number}: {}", told.as_str())));
         };
         is_kept = is_kept || place == 0;
     }

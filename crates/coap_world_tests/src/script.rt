@@ -100,11 +100,7 @@ pub(crate) fn wanted<'a>(
 }
 
 // Adds what a line says to be told: of an event that it begins.
-fn add_wanted<'a>(
-    alloc: Global,
-    wanted: &mut Wanted<'a>,
-    line: &Line<'a>,
-) -> Result<(), Wrong> {
+fn add_wanted<'a>(alloc: Global, wanted: &mut Wanted<'a>, line: &Line<'a>) -> Result<(), Wrong> {
     match (line.mark, Step::of(line)) {
         (Mark::Told, _) => wanted.push_told(alloc, line),
         (Mark::Step, Step::Event(event)) => {
