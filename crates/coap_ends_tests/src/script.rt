@@ -116,22 +116,28 @@ fn begun<A: Allocator + Copy>(
 
 impl<A: Allocator + Copy> Ends<A> {
     // Carries out the lines of a script with the columns of a row, if any: how many wanted memory.
-    fn run_lines(
+    fn run_lines<'s>(
         &mut self,
-        script: &Script<'_>,
-        lines: &[Line<'_>],
-        row: Option<&Line<'_>>,
+        script: &Script<'s>,
+        lines: &[Line<'s>],
+        row: Option<&Line<'s>>,
     ) -> Result<u64, Fail> {
-        let mut last = script.head();
+        let mut place = script.place;
         for line in lines {
-            last = in_row(line, row);
+            let line = in_row(line, row);
+            place = line.place;
             match line.mark {
-                Mark::Step => last.check(self.run_line(line.text, row))?,
+                Mark::Step => line.check(self.run_line(line.text, row))?,
                 Mark::Row => {}
-                _ => return Err(Wrong::Because("it is no step").at(line)),
+                _ => return Err(Wrong::Because("it is no step").at(&line)),
             }
         }
-        last.check(self.is_over())?;
+        let end = Line {
+            place,
+            mark: Mark::Step,
+            text: "the end",
+        };
+        end.check(self.is_over())?;
         Ok(self.wants)
     }
 

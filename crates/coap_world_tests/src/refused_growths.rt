@@ -115,13 +115,13 @@ fn refuse_each(alloc: Global, script: &Script<'_>, kept: Option<&Script<'_>>) ->
         if told.as_str() == "no memory\n" {
             continue;
         }
-        let Some(place) = allowed
+        let Some(which) = allowed
             .iter()
             .position(|other| is_same(told.as_str(), other.as_str()))
         else {
             return Err(Fail::new(format_args!("{place}, at growth {number}: {}", told.as_str())));
         };
-        is_kept = is_kept || place == 0;
+        is_kept = is_kept || which == 0;
     }
     Err(Fail::new(format_args!("{place}: it takes too many growths")))
 }
