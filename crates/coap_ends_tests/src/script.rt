@@ -142,9 +142,17 @@ impl<A: Allocator + Copy> Ends<A> {
     }
 
     fn run_line(&mut self, line: &str, row: Option<&Line<'_>>) -> Result<(), Wrong> {
-        let columns = row.map_or("", |row: &Line<'_>| row.text);
+        let columns = columns_of(row);
         let step = filled(self.alloc, line, columns)?;
         self.run_step(step.as_str())
+    }
+}
+
+// The columns of a row, and none where there is no row.
+fn columns_of<'a>(row: Option<&Line<'a>>) -> &'a str {
+    match row {
+        Some(row) => row.text,
+        None => "",
     }
 }
 
