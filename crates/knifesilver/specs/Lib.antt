@@ -6,6 +6,7 @@ pub mod ClientHeld
 pub mod Configs
 pub mod Formats
 pub mod Fresh
+pub mod Journals
 pub mod Outgoing
 pub mod Owned
 pub mod PathRefusals

@@ -9,6 +9,7 @@ mod config;
 mod crossing;
 mod handle;
 mod held;
+mod journal;
 mod numbers;
 mod outgoing;
 mod path_text;
