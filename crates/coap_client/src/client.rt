@@ -26,11 +26,9 @@ ghost use Rattle.std.specs.Prelude.{◌≡◌, ◌≢◌, ◌≤◌, ◌<◌, �
 ghost use Rattle.std.specs.Prelude.{Result};
 ghost use Rattle.std.specs.Prelude.{Ok, Err, None, IfNone, IfOk, IfSome, IsOk, OnOk, OnErr, is_ok};
 ghost use Rattle.std.specs.Option.{option_map};
-ghost use Rattle.coap_types.specs.declared.endpoint.Endpoint.{Endpoint};
-ghost use Rattle.coap_block.specs.Sizes.{Sizes, usual_sizes};
+ghost use Rattle.coap_block.specs.Sizes.{usual_sizes};
 ghost use Rattle.coap_layer.specs.Trace as L;
 ghost use Rattle.coap_layer.specs.Machine.State.{usual};
-ghost use Rattle.coap_layer.specs.declared.setup.Setup.{Setup as SetupSpec};
 ghost use Rattle.coap_exchange.specs.declared.asker.AskRefusal.{AskRefusal};
 ghost use Rattle.coap_exchange.specs.declared.asker.Event.{Event};
 ghost use Rattle.coap_exchange.specs.declared.asker.Turn.{Turn};
@@ -39,7 +37,7 @@ ghost use Rattle.coap_client.specs.Object.CallShown.{shown_request};
 ghost use Rattle.coap_client.specs.Object.CallAnswers.{refusal_in};
 ghost use Rattle.coap_client.specs.Queue.{call_answer, observe_answer};
 ghost use Rattle.coap_client.specs.Led.{Step, Led, fresh_state};
-ghost use Rattle.coap_client.specs.Trace.{Call, Calls, Observes, Cancels, Forgets, Feeds, Ticks};
+ghost use Rattle.coap_client.specs.Trace.{Calls, Observes, Cancels, Forgets, Feeds, Ticks};
 ghost use Rattle.coap_client.specs.Trace.{NextOut, NextReport, Asked};
 ghost use Rattle.coap_client.specs.Object.Shown.{number_of, shown_asked, shown_reported};
 ghost use Rattle.coap_client.specs.Turns.Due.{TicksDo, latest};
@@ -158,12 +156,6 @@ impl<A: Allocator + Copy, H: BuildHasher> Client<A, H> {
         ensures step { OnOk result ((up : L.Answer) × (settled : Bool) × (event : Option Event) × (sent : L.Answer)
             × (token : Result (List ℕ) AskRefusal) × (kept : Bool)
             × Step self.old (Feeds now.0 from bytes.now word up settled event sent token kept) self.new) }
-        // Every history that led to the client leads on with this datagram, unless it was refused memory.
-        ensures led { OnOk result ((server : Endpoint) (sizes : Sizes) (setup : SetupSpec) (t : List Call)
-            → Led server sizes setup t self.old
-            → (up : L.Answer) × (settled : Bool) × (event : Option Event) × (sent : L.Answer)
-            × (token : Result (List ℕ) AskRefusal) × (kept : Bool)
-            × Led server sizes setup (Feeds now.0 from bytes.now word up settled event sent token kept ∷ t) self.new) }
         // A datagram that is refused memory leaves the client as it was.
         ensures err { OnErr result (self.new ≡ self.old) }
         // Where nothing is sent, kept or told, as for an acknowledgement that matches nothing, it takes no memory.
@@ -219,11 +211,6 @@ impl<A: Allocator + Copy, H: BuildHasher> Client<A, H> {
         // The number of a call, or why it is refused, and what that leaves, is a step of the client's machine.
         ensures step { result ≢ Err refusals.Memory
             → Step self.old (Calls now.0 (shown_request request) (number_of result)) self.new }
-        // Every history that led to the client leads on with this call, unless it was refused memory.
-        ensures led { (server : Endpoint) (sizes : Sizes) (setup : SetupSpec) (t : List Call)
-            → Led server sizes setup t self.old
-            → result ≢ Err refusals.Memory
-            → Led server sizes setup (Calls now.0 (shown_request request) (number_of result) ∷ t) self.new }
         // A call that is refused memory leaves the client as it was.
         ensures memory { result ≡ Err refusals.Memory → self.new ≡ self.old }
         // Where it is refused for another reason, it takes no memory.
@@ -240,11 +227,6 @@ impl<A: Allocator + Copy, H: BuildHasher> Client<A, H> {
         // The number of an observation, or why it is refused, and what that leaves, is a step of the client's machine.
         ensures step { result ≢ Err refusals.Memory
             → Step self.old (Observes now.0 path (number_of result)) self.new }
-        // Every history that led to the client leads on with this observation, unless it was refused memory.
-        ensures led { (server : Endpoint) (sizes : Sizes) (setup : SetupSpec) (t : List Call)
-            → Led server sizes setup t self.old
-            → result ≢ Err refusals.Memory
-            → Led server sizes setup (Observes now.0 path (number_of result) ∷ t) self.new }
         // An observation that is refused memory leaves the client as it was.
         ensures memory { result ≡ Err refusals.Memory → self.new ≡ self.old }
         // An observation that is refused for another reason takes no memory.
@@ -259,10 +241,6 @@ impl<A: Allocator + Copy, H: BuildHasher> Client<A, H> {
     pub fn cancel(&mut self, now: Moment, id: CallId) -> Result<(), CancelRefusal>
         // Whether a cancel is taken, and what that leaves, is a step of the client's machine.
         ensures step { Step self.old (Cancels now.0 id.0 (refusal_in result)) self.new }
-        // Every history that led to the client leads on with this cancel, which is never refused memory.
-        ensures led { (server : Endpoint) (sizes : Sizes) (setup : SetupSpec) (t : List Call)
-            → Led server sizes setup t self.old
-            → Led server sizes setup (Cancels now.0 id.0 (refusal_in result) ∷ t) self.new }
     {
         queue::cancel(&mut self.parts.held, now, id)
     }
@@ -273,10 +251,6 @@ impl<A: Allocator + Copy, H: BuildHasher> Client<A, H> {
     pub fn forget(&mut self, id: CallId) -> bool
         // Whether there was such an observation, and what its end leaves, is a step of the client's machine.
         ensures step { (kept : Bool) × Step self.old (Forgets id.0 kept result) self.new }
-        // Every history that led to the client leads on with an observation that is forgotten.
-        ensures led { (server : Endpoint) (sizes : Sizes) (setup : SetupSpec) (t : List Call)
-            → Led server sizes setup t self.old
-            → (kept : Bool) × Led server sizes setup (Forgets id.0 kept result ∷ t) self.new }
     {
         end::forget(&mut self.parts, id)
     }
@@ -291,12 +265,6 @@ impl<A: Allocator + Copy, H: BuildHasher> Client<A, H> {
         ensures step { IfOk result (λ did. (below : L.Answer) × (due : Turn) × (sent : L.Answer)
             × (token : Result (List ℕ) AskRefusal)
             × (kept : Bool) × Step self.old (Ticks now.0 word below due sent token kept did) self.new) }
-        // Every history that led to the client leads on with this tick, unless it was refused memory.
-        ensures led { (server : Endpoint) (sizes : Sizes) (setup : SetupSpec) (t : List Call)
-            → Led server sizes setup t self.old
-            → IfOk result (λ did. (below : L.Answer) × (due : Turn) × (sent : L.Answer)
-            × (token : Result (List ℕ) AskRefusal)
-            × (kept : Bool) × Led server sizes setup (Ticks now.0 word below due sent token kept did ∷ t) self.new) }
         // Each tick of a client that does something leaves less to be done at its moment.
         ensures less { result ≡ Ok true → work self.new now.0 < work self.old now.0 }
         // A tick that is refused memory leaves the client as it was.
@@ -312,10 +280,6 @@ impl<A: Allocator + Copy, H: BuildHasher> Client<A, H> {
     pub fn asked(&self) -> Option<(CallId, Token)>
         // Which request the last datagram or tick sent for the first time is told as the machine has it.
         ensures step { Step self.now (Asked (shown_asked result)) self.now }
-        // Every history that led to the client leads on with this question, which changes nothing.
-        ensures led { (server : Endpoint) (sizes : Sizes) (setup : SetupSpec) (t : List Call)
-            → Led server sizes setup t self.now
-            → Led server sizes setup (Asked (shown_asked result) ∷ t) self.now }
     {
         last_request::asked(&self.parts.held)
     }
@@ -324,10 +288,6 @@ impl<A: Allocator + Copy, H: BuildHasher> Client<A, H> {
     pub fn next_out(&mut self) -> Option<Datagram<A>>
         // Which datagram the client gives out, and what that leaves, is a step of its machine.
         ensures step { Step self.old (NextOut result) self.new }
-        // Every history that led to the client leads on with a datagram that it gives out.
-        ensures led { (server : Endpoint) (sizes : Sizes) (setup : SetupSpec) (t : List Call)
-            → Led server sizes setup t self.old
-            → Led server sizes setup (NextOut result ∷ t) self.new }
         // The datagram that the client gives out is the first that waited.
         ensures some { IfSome result (λ datagram. self.old.layer.layer.queue ≡ datagram ∷ self.new.layer.layer.queue) }
         // The client gives out none only where none waited, and nothing changes.
@@ -342,10 +302,6 @@ impl<A: Allocator + Copy, H: BuildHasher> Client<A, H> {
     pub fn next_report(&mut self) -> Option<(CallId, Report<A>)>
         // Which report is taken, and what that leaves, is a step of the client's machine.
         ensures step { Step self.old (NextReport (option_map shown_reported result)) self.new }
-        // Every history that led to the client leads on with a report that is taken.
-        ensures led { (server : Endpoint) (sizes : Sizes) (setup : SetupSpec) (t : List Call)
-            → Led server sizes setup t self.old
-            → Led server sizes setup (NextReport (option_map shown_reported result) ∷ t) self.new }
         // Each report that is taken leaves one less to be taken.
         ensures some { IfSome result (λ report. self.old.own.reports ≡ shown_reported report ∷ self.new.own.reports) }
         // No report is given only where none waited, and nothing changes.

@@ -21,15 +21,16 @@ use Rattle.coap_server.specs.Led.{State, Step}
 use Rattle.coap_server.specs.Trace.{Call, Handling, NextOut, Ticks}
 use Rattle.coap_server.specs.Trace.{Feeds as FedIn}
 use Rattle.coap_arguments.specs.declared.orders.ServeOptions.{ServeOptions}
-use Rattle.coap_commands.specs.Asked.{IsWord}
+use Rattle.coap_commands.specs.Asked.{IsOrigin}
 use Rattle.coap_commands.specs.ScriptSettings.{AreOfScript, IsOfSettings}
 use Rattle.coap_commands.specs.declared.setting_up.NotSetUp.{NotSetUp}
 use Rattle.coap_commands.specs.declared.setting_up.NotSetUp.TheVariants as notSetUp
+use Rattle.coap_commands.specs.declared.word.Origin.{Origin}
 use Rattle.coap_commands.specs.Served.{AllTurning, FedFrom, IsServed, IsServedBy, IsTurning, Leads, fed_by, fed_in}
 use Rattle.coap_commands.specs.Served.{not_set_up_status}
 use Rattle.coap_commands.specs.Serves.{Serves, Turning, nothing_fed}
 use Rattle.coap_commands.specs.Serves.{further as more, none as no_turn}
-use Rattle.coap_commands.specs.SettingUp.{IsServer}
+use Rattle.coap_commands.specs.SettingUp.{IsServerAfter}
 use Rattle.coap_scripts.specs.Settings.{Setting}
 use Rattle.coap_scripts.specs.declared.status.Status.{Status}
 use Rattle.coap_scripts.specs.declared.status.Status.TheVariants as status
@@ -217,55 +218,56 @@ module _ {L : Type 0} (waiting : State → List layer.Packet) (sends : L → End
     served_from count word own first last l m (Err stop) is h = tt
 
 -- it serves as its words and its settings say
-pub served_by : (count : ℕ) (options : ServeOptions) (settings : List Setting) (word : ℕ) (first : State)
-    (ended : Result Status Stop) → IsServer word options settings first
+pub served_by : (count : ℕ) (options : ServeOptions) (settings : List Setting) (origin : Origin) (first : State)
+    (ended : Result Status Stop) → IsServerAfter origin options settings first
     → IfOk ended (λ s. (s ≡ status.Done) × (end : State) × FedFrom count first end)
-    → IfOk ended (λ s. IsWord options.word word → IsServedBy count options settings s)
-served_by count options settings word first (Ok s) set_up h =
-    λ is_word. inr (inr (h.0, word, is_word, first, set_up, h.1, h.2))
-served_by count options settings word first (Err stop) set_up h = tt
+    → IfOk ended (λ s. IsOrigin options.word origin → IsServedBy count options settings s)
+served_by count options settings origin first (Ok s) set_up h =
+    λ is_origin. inr (inr (h.0, origin, is_origin, first, set_up, h.1, h.2))
+served_by count options settings origin first (Err stop) set_up h = tt
 
 -- .. or it isn't set up
-pub refused_by : (count : ℕ) (options : ServeOptions) (settings : List Setting) (word : ℕ) (ended : Result Status Stop)
-    → IfOk ended (λ s. s ≡ status.Refused)
-    → IfOk ended (λ s. IsWord options.word word → IsServedBy count options settings s)
-refused_by count options settings word (Ok s) h = λ is_word. inl h
-refused_by count options settings word (Err stop) h = tt
+pub refused_by : (count : ℕ) (options : ServeOptions) (settings : List Setting) (origin : Origin)
+    (ended : Result Status Stop) → IfOk ended (λ s. s ≡ status.Refused)
+    → IfOk ended (λ s. IsOrigin options.word origin → IsServedBy count options settings s)
+refused_by count options settings origin (Ok s) h = λ is_origin. inl h
+refused_by count options settings origin (Err stop) h = tt
 
 some_settings : (n : ℕ) (settings : List Setting) → 1 ≤ n → n ≤ length settings → settings ≢ []
 some_settings n [] least most = absurd (omega (arith, least, most))
 some_settings n (s ∷ settings) least most = λ is. cc is
 
-pub bad_by : (count : ℕ) (options : ServeOptions) (settings : List Setting) (word n : ℕ) (ended : Result Status Stop)
-    → 1 ≤ n → n ≤ length settings → IfOk ended (λ s. s ≡ status.Words)
-    → IfOk ended (λ s. IsWord options.word word → IsServedBy count options settings s)
-bad_by count options settings word n (Ok s) least most h =
-    λ is_word. inr (inl (h, some_settings n settings least most))
-bad_by count options settings word n (Err stop) least most h = tt
+pub bad_by : (count : ℕ) (options : ServeOptions) (settings : List Setting) (origin : Origin) (n : ℕ)
+    (ended : Result Status Stop) → 1 ≤ n → n ≤ length settings → IfOk ended (λ s. s ≡ status.Words)
+    → IfOk ended (λ s. IsOrigin options.word origin → IsServedBy count options settings s)
+bad_by count options settings origin n (Ok s) least most h =
+    λ is_origin. inr (inl (h, some_settings n settings least most))
+bad_by count options settings origin n (Err stop) least most h = tt
 
 -- what holds of a refusal
 pub refused_is : {X E : Type 0} (Is : E → Type 0) (made : Result X E) (e : E) → made ≡ Err e → IfErr made Is → Is e
 refused_is Is made e is h = subst (λ (r : Result _ _). IfErr r Is) is h
 
 -- a server that isn't set up
-pub not_set_by : (count : ℕ) (options : ServeOptions) (settings : List Setting) (word : ℕ) (why : NotSetUp)
+pub not_set_by : (count : ℕ) (options : ServeOptions) (settings : List Setting) (origin : Origin) (why : NotSetUp)
     (ended : Result Status Stop) → IsOfSettings settings why → IfOk ended (λ s. s ≡ not_set_up_status why)
-    → IfOk ended (λ s. IsWord options.word word → IsServedBy count options settings s)
-not_set_by count options settings word (notSetUp.Refused refusal) ended of h =
-    refused_by count options settings word ended h
-not_set_by count options settings word (notSetUp.Line bad) ended of h =
-    bad_by count options settings word bad.0 ended of.0 of.1 h
+    → IfOk ended (λ s. IsOrigin options.word origin → IsServedBy count options settings s)
+not_set_by count options settings origin (notSetUp.Refused refusal) ended of h =
+    refused_by count options settings origin ended h
+not_set_by count options settings origin (notSetUp.Line bad) ended of h =
+    bad_by count options settings origin bad.0 ended of.0 of.1 h
 
 -- what holds of a refusal, whichever it is
 pub where_refused : {X E : Type 0} (P : Type 0) (made : Result X E) (e : E) → made ≡ Err e → IfErr made (λ _. P) → P
 where_refused P made e is h = subst (λ (r : Result _ _). IfErr r (λ _. P)) is h
 
 -- with the word that was chosen
-pub worded : (count : ℕ) (options : ServeOptions) (settings : List Setting) (word : ℕ) (ended : Result Status Stop)
-    → IsWord options.word word → IfOk ended (λ s. IsWord options.word word → IsServedBy count options settings s)
+pub worded : (count : ℕ) (options : ServeOptions) (settings : List Setting) (origin : Origin) (ended : Result Status Stop)
+    → IsOrigin options.word origin
+    → IfOk ended (λ s. IsOrigin options.word origin → IsServedBy count options settings s)
     → IfOk ended (IsServedBy count options settings)
-worded count options settings word (Ok s) is_word h = h is_word
-worded count options settings word (Err stop) is_word h = tt
+worded count options settings origin (Ok s) is_origin h = h is_origin
+worded count options settings origin (Err stop) is_origin h = tt
 
 -- with the settings of the script that is named
 pub served_as : (count : ℕ) (options : ServeOptions) (script : Option (Bor (List ℕ))) (settings : List Setting)

@@ -2,6 +2,7 @@
 use Rattle.std.specs.Prelude.{◌≡◌, ⊤, ℕ, Bool, true, false, List, [], Option, Some, None}
 use Rattle.coap_types.specs.declared.request.Method.{Method}
 use Rattle.coap_types.specs.declared.request.Method.TheVariants as method
+use Rattle.coap_resource.specs.Base.{IsBase}
 use Rattle.coap_client.specs.Trace.{Request}
 use Rattle.coap_arguments.specs.declared.orders.AskOptions.{AskOptions}
 use Rattle.coap_arguments.specs.declared.orders.Content.{Content}
@@ -10,11 +11,21 @@ use Rattle.coap_arguments.specs.declared.orders.What.{What}
 use Rattle.coap_arguments.specs.declared.orders.What.TheVariants.{Get, Put, Post, Delete, Observe}
 use Rattle.coap_arguments.specs.declared.orders.WordChoice.{WordChoice}
 use Rattle.coap_arguments.specs.declared.orders.WordChoice.TheVariants.{Given, Random}
+use Rattle.coap_commands.specs.declared.word.Origin.{Origin}
 
 -- the word that is chosen; a random one may be any
 abbrev pub IsWord : WordChoice → ℕ → Type 0
 IsWord (Given n) word = word ≡ n
 IsWord Random word = ⊤
+
+-- the version after which a server's versions begin: with a word that is given 0, as each time; else one that is drawn
+abbrev pub IsBaseOf : WordChoice → ℕ → Type 0
+IsBaseOf (Given n) base = base ≡ 0
+IsBaseOf Random base = IsBase base
+
+-- what a server begins with
+abbrev pub IsOrigin : WordChoice → Origin → Type 0
+IsOrigin choice origin = IsWord choice origin.word × IsBaseOf choice origin.base
 
 -- the bytes of a text; those of a file may be any
 abbrev pub IsContent : Content → List ℕ → Type 0

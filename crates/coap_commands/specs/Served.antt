@@ -4,11 +4,12 @@ use Rattle.std.specs.Borrow.{Bor}
 use Rattle.coap_server.specs.Led.{State, Step}
 use Rattle.coap_server.specs.Trace.{Call, Feeds, NextOut, Ticks}
 use Rattle.coap_arguments.specs.declared.orders.ServeOptions.{ServeOptions}
-use Rattle.coap_commands.specs.Asked.{IsWord}
+use Rattle.coap_commands.specs.Asked.{IsOrigin}
 use Rattle.coap_commands.specs.ScriptSettings.{AreOfScript}
-use Rattle.coap_commands.specs.SettingUp.{IsServer}
+use Rattle.coap_commands.specs.SettingUp.{IsServerAfter}
 use Rattle.coap_commands.specs.declared.setting_up.NotSetUp.{NotSetUp}
 use Rattle.coap_commands.specs.declared.setting_up.NotSetUp.TheVariants as notSetUp
+use Rattle.coap_commands.specs.declared.word.Origin.{Origin}
 use Rattle.coap_scripts.specs.Settings.{Setting}
 use Rattle.coap_scripts.specs.declared.status.Status.{Status}
 use Rattle.coap_scripts.specs.declared.status.Status.TheVariants as status
@@ -52,8 +53,8 @@ not_set_up_status (notSetUp.Line bad) = status.Words
 abbrev pub IsServedBy : ℕ → ServeOptions → List Setting → Status → Type 0
 IsServedBy count options settings s = (s ≡ status.Refused)
     ⊎ (((s ≡ status.Words) × (settings ≢ []))
-    ⊎ ((s ≡ status.Done) × (word : ℕ) × IsWord options.word word × (first : State)
-    × IsServer word options settings first × (last : State) × FedFrom count first last))
+    ⊎ ((s ≡ status.Done) × (origin : Origin) × IsOrigin options.word origin × (first : State)
+    × IsServerAfter origin options settings first × (last : State) × FedFrom count first last))
 
 -- .. where the settings are those of the script that is named, if any; one of its lines may say none
 abbrev pub IsServed : ℕ → ServeOptions → Option (Bor (List ℕ)) → Status → Type 0

@@ -9,8 +9,9 @@ use Rattle.coap_arguments.specs.PathText.{IsPathText}
 use Rattle.coap_arguments.specs.declared.orders.Delay.{Delay}
 use Rattle.coap_arguments.specs.declared.orders.Hold.{Hold}
 use Rattle.coap_arguments.specs.declared.orders.ServeOptions.{ServeOptions}
-use Rattle.coap_commands.specs.Ends.{server_limits}
+use Rattle.coap_commands.specs.Ends.{server_limits_after}
 use Rattle.coap_commands.specs.ScriptSettings.{AreMade, limit_by}
+use Rattle.coap_commands.specs.declared.word.Origin.{Origin}
 use Rattle.coap_scripts.specs.Settings.{Setting}
 use Rattle.coap_scripts.specs.declared.usual.TheConstants.{TEXT_PLAIN as text_plain}
 
@@ -49,8 +50,13 @@ abbrev pub served_setup : ℕ → ServeOptions → Setup
 served_setup word options = record { word = word; remembered = options.remembered }
 
 -- a server that began so, takes bodies up to the limit that its script says, or else the words, and was set up as the
--- words say, and then as the settings of the script do
-abbrev pub IsServer : ℕ → ServeOptions → List Setting → State → Type 0
-IsServer word options settings s =
+-- words say, and then as the settings of the script do; its versions begin after its base
+abbrev pub IsServerAfter : Origin → ServeOptions → List Setting → State → Type 0
+IsServerAfter origin options settings s =
     (set : List Call) × (after : List Call) × SetsUp options [] set × AreMade settings set after
-    × Led (server_limits (limit_by options.limit settings)) max_szx (served_setup word options) after s
+    × Led (server_limits_after (limit_by options.limit settings) origin.base) max_szx
+    (served_setup origin.word options) after s
+
+-- .. where the first version is 1
+abbrev pub IsServer : ℕ → ServeOptions → List Setting → State → Type 0
+IsServer word options settings s = IsServerAfter (record { word = word; base = 0 }) options settings s

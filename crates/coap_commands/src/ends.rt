@@ -8,12 +8,12 @@ ghost use Rattle.coap_server.specs.Object.Shown.{state_of};
 ghost use Rattle.coap_server.specs.Led.{Led};
 ghost use Rattle.coap_layer.specs.declared.setup.Setup.{Setup as SetupSpec};
 ghost use Rattle.coap_server.specs.Trace.{Call, Sets};
-ghost use Rattle.coap_commands.specs.Ends.{client_sizes, server_limits};
+ghost use Rattle.coap_commands.specs.Ends.{client_sizes, server_limits, server_limits_after};
 ghost use Rattle.coap_scripts.specs.declared.status.Status.TheVariants.{Refused};
 
 use coap_ends::{Client, Server};
 use coap_layer::Setup;
-use coap_resource::{MAX_CHANGES_PER_WINDOW, MapStore, Store, StoreRefusal};
+use coap_resource::{MAX_CHANGES_PER_WINDOW, MapStore, Store, StoreRefusal, VersionBase};
 use coap_scripts::{Status, Stop, TEXT_PLAIN, largest_szx};
 use coap_types::{BodyLimit, Endpoint, MAX_SZX, Moment, Path, Szx};
 use std::alloc::Global;
@@ -32,7 +32,22 @@ pub fn fresh_server<H: BuildHasher + Drop>(
     // chosen.
     ensures { Led (server_limits limit) MAX_SZX setup [] (state_of content_of result) }
 {
-    let Some(store) = MapStore::new_sized(alloc, MAX_CHANGES_PER_WINDOW, limit) else {
+    fresh_server_after(alloc, setup, limit, VersionBase::default(), hasher)
+}
+
+/// A server that holds nothing, and then bodies up to this limit; its versions begin after this base.
+pub fn fresh_server_after<H: BuildHasher + Drop>(
+    alloc: Global,
+    setup: Setup,
+    limit: BodyLimit,
+    base: VersionBase,
+    hasher: H,
+) -> Server<MapStore, Global, H>
+    // To the server that begins after a base no call has led, with that base and limit, and as many remembered messages
+    // as were chosen.
+    ensures { Led (server_limits_after limit base) MAX_SZX setup [] (state_of content_of result) }
+{
+    let Some(store) = MapStore::new_after(alloc, MAX_CHANGES_PER_WINDOW, limit, base) else {
         unreachable!()
     };
     Server::with_setup(alloc, store, largest_szx(), setup, hasher)

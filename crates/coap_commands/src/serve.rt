@@ -7,7 +7,7 @@ ghost use Rattle.coap_server.specs.Led.{State};
 ghost use Rattle.coap_server.specs.Object.Shown.{state_of};
 ghost use Rattle.coap_commands.specs.Serves.{Feeds, Serves};
 ghost use Rattle.coap_scripts.specs.Settings.{setting_of};
-ghost use Rattle.coap_commands.specs.Asked.{IsWord};
+ghost use Rattle.coap_commands.specs.Asked.{IsOrigin};
 ghost use Rattle.coap_commands.specs.Served.{FedFrom, IsServed, IsServedBy, not_set_up_status};
 ghost use Rattle.coap_scripts.specs.declared.status.Status.TheVariants.{Done};
 
@@ -20,11 +20,11 @@ use crate::hosts::{Peer, peer_at};
 use crate::peers::{FourPeers, Peers, SixPeers};
 use crate::put_away::put_away;
 use crate::serve_script::{script_of, tell_bad_line};
-use crate::setting_up::{NotSetUp, server_by};
+use crate::setting_up::{NotSetUp, server_after};
 use crate::sources::own_six;
 use crate::timekeeper::{ProgramTime, Timekeeper};
 use crate::tracing::{Tracing, teller_on};
-use crate::word::word_of;
+use crate::word::{Origin, origin_of};
 use coap_arguments::{Address, ServeOptions};
 use coap_ends::{End, Server};
 use coap_links::{Link, Trace, Udp6Link, UdpLink, fresh_tally, send_all, serve_turn};
@@ -151,13 +151,13 @@ fn serve_on<
     capture: (P, Option<F>),
     telling: (N, Tracing),
     count: u64,
-    word: u64,
+    origin: Origin,
     options: &ServeOptions,
     settings: &[Setting],
     out: &mut O,
     err: &mut E,
 ) -> Result<Status, Stop>
-    ensures { IfOk result (λ status. IsWord options.now.word word
+    ensures { IfOk result (λ status. IsOrigin options.now.word origin
         → IsServedBy count options.now (map setting_of settings.now) status) }
 {
     let mut time = ProgramTime::begin(rt)?;
@@ -170,9 +170,12 @@ fn serve_on<
     let teller = teller_on(rt.alloc(), time.again(), &err, peers, tracing);
     let mut link = Trace::new(link, teller);
     let changes = changes_on(rt.alloc(), &err, options.changes, options.json);
-    let made = server_by(rt.alloc(), word, options, settings, RandomState::new(rt)?)?;
+    let made = server_after(rt.alloc(), origin, options, settings, RandomState::new(rt)?)?;
     match made {
-        Ok(server) => serve_with(server, changes, &mut link, &mut time, count, word, out),
+        Ok(server) => {
+            let word = origin.word;
+            serve_with(server, changes, &mut link, &mut time, count, word, out)
+        }
         Err(why) => tell_not_set_up(why, out),
     }
 }
@@ -200,7 +203,7 @@ fn serve_four<R: AllocGlobal + Files + Net + Clock + RandomSource, O: Write, E: 
 ) -> Result<Status, Stop>
     ensures { IfOk result (IsServedBy count options.now (map setting_of settings.now)) }
 {
-    let word = word_of(rt, options.word)?;
+    let origin = origin_of(rt, options.word)?;
     let link = UdpLink::bind(rt, address)?;
     let file = capture_in(rt, showing.pcap)?;
     warn(options, address.port, err);
@@ -214,7 +217,7 @@ fn serve_four<R: AllocGlobal + Files + Net + Clock + RandomSource, O: Write, E: 
         (standing, file),
         (FourPeers, tracing),
         count,
-        word,
+        origin,
         options,
         settings,
         out,
@@ -235,7 +238,7 @@ fn serve_six<R: AllocGlobal + Files + Net + Clock + RandomSource, O: Write, E: W
 ) -> Result<Status, Stop>
     ensures { IfOk result (IsServedBy count options.now (map setting_of settings.now)) }
 {
-    let word = word_of(rt, options.word)?;
+    let origin = origin_of(rt, options.word)?;
     let names = names_for(rt, MAX_CLIENTS)?;
     let link = Udp6Link::bind(rt, address, &names, ProgramTime::begin(rt)?)?;
     let file = capture_in(rt, showing.pcap)?;
@@ -248,7 +251,7 @@ fn serve_six<R: AllocGlobal + Files + Net + Clock + RandomSource, O: Write, E: W
         (standing, file),
         (SixPeers::new(&names), tracing),
         count,
-        word,
+        origin,
         options,
         settings,
         out,

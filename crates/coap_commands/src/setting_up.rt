@@ -10,15 +10,17 @@ ghost use Rattle.coap_server.specs.Trace.{Call};
 ghost use Rattle.coap_types.specs.declared.szx.TheConstants.{MAX_SZX as max_szx};
 ghost use Rattle.coap_scripts.specs.Settings.{setting_of};
 ghost use Rattle.coap_commands.specs.ScriptSettings.{AreMade, IsOfSettings};
-ghost use Rattle.coap_commands.specs.SettingUp.{Holds, HoldsResource, IsServer, SetsUp, with_delay, with_plain};
+ghost use Rattle.coap_commands.specs.SettingUp.{Holds, HoldsResource, IsServer, IsServerAfter, SetsUp};
+ghost use Rattle.coap_commands.specs.SettingUp.{with_delay, with_plain};
 
-use crate::ends::{fresh_server, hold};
+use crate::ends::{fresh_server_after, hold};
 use crate::put_away::put_away;
 use crate::serve_script::{BadLine, limit_by, make_all};
+use crate::word::Origin;
 use coap_arguments::{Delay, Hold, ServeOptions, path_of_text};
 use coap_ends::{DelayRefusal, PlainRefusal, Server};
 use coap_layer::Setup;
-use coap_resource::{MapStore, StoreRefusal};
+use coap_resource::{MapStore, StoreRefusal, VersionBase};
 use coap_scripts::{Setting, Stop};
 use coap_types::Path;
 use std::alloc::Global;
@@ -163,7 +165,8 @@ fn set_up_by<H: BuildHasher + Drop>(
     }
 }
 
-/// A server that is set up as the words and the settings of a script say, and begins with this word; why it isn't.
+/// A server that is set up as the words and the settings of a script say, begins with this word, and has versions from 1
+/// on; why it isn't.
 pub fn server_by<H: BuildHasher + Drop>(
     alloc: Global,
     word: u64,
@@ -171,19 +174,42 @@ pub fn server_by<H: BuildHasher + Drop>(
     settings: &[Setting],
     hasher: H,
 ) -> Result<Result<Server<MapStore, Global, H>, NotSetUp>, Stop>
-    // The server of `serve` remembers as many messages as its words say, and takes bodies up to the limit that its
-    // script says, or its words; the calls that set it up have led to it, and no other.
+    // The server that the words set up has versions from 1 on; it remembers as many messages as they say, and takes
+    // bodies up to the limit that the script says, or the words; the calls that set it up have led to it, and no other.
     ensures made { IfOk result (λ made. IfOk made (λ server. IsServer word options.now (map setting_of settings.now)
         (state_of content_of server))) }
     // A line of the script is named only where the script has one.
     ensures bad { IfOk result (λ made. IfErr made (IsOfSettings (map setting_of settings.now))) }
 {
-    let setup = Setup {
+    let origin = Origin {
         word,
+        base: VersionBase::default(),
+    };
+    server_after(alloc, origin, options, settings, hasher)
+}
+
+/// A server that is set up as the words and the settings of a script say, and begins with this word and after this
+/// base; why it isn't.
+pub fn server_after<H: BuildHasher + Drop>(
+    alloc: Global,
+    origin: Origin,
+    options: &ServeOptions,
+    settings: &[Setting],
+    hasher: H,
+) -> Result<Result<Server<MapStore, Global, H>, NotSetUp>, Stop>
+    // The server of `serve` has versions after its base; it remembers as many messages as its words say, and takes
+    // bodies up to the limit that its script says, or its words; the calls that set it up have led to it, and no other.
+    ensures made { IfOk result (λ made. IfOk made (λ server. IsServerAfter origin options.now
+        (map setting_of settings.now) (state_of content_of server))) }
+    // A line of the script is named only where the script has one.
+    ensures bad { IfOk result (λ made. IfErr made (IsOfSettings (map setting_of settings.now))) }
+{
+    let setup = Setup {
+        word: origin.word,
         remembered: options.remembered,
     };
     let limit = limit_by(options.limit, settings);
-    let mut server = fresh_server(alloc, setup, limit, hasher);
+    let mut server = fresh_server_after(alloc, setup, limit, origin.base, hasher);
     match set_up_by(alloc, &mut server, options, settings) {
         Ok(None) => Ok(Ok(server)),
         Ok(Some(why)) => {

@@ -21,7 +21,7 @@ mod served;
 mod tick;
 mod upload;
 
-ghost use Rattle.std.specs.Prelude.{◌≡◌, ◌≢◌, ◌≤◌, ◌<◌, ◌^◌, ℕ, max, Bool, true, false, Option, Some, List, [], ◌∷◌};
+ghost use Rattle.std.specs.Prelude.{◌≡◌, ◌≢◌, ◌≤◌, ◌<◌, ◌^◌, ℕ, max, Bool, true, false, Option, Some, [], ◌∷◌};
 ghost use Rattle.std.specs.Prelude.{Ok};
 ghost use Rattle.std.specs.Prelude.{Err};
 ghost use Rattle.std.specs.Prelude.{is_ok, is_some, length, IfNone, IfOk, IfSome, IsOk, OnErr, OnOk, option_copied};
@@ -29,7 +29,6 @@ ghost use Rattle.coap_codec.specs.Message.{Message};
 ghost use Rattle.coap_layer.specs.Machine.State.{answer_of, copies, made, usual};
 ghost use Rattle.coap_layer.specs.Machine.Ups.{IsQuiet};
 ghost use Rattle.coap_layer.specs.Trace as below;
-ghost use Rattle.coap_layer.specs.declared.setup.Setup.{Setup as SetupSpec};
 ghost use Rattle.coap_resource.specs.Content.{nothing, put_refusal};
 ghost use Rattle.coap_resource.specs.Limits.{Limits};
 ghost use Rattle.coap_resource.specs.Shown.{shown};
@@ -42,7 +41,7 @@ ghost use Rattle.coap_server.specs.declared.server.delays.DelayRefusal.TheVarian
 ghost use Rattle.coap_server.specs.declared.server.plain.PlainRefusal.TheVariants as plain_refusals;
 ghost use Rattle.coap_server.specs.Led.{Led, Step, fresh_state};
 ghost use Rattle.coap_server.specs.Plain.{is_plain, may_be_plain};
-ghost use Rattle.coap_server.specs.Trace.{Call, Delays, Feeds, Gets, Handling, NextOut, Removes, Sets};
+ghost use Rattle.coap_server.specs.Trace.{Delays, Feeds, Gets, Handling, NextOut, Removes, Sets};
 ghost use Rattle.coap_server.specs.Trace.{Plains, TellsApplied, Ticks};
 ghost use Rattle.coap_server.specs.Object.Shown.{applied_list, kept_of, state_of};
 ghost use Rattle.coap_server.specs.Turns.Idle.{IsIdle, moment};
@@ -174,12 +173,6 @@ impl<S: Store<A>, A: Allocator + Copy, H: BuildHasher> Server<S, A, H> {
             × (sent : below.Answer)
             × Step (state_of S.content self.old) (Feeds now.0 from bytes.now word up came h sent)
             (state_of S.content self.new)) }
-        // Every history that led to the server leads on with this datagram, unless it was refused memory.
-        ensures led { (limits : Limits) (szx : ℕ) (setup : SetupSpec) (t : List Call)
-            → Led limits szx setup t (state_of S.content self.old)
-            → OnOk result ((up : below.Answer) × (came : Option (AskedSpec × Message)) × (h : Handling)
-            × (sent : below.Answer)
-            × Led limits szx setup (Feeds now.0 from bytes.now word up came h sent ∷ t) (state_of S.content self.new)) }
         // A datagram that is refused memory leaves the server as it was.
         ensures err { OnErr result (self.new ≡ self.old) }
         // Where the message layer sends nothing and hands nothing up, it takes no memory.
@@ -200,12 +193,6 @@ impl<S: Store<A>, A: Allocator + Copy, H: BuildHasher> Server<S, A, H> {
             × (h : Handling) × (id : ℕ)
             × Step (state_of S.content self.old) (Ticks now.0 word done room due passed h id did)
             (state_of S.content self.new)) }
-        // Every history that led to the server leads on with this tick, unless it was refused memory.
-        ensures led { (limits : Limits) (szx : ℕ) (setup : SetupSpec) (t : List Call)
-            → Led limits szx setup t (state_of S.content self.old)
-            → IfOk result (λ did. (done : below.Answer) × (room : Bool) × (due : Due) × (passed : ℕ) × (h : Handling)
-            × (id : ℕ)
-            × Led limits szx setup (Ticks now.0 word done room due passed h id did ∷ t) (state_of S.content self.new)) }
         // Each tick of a server that does something leaves less to be done at its moment.
         ensures less { result ≡ Ok true
             → work (state_of S.content self.new) now.0 < work (state_of S.content self.old) now.0 }
@@ -252,12 +239,6 @@ impl<S: Store<A>, A: Allocator + Copy, H: BuildHasher> Server<S, A, H> {
         ensures step { result ≢ Err store_refusals.Memory → Step (state_of S.content self.old)
             (Sets now.0 path.now format body.now result (state_of S.content self.new).own.store)
             (state_of S.content self.new) }
-        // Every history that led to the server leads on with this local change, unless it was refused memory.
-        ensures led { (limits : Limits) (szx : ℕ) (setup : SetupSpec) (t : List Call)
-            → Led limits szx setup t (state_of S.content self.old)
-            → result ≢ Err store_refusals.Memory
-            → Led limits szx setup (Sets now.0 path.now format body.now result
-            (state_of S.content self.new).own.store ∷ t) (state_of S.content self.new) }
         // A local change that is refused memory leaves the server as it was.
         ensures memory { result ≡ Err store_refusals.Memory → self.new ≡ self.old }
         // Where the store has a reason not to put it there at that moment, that is the answer, and never Memory.
@@ -274,11 +255,6 @@ impl<S: Store<A>, A: Allocator + Copy, H: BuildHasher> Server<S, A, H> {
         // What a local removal answers and leaves is a step of the server's machine.
         ensures step { Step (state_of S.content self.old)
             (Removes now.0 path.now result (state_of S.content self.new).own.store) (state_of S.content self.new) }
-        // Every history that led to the server leads on with this removal, which is never refused memory.
-        ensures led { (limits : Limits) (szx : ℕ) (setup : SetupSpec) (t : List Call)
-            → Led limits szx setup t (state_of S.content self.old)
-            → Led limits szx setup (Removes now.0 path.now result (state_of S.content self.new).own.store ∷ t)
-            (state_of S.content self.new) }
     {
         remove_parts(&mut self.parts, now, path)
     }
@@ -290,11 +266,6 @@ impl<S: Store<A>, A: Allocator + Copy, H: BuildHasher> Server<S, A, H> {
         // Whether a path is given a delay, and what that leaves, is a step of the server's machine.
         ensures step { result ≢ Err delay_refusals.Memory → Step (state_of S.content self.old)
             (Delays path.now ms (is_ok result)) (state_of S.content self.new) }
-        // Every history that led to the server leads on with this delay, unless it was refused memory.
-        ensures led { (limits : Limits) (szx : ℕ) (setup : SetupSpec) (t : List Call)
-            → Led limits szx setup t (state_of S.content self.old)
-            → result ≢ Err delay_refusals.Memory
-            → Led limits szx setup (Delays path.now ms (is_ok result) ∷ t) (state_of S.content self.new) }
         // A delay that is refused memory leaves the server as it was.
         ensures memory { result ≡ Err delay_refusals.Memory → self.new ≡ self.old }
         // Where 16 other paths have a delay, a further one is refused as Full.
@@ -314,11 +285,6 @@ impl<S: Store<A>, A: Allocator + Copy, H: BuildHasher> Server<S, A, H> {
         // Whether a path is made plain, and what that leaves, is a step of the server's machine.
         ensures step { result ≢ Err plain_refusals.Memory → Step (state_of S.content self.old)
             (Plains path.now (is_ok result)) (state_of S.content self.new) }
-        // Every history that led to the server leads on with this plain path, unless it was refused memory.
-        ensures led { (limits : Limits) (szx : ℕ) (setup : SetupSpec) (t : List Call)
-            → Led limits szx setup t (state_of S.content self.old)
-            → result ≢ Err plain_refusals.Memory
-            → Led limits szx setup (Plains path.now (is_ok result) ∷ t) (state_of S.content self.new) }
         // A path that can't be made plain for want of memory leaves the server as it was.
         ensures memory { result ≡ Err plain_refusals.Memory → self.new ≡ self.old }
         // Where 16 other paths are plain, a further one is refused as Full.
@@ -336,10 +302,6 @@ impl<S: Store<A>, A: Allocator + Copy, H: BuildHasher> Server<S, A, H> {
         // What a path holds is told as the server's machine has it.
         ensures step { Step (state_of S.content self.now) (Gets path.now (shown (option_copied result)))
             (state_of S.content self.now) }
-        // Every history that led to the server leads on with this question for a path, which changes nothing.
-        ensures led { (limits : Limits) (szx : ℕ) (setup : SetupSpec) (t : List Call)
-            → Led limits szx setup t (state_of S.content self.now)
-            → Led limits szx setup (Gets path.now (shown (option_copied result)) ∷ t) (state_of S.content self.now) }
     {
         self.parts.store.get(path)
     }
@@ -350,11 +312,6 @@ impl<S: Store<A>, A: Allocator + Copy, H: BuildHasher> Server<S, A, H> {
         // Which request was applied last is told as the server's machine has it.
         ensures step { Step (state_of S.content self.now) (TellsApplied (applied_list (option_copied result)))
             (state_of S.content self.now) }
-        // Every history that led to the server leads on with the question for what was applied.
-        ensures led { (limits : Limits) (szx : ℕ) (setup : SetupSpec) (t : List Call)
-            → Led limits szx setup t (state_of S.content self.now)
-            → Led limits szx setup (TellsApplied (applied_list (option_copied result)) ∷ t)
-            (state_of S.content self.now) }
     {
         self.parts.applied.as_ref()
     }
@@ -363,10 +320,6 @@ impl<S: Store<A>, A: Allocator + Copy, H: BuildHasher> Server<S, A, H> {
     pub fn next_out(&mut self) -> Option<Datagram<A>>
         // Which datagram the server gives out, and what that leaves, is a step of its machine.
         ensures step { Step (state_of S.content self.old) (NextOut result) (state_of S.content self.new) }
-        // Every history that led to the server leads on with a datagram that it gives out.
-        ensures led { (limits : Limits) (szx : ℕ) (setup : SetupSpec) (t : List Call)
-            → Led limits szx setup t (state_of S.content self.old)
-            → Led limits szx setup (NextOut result ∷ t) (state_of S.content self.new) }
         // The datagram that the server gives out is the first that waited.
         ensures some { IfSome result (λ datagram. self.old.exchanges.layer.queue
             ≡ datagram ∷ self.new.exchanges.layer.queue) }

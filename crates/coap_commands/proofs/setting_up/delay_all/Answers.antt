@@ -1,6 +1,7 @@
 use Rattle.std.proofs.Common.{subst, arith, fold, take, List}
 use Rattle.std.proofs.lemmas.List.{take_all}
 use Rattle.coap_resource.specs.Entries.{content_of}
+use Rattle.coap_server.proofs.Facts.EachCall.{led_further}
 use Rattle.coap_server.specs.Led.{Led}
 use Rattle.coap_server.specs.Object.Shown.{state_of}
 use Rattle.coap_server.specs.Trace.{Call}
@@ -18,8 +19,8 @@ loop-delay-preserved g c = λ limits setup t led.
     let i = c.loop-delay.delay-index in
     subst (λ (after : List Call). Led limits max_szx setup after (state_of content_of c.set_delay.new.self))
     (fold_item with_delay t c.args.delays.now i c.delay-item.result c.delay-item.is c.loop-delay-test.true)
-    (c.in-Ok.ensures.led limits max_szx setup (fold with_delay t (take i c.args.delays.now))
-    (c.loop-delay.invariant limits setup t led) (λ e. cc e))
+    (led_further limits max_szx setup (fold with_delay t (take i c.args.delays.now)) _ _ _
+    (c.loop-delay.invariant limits setup t led) (c.in-Ok.ensures.step (λ e. cc e)))
 
 pub returns : goal.returns
 returns g c = λ limits setup t led.

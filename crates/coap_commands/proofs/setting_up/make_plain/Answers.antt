@@ -1,6 +1,7 @@
 use Rattle.std.proofs.Common.{subst, arith, fold, take, ℕ, List}
 use Rattle.std.proofs.lemmas.List.{take_all}
 use Rattle.coap_resource.specs.Entries.{content_of}
+use Rattle.coap_server.proofs.Facts.EachCall.{led_further}
 use Rattle.coap_server.specs.Led.{Led}
 use Rattle.coap_server.specs.Object.Shown.{state_of}
 use Rattle.coap_server.specs.Trace.{Call}
@@ -17,8 +18,8 @@ loop-path-preserved g c = λ limits setup t led.
     let i = c.loop-path.path-index in
     subst (λ (after : List Call). Led limits max_szx setup after (state_of content_of c.set_plain.new.self))
     (fold_item with_plain t c.args.paths.now i c.path-item.result c.path-item.is c.loop-path-test.true)
-    (c.in-Ok.ensures.led limits max_szx setup (fold with_plain t (take i c.args.paths.now))
-    (c.loop-path.invariant limits setup t led) (λ e. cc e))
+    (led_further limits max_szx setup (fold with_plain t (take i c.args.paths.now)) _ _ _
+    (c.loop-path.invariant limits setup t led) (c.in-Ok.ensures.step (λ e. cc e)))
 
 pub returns : goal.returns
 returns g c = λ limits setup t led.

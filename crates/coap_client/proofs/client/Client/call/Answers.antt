@@ -1,5 +1,4 @@
 use Rattle.std.proofs.Common.{ap}
-use Rattle.coap_client.proofs.Facts.Turning.Leading.{led_client}
 use Rattle.coap_client.specs.Object.Happens.{left}
 use Rattle.coap_client.specs.Object.Held.{seen}
 use Rattle.coap_client.proofs.Calls.IsLed.{closes_call, same_led, seen_step}
@@ -17,7 +16,3 @@ invariant_of-self g c =
 pub returns-clause-step : goal.returns-clause-step
 returns-clause-step g c other = seen_step (seen c.self.inside.parts) _ _ _
     c.self.view_is (c.call.ensures.step other c.self.inside.parts.asker.state)
-
-pub returns-clause-led : goal.returns-clause-led
-returns-clause-led g c server sizes w t led other = led_client server sizes w t _ _ _ led
-    (returns-clause-step g c other)

@@ -1,4 +1,3 @@
-use Rattle.coap_client.proofs.Facts.Turning.Leading.{led_client}
 use Rattle.coap_client.specs.Object.Held.{seen}
 use Rattle.coap_client.proofs.Calls.IsLed.{seen_step}
 use Rattle.coap_client.proofs.Calls.Watched.{led_step}
@@ -8,9 +7,6 @@ pub invariant_of-self : goal.invariant_of-self
 invariant_of-self g c = led_step (seen c.self.inside.parts) _ _ c.self.invariant
     (c.cancel.ensures.step c.self.inside.parts.asker.state)
 
-pub returns-clause-step : goal.returns-clause-step
-returns-clause-step g c = seen_step (seen c.self.inside.parts) _ _ _ c.self.view_is
+pub returns : goal.returns
+returns g c = seen_step (seen c.self.inside.parts) _ _ _ c.self.view_is
     (c.cancel.ensures.step c.self.inside.parts.asker.state)
-
-pub returns-clause-led : goal.returns-clause-led
-returns-clause-led g c server sizes w t led = led_client server sizes w t _ _ _ led (returns-clause-step g c)

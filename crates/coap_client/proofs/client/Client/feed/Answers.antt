@@ -1,5 +1,4 @@
 use Rattle.std.proofs.Common.{refl, sym, subst, ◌∙◌}
-use Rattle.coap_client.proofs.Facts.Turning.Leading.{led_client}
 use Rattle.coap_client.specs.Object.Happens.{Watched}
 use Rattle.coap_client.specs.Object.Held.{own_of, seen}
 use Rattle.coap_client.proofs.Facts.Calls.Happening.{err_of, fed_by, ok_of, on_ok}
@@ -25,12 +24,6 @@ returns-else-is_err-clause-step g c =
     c.self.view_is c.later-at.ensures step.2 h in
     (step.0, step.1, c.in_ok-event.event, s.0, s.1, s.2, s.3))
     c.happen-done.ensures.happens
-
-pub returns-else-is_err-clause-led : goal.returns-else-is_err-clause-led
-returns-else-is_err-clause-led g c =
-    on_ok c.happen-done.result
-    (λ s server sizes w t led. (s.0, s.1, s.2, s.3, s.4, s.5, led_client server sizes w t _ _ _ led s.6))
-    (returns-else-is_err-clause-step g c)
 
 pub invariant_of-self-else-is_err : goal.invariant_of-self-else-is_err
 invariant_of-self-else-is_err g c =

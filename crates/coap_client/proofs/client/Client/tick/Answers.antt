@@ -1,4 +1,3 @@
-use Rattle.coap_client.proofs.Facts.Turning.Leading.{led_client}
 use Rattle.coap_client.specs.Object.Held.{own_of, seen}
 use Rattle.coap_client.proofs.Calls.IsLed.{both_err, closes_if, if_ok, on_err, same_led, same_left, seen_step}
 use Rattle.coap_client.proofs.Calls.Watched.{apart, led_step}
@@ -30,11 +29,6 @@ returns-clause-step g c =
       seen_step (seen c.self.inside.parts) _ _ _ c.self.view_is s.5,
     ))
     c.tick.ensures.step
-
-pub returns-clause-led : goal.returns-clause-led
-returns-clause-led g c server sizes w t led =
-    if_ok c.tick.result (λ did s. (s.0, s.1, s.2, s.3, s.4, led_client server sizes w t _ _ _ led s.5))
-    (returns-clause-step g c)
 
 pub returns-clause-less : goal.returns-clause-less
 returns-clause-less g c = ticks_fall c.tick.result _ _ _ _ (returns-clause-step g c)

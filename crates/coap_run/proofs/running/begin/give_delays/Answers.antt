@@ -1,5 +1,6 @@
 use Rattle.std.proofs.Common.{◌≤◌, ◌-◌, ◌∷◌, Err, length, drop, is_ok, sym, ap, subst, ◌∙◌, arith}
 use Rattle.std.proofs.lemmas.List.{length-map}
+use Rattle.coap_server.proofs.Facts.EachCall.{led_further}
 use Rattle.coap_server.specs.Object.Shown.{delay_as, state_of}
 use Rattle.coap_server.specs.Deferring.{may_delay}
 use Rattle.coap_server.specs.Led.{Led}
@@ -39,9 +40,9 @@ delays-preserved g c =
           (subst (λ b. Led k.limits k.server_szx k.server_setup
           (Delays c.index-delay.result.now.path c.index-delay.result.now.ms b ∷ gives (drop c.delays.left k.delays))
           (state_of g.S.Store.content c.set_delay.new.self)) ok
-          (c.set_delay.ensures.led k.limits k.server_szx k.server_setup
-          (gives (drop c.delays.left k.delays)) c.delays.invariant.led
-          (λ e. let clash = sym c.in-Ok.is ∙ e in cc)));
+          (led_further k.limits k.server_szx k.server_setup
+          (gives (drop c.delays.left k.delays)) _ _ _ c.delays.invariant.led
+          (c.set_delay.ensures.step (λ e. let clash = sym c.in-Ok.is ∙ e in cc))));
     }
 
 pub unreachable-requires : goal.unreachable-requires

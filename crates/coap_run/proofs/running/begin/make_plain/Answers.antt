@@ -1,4 +1,5 @@
 use Rattle.std.proofs.Common.{◌≤◌, ◌-◌, ◌∷◌, Err, length, drop, get_or, is_ok, sym, ap, subst, ◌∙◌, arith}
+use Rattle.coap_server.proofs.Facts.EachCall.{led_further}
 use Rattle.coap_server.specs.Object.Shown.{state_of}
 use Rattle.coap_server.specs.Plain.{may_be_plain}
 use Rattle.coap_server.specs.Led.{Led}
@@ -39,9 +40,9 @@ plains-preserved g c =
           (subst (λ b. Led k.limits k.server_szx k.server_setup
           (Plains c.index.result.now b ∷ begins_with (drop c.plains.left k.plains) k.delays)
           (state_of g.S.Store.content c.set_plain.new.self)) ok
-          (c.set_plain.ensures.led k.limits k.server_szx k.server_setup
-          (begins_with (drop c.plains.left k.plains) k.delays) c.plains.invariant.led
-          (λ e. let clash = sym c.in-Ok.is ∙ e in cc)));
+          (led_further k.limits k.server_szx k.server_setup
+          (begins_with (drop c.plains.left k.plains) k.delays) _ _ _ c.plains.invariant.led
+          (c.set_plain.ensures.step (λ e. let clash = sym c.in-Ok.is ∙ e in cc))));
     }
 
 pub unreachable-requires : goal.unreachable-requires

@@ -1,6 +1,5 @@
 use Rattle.coap_server.proofs.Calls.FeedIsACall.{on_ok, seen_step}
 use Rattle.coap_server.proofs.Calls.WorkFalls.{closes, led_on, on_err, same_led, same_timed}
-use Rattle.coap_server.proofs.Facts.Exact.Leads.{led_further}
 use Rattle.coap_server.proofs.server.Server.feed.Goals as goal
 
 pub invariant_of-self : goal.invariant_of-self
@@ -17,8 +16,3 @@ pub returns-clause-step : goal.returns-clause-step
 returns-clause-step g c =
     on_ok c.feed_parts.result (λ f. let s = f c.args.word
     in (s.0, s.1, s.2, s.3, seen_step g.S.Store.content _ _ _ _ c.self.view_is s.4)) c.feed_parts.ensures.step
-
-pub returns-clause-led : goal.returns-clause-led
-returns-clause-led g c limits szx begin t led =
-    on_ok c.feed_parts.result (λ s. (s.0, s.1, s.2, s.3, led_further limits szx begin t _ _ _ led s.4))
-    (returns-clause-step g c)

@@ -1,15 +1,11 @@
 use Rattle.std.proofs.Common.{refl, ap, ◌∙◌}
 use Rattle.coap_server.specs.Object.Shown.{Kept}
-use Rattle.coap_server.proofs.Facts.Exact.Leads.{led_further}
 use Rattle.coap_server.proofs.server.Server.get.Goals as goal
 
-pub returns-clause-step : goal.returns-clause-step
-returns-clause-step g c = record {
+pub returns : goal.returns
+returns g c = record {
   right = c.get.ensures.held
       ∙ ap (λ (k : Kept _). (g.S.Store.content k.store).holds c.args.path.now) c.self.view_is;
   own_is = refl;
   under = refl;
 }
-
-pub returns-clause-led : goal.returns-clause-led
-returns-clause-led g c limits szx begin t led = led_further limits szx begin t _ _ _ led (returns-clause-step g c)

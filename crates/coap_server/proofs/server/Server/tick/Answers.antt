@@ -1,7 +1,6 @@
 use Rattle.coap_server.proofs.Calls.FeedIsACall.{seen_step}
 use Rattle.coap_server.proofs.Calls.WorkFalls.{closes, closes_if, if_ok, led_on, on_err, same_led, same_timed}
 use Rattle.coap_server.proofs.Calls.WorkFalls.{seen_led, ticks_fall}
-use Rattle.coap_server.proofs.Facts.Exact.Leads.{led_further}
 use Rattle.coap_server.proofs.server.Server.tick.Goals as goal
 
 pub invariant_of-self : goal.invariant_of-self
@@ -25,11 +24,6 @@ returns-clause-step g c =
       s.5,
       seen_step g.S.Store.content _ _ _ _ c.self.view_is s.6,
     )) c.tick_parts.ensures.step
-
-pub returns-clause-led : goal.returns-clause-led
-returns-clause-led g c limits szx begin t led =
-    if_ok c.tick_parts.result (λ did s. (s.0, s.1, s.2, s.3, s.4, s.5, led_further limits szx begin t _ _ _ led s.6))
-    (returns-clause-step g c)
 
 pub returns-clause-less : goal.returns-clause-less
 returns-clause-less g c =

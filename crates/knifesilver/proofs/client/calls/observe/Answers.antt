@@ -1,5 +1,6 @@
 use Rattle.std.proofs.Common.{refl, sym, subst, w32}
 use Rattle.std.proofs.Math.Facts.{to_z-of_z}
+use Rattle.coap_client.proofs.Facts.EachCall.{led_client}
 use Rattle.coap_client.specs.Led.{Led}
 use Rattle.coap_client.specs.Object.Shown.{number_of}
 use Rattle.knifesilver.specs.Answers.{IsAnswered}
@@ -11,7 +12,8 @@ pub returns-in-Client-clause-led : goal.returns-in-Client-clause-led
 returns-in-Client-clause-led c = λ answered server sizes setup t led.
     let same = to_z-of_z {w = w32} {z = c.taken.result} (record { sfits = c.taken.type_inv }) in
     let how = c.taken.ensures.answered (subst IsAnswered same answered) in
-    let w = c.observe.ensures.led server sizes setup t (subst (IsClientIn (Led server sizes setup t)) c.in-Client.is led) how.0 in (
+    let w = led_client server sizes setup t _ _ _ (subst (IsClientIn (Led server sizes setup t)) c.in-Client.is led)
+        (c.observe.ensures.step how.0) in (
       _,
       (
         number_of c.observe.result,

@@ -1,5 +1,6 @@
 use Rattle.std.proofs.Common.{◌≡◌, ◌∷◌, [], refl, sym, subst, w32}
 use Rattle.std.proofs.Math.Facts.{to_z-of_z}
+use Rattle.coap_server.proofs.Facts.EachCall.{led_further}
 use Rattle.coap_server.specs.Led.{Led}
 use Rattle.coap_server.specs.Object.Shown.{applied_as}
 use Rattle.knifesilver.specs.Answers.{IsAnswered}
@@ -14,7 +15,8 @@ returns-in-Some-clause-led c = λ answered limits szx setup t led.
     let done = applied_as c.in-Some.applied.now ∷ [] in
     let same = to_z-of_z {w = w32} {z = tell.result} (record { sfits = tell.type_inv }) in
     let told = subst (λ n. AppliedAnswers n tell.new.told tell.new.room done) (sym same) (tell.ensures.told (subst IsAnswered same answered)) in
-    let w = c.in-Some.ensures.led limits szx setup t (subst (IsServerIn (Led limits szx setup t)) c.in-Server.is led) in
+    let w = led_further limits szx setup t _ _ _ (subst (IsServerIn (Led limits szx setup t)) c.in-Server.is led)
+        c.in-Some.ensures in
     (_, (done, told, refl), subst (IsServerIn (Led limits szx setup _)) (sym c.in-Server.is) w)
 
 pub returns-in-Some-clause-long : goal.returns-in-Some-clause-long
@@ -23,10 +25,12 @@ returns-in-Some-clause-long c = λ small limits szx setup t led.
     let done = applied_as c.in-Some.applied.now ∷ [] in
     let same = to_z-of_z {w = w32} {z = tell.result} (record { sfits = tell.type_inv }) in
     let long = tell.ensures.long (subst (λ n. n ≡ SMALL_ROOM) same small) in
-    let w = c.in-Some.ensures.led limits szx setup t (subst (IsServerIn (Led limits szx setup t)) c.in-Server.is led) in
+    let w = led_further limits szx setup t _ _ _ (subst (IsServerIn (Led limits szx setup t)) c.in-Server.is led)
+        c.in-Some.ensures in
     (_, (done, long, refl), subst (IsServerIn (Led limits szx setup _)) (sym c.in-Server.is) w)
 
 pub returns-in-None-clause-led : goal.returns-in-None-clause-led
 returns-in-None-clause-led c = λ _ limits szx setup t led.
-    let w = c.in-None.ensures.led limits szx setup t (subst (IsServerIn (Led limits szx setup t)) c.in-Server.is led) in
+    let w = led_further limits szx setup t _ _ _ (subst (IsServerIn (Led limits szx setup t)) c.in-Server.is led)
+        c.in-None.ensures in
     (_, ([], refl, refl), subst (IsServerIn (Led limits szx setup _)) (sym c.in-Server.is) w)

@@ -1,5 +1,6 @@
 use Rattle.std.proofs.Common.{refl, sym, subst, w32}
 use Rattle.std.proofs.Math.Facts.{to_z-of_z}
+use Rattle.coap_server.proofs.Facts.EachCall.{led_further}
 use Rattle.coap_server.specs.Led.{Led}
 use Rattle.knifesilver.specs.Outgoing.{OutAnswers}
 use Rattle.knifesilver.specs.ServerHeld.{IsServerIn}
@@ -10,5 +11,6 @@ returns-else-room-lt-MAX_MESSAGE_LEN-clause-led c = λ _ limits szx setup t led.
     let give = c.give in
     let same = to_z-of_z {w = w32} {z = give.result} (record { sfits = give.type_inv }) in
     let told = subst (λ n. OutAnswers n give.new.to give.new.room give.new.len c.next_out.result) (sym same) give.ensures.told in
-    let w = c.next_out.ensures.led limits szx setup t (subst (IsServerIn (Led limits szx setup t)) c.in-Server.is led) in
+    let w = led_further limits szx setup t _ _ _ (subst (IsServerIn (Led limits szx setup t)) c.in-Server.is led)
+        c.next_out.ensures.step in
     (_, (_, told, refl), w)

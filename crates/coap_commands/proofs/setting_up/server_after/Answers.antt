@@ -4,18 +4,21 @@ use Rattle.coap_server.specs.Led.{Led}
 use Rattle.coap_server.specs.Object.Shown.{state_of}
 use Rattle.coap_types.specs.declared.szx.TheConstants.{MAX_SZX as max_szx}
 use Rattle.coap_scripts.specs.Settings.{setting_of}
-use Rattle.coap_commands.specs.Ends.{server_limits}
+use Rattle.coap_commands.specs.Ends.{server_limits_after}
 use Rattle.coap_commands.specs.ScriptSettings.{limit_by}
 use Rattle.coap_commands.specs.SettingUp.{served_setup}
 use Rattle.coap_commands.proofs.SettingUpCalls.{none_is}
-use Rattle.coap_commands.proofs.setting_up.server_by.Goals as goal
+use Rattle.coap_commands.proofs.setting_up.server_after.Goals as goal
 
 pub returns-in-Ok-None-clause-made : goal.returns-in-Ok-None-clause-made
 returns-in-Ok-None-clause-made g c =
     let options = c.args.options.now in
-    let setup = served_setup c.args.word options in
+    let base = c.args.origin.base in
+    let setup = served_setup c.args.origin.word options in
     none_is _ _
-    (c.in-Ok-None.ensures.made (server_limits (limit_by options.limit (map setting_of c.args.settings.now))) setup []
-    (subst (λ (n : ℕ). Led (server_limits n) max_szx setup [] (state_of content_of c.fresh_server-server.result))
-    c.limit_by-limit.ensures c.fresh_server-server.ensures))
+    (c.in-Ok-None.ensures.made
+    (server_limits_after (limit_by options.limit (map setting_of c.args.settings.now)) base) setup []
+    (subst (λ (n : ℕ). Led (server_limits_after n base) max_szx setup []
+    (state_of content_of c.fresh_server_after-server.result))
+    c.limit_by-limit.ensures c.fresh_server_after-server.ensures))
     c.in-Ok-None.field-0-is
