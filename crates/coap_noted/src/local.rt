@@ -1,11 +1,9 @@
 //! What the own side of a noted server does.
-ghost use Rattle.std.specs.Prelude.{◌≡◌, ◌≢◌, ℕ, true, false, List, ◌∷◌, Err, IfOk, OnErr, OnOk, is_ok};
-ghost use Rattle.coap_layer.specs.declared.setup.Setup.{Setup as SetupSpec};
-ghost use Rattle.coap_resource.specs.Limits.{Limits};
+ghost use Rattle.std.specs.Prelude.{◌≡◌, ◌≢◌, true, false, Err, IfOk, OnErr, OnOk, is_ok};
 ghost use Rattle.coap_resource.specs.declared.refusal.StoreRefusal.TheVariants as store_refusals;
-ghost use Rattle.coap_server.specs.Led.{Led};
+ghost use Rattle.coap_server.specs.Led.{Step};
 ghost use Rattle.coap_server.specs.Object.Shown.{state_of};
-ghost use Rattle.coap_server.specs.Trace.{Call, Delays, Plains, Removes, Sets};
+ghost use Rattle.coap_server.specs.Trace.{Delays, Plains, Removes, Sets};
 ghost use Rattle.coap_server.specs.declared.server.delays.DelayRefusal.TheVariants as delay_refusals;
 ghost use Rattle.coap_server.specs.declared.server.plain.PlainRefusal.TheVariants as plain_refusals;
 ghost use Rattle.coap_journal.specs.Input.{Delay, Plain, Remove, Set};
@@ -68,12 +66,10 @@ impl<S: Store<A>, A: Allocator + Copy, H: BuildHasher> Noted<S, A, H> {
         format: Option<u16>,
         body: &[u8],
     ) -> Result<u64, StoreRefusal>
-        // Every history that led to the noted server leads on with this local change, unless it was refused memory.
-        ensures led { (limits : Limits) (szx : ℕ) (setup : SetupSpec) (t : List Call)
-            → Led limits szx setup t (state_of S.content self.old.server)
-            → result ≢ Err store_refusals.Memory
-            → Led limits szx setup (Sets now.0 path.now format body.now result
-            (state_of S.content self.new.server).own.store ∷ t) (state_of S.content self.new.server) }
+        // The version of a local change, or why it is refused, is what a step of the noted server's machine answers.
+        ensures step { result ≢ Err store_refusals.Memory → Step (state_of S.content self.old.server)
+            (Sets now.0 path.now format body.now result (state_of S.content self.new.server).own.store)
+            (state_of S.content self.new.server) }
         // A local change is noted, whatever the server answers but Memory.
         ensures noted { result ≢ Err store_refusals.Memory
             → self.new.notes ≡ noted_with (Set now.0 path.now format body.now) now.0 self.old.notes }
@@ -93,11 +89,9 @@ impl<S: Store<A>, A: Allocator + Copy, H: BuildHasher> Noted<S, A, H> {
         now: Moment,
         path: &Path<A>,
     ) -> Result<Result<bool, StoreRefusal>, AllocError>
-        // Every history that led to the noted server leads on with this removal, unless it was refused memory.
-        ensures led { (limits : Limits) (szx : ℕ) (setup : SetupSpec) (t : List Call)
-            → Led limits szx setup t (state_of S.content self.old.server)
-            → IfOk result (λ done. Led limits szx setup
-            (Removes now.0 path.now done (state_of S.content self.new.server).own.store ∷ t)
+        // What a local removal answers is what a step of the noted server's machine does.
+        ensures step { IfOk result (λ done. Step (state_of S.content self.old.server)
+            (Removes now.0 path.now done (state_of S.content self.new.server).own.store)
             (state_of S.content self.new.server)) }
         // A local removal is noted, whatever the server answers.
         ensures noted { OnOk result (self.new.notes ≡ noted_with (Remove now.0 path.now) now.0 self.old.notes) }
@@ -112,11 +106,9 @@ impl<S: Store<A>, A: Allocator + Copy, H: BuildHasher> Noted<S, A, H> {
 
     /// Gives the path a delay, as `Server::set_delay`. After `Memory` nothing changed.
     pub fn set_delay(&mut self, path: &Path<A>, ms: u64) -> Result<(), DelayRefusal>
-        // Every history that led to the noted server leads on with this delay, unless it was refused memory.
-        ensures led { (limits : Limits) (szx : ℕ) (setup : SetupSpec) (t : List Call)
-            → Led limits szx setup t (state_of S.content self.old.server)
-            → result ≢ Err delay_refusals.Memory
-            → Led limits szx setup (Delays path.now ms (is_ok result) ∷ t) (state_of S.content self.new.server) }
+        // Whether a path is given a delay is what a step of the noted server's machine answers.
+        ensures step { result ≢ Err delay_refusals.Memory → Step (state_of S.content self.old.server)
+            (Delays path.now ms (is_ok result)) (state_of S.content self.new.server) }
         // A delay is noted, whatever the server answers but Memory.
         ensures noted { result ≢ Err delay_refusals.Memory
             → self.new.notes ≡ noted_with (Delay path.now ms) 0 self.old.notes }
@@ -131,11 +123,9 @@ impl<S: Store<A>, A: Allocator + Copy, H: BuildHasher> Noted<S, A, H> {
 
     /// Makes the path plain, as `Server::set_plain`. After `Memory` nothing changed.
     pub fn set_plain(&mut self, path: &Path<A>) -> Result<(), PlainRefusal>
-        // Every history that led to the noted server leads on with this plain path, unless it was refused memory.
-        ensures led { (limits : Limits) (szx : ℕ) (setup : SetupSpec) (t : List Call)
-            → Led limits szx setup t (state_of S.content self.old.server)
-            → result ≢ Err plain_refusals.Memory
-            → Led limits szx setup (Plains path.now (is_ok result) ∷ t) (state_of S.content self.new.server) }
+        // Whether a path is made plain is what a step of the noted server's machine answers.
+        ensures step { result ≢ Err plain_refusals.Memory → Step (state_of S.content self.old.server)
+            (Plains path.now (is_ok result)) (state_of S.content self.new.server) }
         // A plain path is noted, whatever the server answers but Memory.
         ensures noted { result ≢ Err plain_refusals.Memory
             → self.new.notes ≡ noted_with (Plain path.now) 0 self.old.notes }
@@ -157,11 +147,9 @@ fn set_noted<S: Store<A>, A: Allocator + Copy, H: BuildHasher>(
     format: Option<u16>,
     body: &[u8],
 ) -> Result<u64, StoreRefusal>
-    ensures led { (limits : Limits) (szx : ℕ) (setup : SetupSpec) (t : List Call)
-        → Led limits szx setup t (state_of S.content server.old)
-        → result ≢ Err store_refusals.Memory
-        → Led limits szx setup (Sets now.0 path.now format body.now result
-        (state_of S.content server.new).own.store ∷ t) (state_of S.content server.new) }
+    ensures step { result ≢ Err store_refusals.Memory → Step (state_of S.content server.old)
+        (Sets now.0 path.now format body.now result (state_of S.content server.new).own.store)
+        (state_of S.content server.new) }
     ensures noted { result ≢ Err store_refusals.Memory
         → notes.new ≡ with_input (Set now.0 path.now format body.now) now.0 notes.old }
     ensures same { result ≡ Err store_refusals.Memory → server.new ≡ server.old }
@@ -192,10 +180,8 @@ fn remove_noted<S: Store<A>, A: Allocator + Copy, H: BuildHasher>(
     now: Moment,
     path: &Path<A>,
 ) -> Result<Result<bool, StoreRefusal>, AllocError>
-    ensures led { (limits : Limits) (szx : ℕ) (setup : SetupSpec) (t : List Call)
-        → Led limits szx setup t (state_of S.content server.old)
-        → IfOk result (λ done. Led limits szx setup
-        (Removes now.0 path.now done (state_of S.content server.new).own.store ∷ t) (state_of S.content server.new)) }
+    ensures step { IfOk result (λ done. Step (state_of S.content server.old)
+        (Removes now.0 path.now done (state_of S.content server.new).own.store) (state_of S.content server.new)) }
     ensures noted { OnOk result (notes.new ≡ with_input (Remove now.0 path.now) now.0 notes.old) }
     ensures same { OnErr result (server.new ≡ server.old) }
     ensures err { OnErr result (notes.new ≡ notes.old) }
@@ -214,10 +200,8 @@ fn delay_noted<S: Store<A>, A: Allocator + Copy, H: BuildHasher>(
     path: &Path<A>,
     ms: u64,
 ) -> Result<(), DelayRefusal>
-    ensures led { (limits : Limits) (szx : ℕ) (setup : SetupSpec) (t : List Call)
-        → Led limits szx setup t (state_of S.content server.old)
-        → result ≢ Err delay_refusals.Memory
-        → Led limits szx setup (Delays path.now ms (is_ok result) ∷ t) (state_of S.content server.new) }
+    ensures step { result ≢ Err delay_refusals.Memory → Step (state_of S.content server.old)
+        (Delays path.now ms (is_ok result)) (state_of S.content server.new) }
     ensures noted { result ≢ Err delay_refusals.Memory → notes.new ≡ with_input (Delay path.now ms) 0 notes.old }
     ensures same { result ≡ Err delay_refusals.Memory → server.new ≡ server.old }
     ensures memory { result ≡ Err delay_refusals.Memory → notes.new ≡ notes.old }
@@ -242,10 +226,8 @@ fn plain_noted<S: Store<A>, A: Allocator + Copy, H: BuildHasher>(
     notes: &mut Notes<A>,
     path: &Path<A>,
 ) -> Result<(), PlainRefusal>
-    ensures led { (limits : Limits) (szx : ℕ) (setup : SetupSpec) (t : List Call)
-        → Led limits szx setup t (state_of S.content server.old)
-        → result ≢ Err plain_refusals.Memory
-        → Led limits szx setup (Plains path.now (is_ok result) ∷ t) (state_of S.content server.new) }
+    ensures step { result ≢ Err plain_refusals.Memory → Step (state_of S.content server.old)
+        (Plains path.now (is_ok result)) (state_of S.content server.new) }
     ensures noted { result ≢ Err plain_refusals.Memory → notes.new ≡ with_input (Plain path.now) 0 notes.old }
     ensures same { result ≡ Err plain_refusals.Memory → server.new ≡ server.old }
     ensures memory { result ≡ Err plain_refusals.Memory → notes.new ≡ notes.old }

@@ -1,17 +1,15 @@
 //! A server that notes what it takes.
-ghost use Rattle.std.specs.Prelude.{◌≡◌, ◌≢◌, ◌⊎◌, ◌≤◌, ◌<◌, ◌^◌, ℕ, max, Bool, true, false, Option, Some, None, List, ◌∷◌};
-ghost use Rattle.std.specs.Prelude.{IfErr, IfOk, IsErr, IsOk, OnErr, OnOk, is_some, option_map};
+ghost use Rattle.std.specs.Prelude.{◌≡◌, ◌≢◌, ◌⊎◌, ℕ, max, Bool, true, false, Option, Some, None, []};
+ghost use Rattle.std.specs.Prelude.{IfOk, IsErr, IsOk, OnErr, OnOk, is_some, option_map};
 ghost use Rattle.coap_codec.specs.Message.{Message};
 ghost use Rattle.coap_layer.specs.Machine.State.{answer_of, copies, made};
 ghost use Rattle.coap_layer.specs.Machine.Ups.{IsQuiet};
 ghost use Rattle.coap_layer.specs.Trace as below;
-ghost use Rattle.coap_layer.specs.declared.setup.Setup.{Setup as SetupSpec};
-ghost use Rattle.coap_resource.specs.Limits.{Limits};
 ghost use Rattle.coap_exchange.specs.declared.answerer.Asked.{Asked as AskedSpec};
 ghost use Rattle.coap_exchange.specs.declared.answerer.Due.{Due};
-ghost use Rattle.coap_server.specs.Led.{Led};
+ghost use Rattle.coap_server.specs.Led.{Step};
 ghost use Rattle.coap_server.specs.Object.Shown.{state_of};
-ghost use Rattle.coap_server.specs.Trace.{Call, Feeds, Handling, NextOut, Ticks};
+ghost use Rattle.coap_server.specs.Trace.{Feeds, Handling, NextOut, Ticks};
 ghost use Rattle.coap_server.specs.Turns.Idle.{IsIdle, moment};
 ghost use Rattle.coap_journal.specs.Input.{Feed, Tick};
 ghost use Rattle.coap_noted.specs.Notes.{IsNotDue, IsUntold, begun_anew, given_with, noted_with, told_in, with_input};
@@ -52,12 +50,10 @@ impl<S: Store<A>, A: Allocator + Copy, H: BuildHasher> Noted<S, A, H> {
         bytes: &[u8],
         word: u64,
     ) -> Result<(), AllocError>
-        // Every history that led to the noted server leads on with this datagram, unless it was refused memory.
-        ensures led { (limits : Limits) (szx : ℕ) (setup : SetupSpec) (t : List Call)
-            → Led limits szx setup t (state_of S.content self.old.server)
-            → OnOk result ((up : below.Answer) × (came : Option (AskedSpec × Message)) × (h : Handling)
-            × (sent : below.Answer) × Led limits szx setup (Feeds now.0 from bytes.now word up came h sent ∷ t)
-            (state_of S.content self.new.server)) }
+        // What a datagram makes of the noted server is a step of its machine.
+        ensures step { OnOk result ((up : below.Answer) × (came : Option (AskedSpec × Message)) × (h : Handling)
+            × (sent : below.Answer) × Step (state_of S.content self.old.server)
+            (Feeds now.0 from bytes.now word up came h sent) (state_of S.content self.new.server)) }
         // A datagram that is taken is noted, with its moment, its sender and its word.
         ensures noted { OnOk result (self.new.notes ≡ noted_with (Feed now.0 from bytes.now word) now.0 self.old.notes) }
         // A datagram that is refused memory is in no note, and leaves the server as it was.
@@ -75,16 +71,14 @@ impl<S: Store<A>, A: Allocator + Copy, H: BuildHasher> Noted<S, A, H> {
     /// Does the first that is due, as `Server::tick`. Where notes are kept, a tick that is not due yet changes nothing and is
     /// not noted. After an `Err` nothing changed.
     pub fn tick(&mut self, now: Moment, word: u64) -> Result<bool, AllocError>
-        // A tick that is answered rests, where notes are kept and none is due; or it is noted, and every history that led to
-        // the noted server leads on with it.
+        // A tick that is answered rests, where notes are kept and none is due; or it is noted, and is a step of the server's
+        // machine.
         ensures ticked { IfOk result (λ did. ((did ≡ false) × (self.new ≡ self.old) × (self.old.notes ≢ None)
             × IsNotDue now.0 (state_of S.content self.old.server))
             ⊎ ((self.new.notes ≡ noted_with (Tick now.0 word) now.0 self.old.notes)
-            × ((limits : Limits) (szx : ℕ) (setup : SetupSpec) (t : List Call)
-            → Led limits szx setup t (state_of S.content self.old.server)
-            → (done : below.Answer) × (room : Bool) × (due : Due) × (passed : ℕ) × (h : Handling) × (id : ℕ)
-            × Led limits szx setup (Ticks now.0 word done room due passed h id did ∷ t)
-            (state_of S.content self.new.server)))) }
+            × (done : below.Answer) × (room : Bool) × (due : Due) × (passed : ℕ) × (h : Handling) × (id : ℕ)
+            × Step (state_of S.content self.old.server) (Ticks now.0 word done room due passed h id did)
+            (state_of S.content self.new.server))) }
         // A tick that is refused memory is in no note, and leaves the server as it was.
         ensures err { OnErr result (self.new ≡ self.old) }
         // Where no notes are kept, and nothing is to be sent, a tick takes no memory.
@@ -106,10 +100,9 @@ impl<S: Store<A>, A: Allocator + Copy, H: BuildHasher> Noted<S, A, H> {
 
     /// The datagram that is to be sent next, as `Server::next_out`; an `Err` until what was taken is handed out.
     pub fn next_out(&mut self) -> Result<Option<Datagram<A>>, Untold>
-        // Every history that led to the noted server leads on with a datagram that it gives out.
-        ensures led { (limits : Limits) (szx : ℕ) (setup : SetupSpec) (t : List Call)
-            → Led limits szx setup t (state_of S.content self.old.server)
-            → IfOk result (λ next. Led limits szx setup (NextOut next ∷ t) (state_of S.content self.new.server)) }
+        // Which datagram the noted server gives out is a step of its machine.
+        ensures step { IfOk result (λ next. Step (state_of S.content self.old.server) (NextOut next)
+            (state_of S.content self.new.server)) }
         // A datagram that is given out is counted.
         ensures counted { IfOk result (λ next. self.new.notes ≡ given_with (is_some next) self.old.notes) }
         // None is given out while an input is noted that wasn't handed out, or none can be counted.
@@ -159,11 +152,9 @@ fn feed_noted<S: Store<A>, A: Allocator + Copy, H: BuildHasher>(
     bytes: &[u8],
     word: u64,
 ) -> Result<(), AllocError>
-    ensures led { (limits : Limits) (szx : ℕ) (setup : SetupSpec) (t : List Call)
-        → Led limits szx setup t (state_of S.content server.old)
-        → OnOk result ((up : below.Answer) × (came : Option (AskedSpec × Message)) × (h : Handling)
-        × (sent : below.Answer) × Led limits szx setup (Feeds now.0 from bytes.now word up came h sent ∷ t)
-        (state_of S.content server.new)) }
+    ensures step { OnOk result ((up : below.Answer) × (came : Option (AskedSpec × Message)) × (h : Handling)
+        × (sent : below.Answer) × Step (state_of S.content server.old)
+        (Feeds now.0 from bytes.now word up came h sent) (state_of S.content server.new)) }
     ensures noted { OnOk result (notes.new ≡ with_input (Feed now.0 from bytes.now word) now.0 notes.old) }
     ensures same { OnErr result (server.new ≡ server.old) }
     ensures err { OnErr result (notes.new ≡ notes.old) }
@@ -201,11 +192,9 @@ fn tick_noted<S: Store<A>, A: Allocator + Copy, H: BuildHasher>(
     ensures ticked { IfOk result (λ did. ((did ≡ false) × (server.new ≡ server.old) × (notes.new ≡ notes.old)
         × IsNotDue now.0 (state_of S.content server.old))
         ⊎ ((notes.new ≡ with_input (Tick now.0 word) now.0 notes.old)
-        × ((limits : Limits) (szx : ℕ) (setup : SetupSpec) (t : List Call)
-        → Led limits szx setup t (state_of S.content server.old)
-        → (done : below.Answer) × (room : Bool) × (due : Due) × (passed : ℕ) × (h : Handling) × (id : ℕ)
-        × Led limits szx setup (Ticks now.0 word done room due passed h id did ∷ t)
-        (state_of S.content server.new)))) }
+        × (done : below.Answer) × (room : Bool) × (due : Due) × (passed : ℕ) × (h : Handling) × (id : ℕ)
+        × Step (state_of S.content server.old) (Ticks now.0 word done room due passed h id did)
+        (state_of S.content server.new))) }
     ensures same { OnErr result (server.new ≡ server.old) }
     ensures err { OnErr result (notes.new ≡ notes.old) }
 {
@@ -224,9 +213,8 @@ fn next_noted<S: Store<A>, A: Allocator + Copy, H: BuildHasher>(
     server: &mut Server<S, A, H>,
     notes: &mut Notes<A>,
 ) -> Result<Option<Datagram<A>>, Untold>
-    ensures led { (limits : Limits) (szx : ℕ) (setup : SetupSpec) (t : List Call)
-        → Led limits szx setup t (state_of S.content server.old)
-        → IfOk result (λ next. Led limits szx setup (NextOut next ∷ t) (state_of S.content server.new)) }
+    ensures step { IfOk result (λ next. Step (state_of S.content server.old) (NextOut next)
+        (state_of S.content server.new)) }
     ensures counted { IfOk result (λ next. Some notes.new ≡ given_with (is_some next) (Some notes.old)) }
     ensures untold { IsUntold (Some notes.old) → IsErr result }
     ensures only { OnErr result (IsUntold (Some notes.old)) }
