@@ -4,6 +4,7 @@ pub mod PassedOver
 pub mod RequestIsHandled
 pub mod RequestIsServed
 pub mod ShortResponses
+pub mod SpelledResponses
 pub mod TakesOut
 pub mod TicksWhenDue
 pub mod TurnSteps

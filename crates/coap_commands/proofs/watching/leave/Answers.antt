@@ -22,6 +22,6 @@ returns g c =
     let number = c.args.id.0 in
     turned_on (Leaves number) _ _ _
     (turned_on (Leaves number) _ _ _
-    (turned_by (Leaves number) _ _ (Cancels c.args.now.0 number _) refl c.cancel-answer.ensures)
+    (turned_by (Leaves number) _ _ (Cancels c.args.now.0 number _) refl c.cancel-answer.ensures.step)
     (client_turned (Leaves number) (leaves number) _ _ _ _ _ _ _ _ _ _ _ _ _ c.get_turn.ensures))
     (client_sent (Leaves number) (leaves number) _ _ _ _ _ _ c.send_all.ensures.chain)

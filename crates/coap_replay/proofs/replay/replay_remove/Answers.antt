@@ -6,5 +6,5 @@ pub returns-clause-done : goal.returns-clause-done
 returns-clause-done g c = (
   Remove c.in_ok-now.now c.in_ok-now.path,
   ap (λ (xs : List ℕ). 4 ∷ xs) c.in_ok-now.ensures.ok,
-  record { call = _; handed = refl; step = c.remove.ensures },
+  record { call = _; handed = refl; step = c.remove.ensures.step },
 )

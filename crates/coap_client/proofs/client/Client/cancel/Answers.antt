@@ -8,5 +8,7 @@ invariant_of-self g c = led_step (seen c.self.inside.parts) _ _ c.self.invariant
     (c.cancel.ensures.step c.self.inside.parts.asker.state)
 
 pub returns : goal.returns
-returns g c = seen_step (seen c.self.inside.parts) _ _ _ c.self.view_is
-    (c.cancel.ensures.step c.self.inside.parts.asker.state)
+returns g c = record {
+  step = seen_step (seen c.self.inside.parts) _ _ _ c.self.view_is
+      (c.cancel.ensures.step c.self.inside.parts.asker.state);
+}

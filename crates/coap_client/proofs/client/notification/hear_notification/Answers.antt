@@ -27,8 +27,8 @@ tell-requires-clause-clock g c =
     c.token.ensures.bytes refl
     (ap (λ r. option_map (λ o. shown_observation o.now) r) c.in-Some.is))
 
-pub returns-in-Some-notified-clause-happens : goal.returns-in-Some-notified-clause-happens
-returns-in-Some-notified-clause-happens g c setup =
+pub returns-in-Some-sequence_of-clause-happens : goal.returns-in-Some-sequence_of-clause-happens
+returns-in-Some-sequence_of-clause-happens g c setup =
     let s = own_of c.args.parts.now.held in
     told_happens c.args.parts.now.asker.state s c.args.at.0 setup c.args.m.now (shown_observation
     c.in-Some.observation.now)

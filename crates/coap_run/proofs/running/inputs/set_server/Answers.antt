@@ -22,4 +22,4 @@ returns-clause-taken g c = λ addresses sender.
     (c.set-answer.ensures.step c.in-Ok.ensures.ok) c.in_ok-note.ensures
     refl refl
     (c.in_ok-change.ensures ∙ ap (λ h. lines_put (change_told c.args.path.now c.in-Ok-answer.version h) c.note.new.self)
-    c.get.ensures.right)
+    c.get.ensures.step.right)
