@@ -53,6 +53,7 @@ pub mod driver;
 #[macro_use]
 mod errors;
 pub mod exchange;
+mod journal;
 mod message;
 mod raw;
 mod raw_exchange;
@@ -61,6 +62,7 @@ mod setting;
 
 pub use client::{CallId, Client, Fetched, Report, Request};
 pub use errors::{CallError, CancelError, DelayError, NewError, OutOfMemory, PeekError, PlainError, SetError};
+pub use journal::{Boot, Journal, JournalError, Replayed};
 pub use message::{peek, refusal, Code, Kind, Message, Method, Tag};
 pub use server::{Applied, Representation, Server};
 pub use setting::{Config, Transmit};

@@ -19,7 +19,6 @@ pub const KS_BAD_BODY_LIMIT: i32 = -8;
 pub const KS_BAD_REMEMBERED: i32 = -9;
 pub const KS_BAD_CHANGES: i32 = -10;
 pub const KS_BAD_BASE: i32 = -11;
-pub const KS_UNTOLD: i32 = -12;
 pub const KS_SET_TOO_LARGE: i32 = 18;
 pub const KS_SET_TOO_MANY_PATHS: i32 = 19;
 pub const KS_SET_RATE_EXCEEDED: i32 = 20;

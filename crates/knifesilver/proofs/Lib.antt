@@ -1,5 +1,6 @@
 pub mod BlockSizes
 pub mod Carried
+pub mod Either
 pub mod HandleValues
 pub mod ReleasedValues
 pub mod Walking
