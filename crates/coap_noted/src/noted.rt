@@ -22,7 +22,6 @@ use coap_server::Server;
 use coap_types::{Endpoint, Moment};
 use std::alloc::{AllocError, Allocator};
 use std::hash::BuildHasher;
-use thiserror::Error;
 
 /// A server, and what it took since that was asked last, where notes of that are kept.
 ///
@@ -37,8 +36,7 @@ pub struct Noted<S: Store<A>, A: Allocator + Copy, H: BuildHasher> {
 }
 
 /// What was taken since that was asked last isn't handed out, or too many datagrams were given out since.
-#[derive(Clone, Copy, Debug, PartialEq, Eq, Error)]
-#[error("what was taken is not handed out yet")]
+#[derive(Clone, Copy, Debug, PartialEq, Eq)]
 pub struct Untold;
 
 impl<S: Store<A>, A: Allocator + Copy, H: BuildHasher> Noted<S, A, H> {

@@ -1,7 +1,7 @@
 //! What a server took since that was asked last.
 ghost use Rattle.std.specs.Prelude.{◌≡◌, ◌≤◌, ◌+◌, ◌<◌, ◌^◌, true, false, [], Some, None, length, IfOk, OnOk, option_map};
 ghost use Rattle.std.specs.Vec.{vec_capacity};
-ghost use Rattle.coap_noted.specs.Notes.{Waits, told_in};
+ghost use Rattle.coap_noted.specs.Notes.{Waits, most, told_in};
 
 use coap_journal::turn_bytes;
 use coap_types::Moment;
@@ -47,6 +47,7 @@ impl<A: Allocator + Copy> Notes<A> {
     pub(crate) fn waits(&self) -> bool
         ensures waits { result ≡ true → Waits self.now }
         ensures free { result ≡ false → Waits self.now → ⊥ }
+        ensures fewer { result ≡ false → self.now.taken < most }
     {
         !self.inputs.is_empty() || self.taken == u64::MAX
     }
