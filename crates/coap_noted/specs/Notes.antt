@@ -6,7 +6,7 @@ use Rattle.coap_journal.specs.Numbers.{number}
 use Rattle.coap_server.specs.Led.{State}
 use Rattle.coap_server.specs.Turns.WhenDue.{TicksDo, latest}
 
--- the latest moment that was handed in, how many datagrams were given out since then, and the inputs since then, spelled
+-- the latest moment that was handed in, how many datagrams were given out since, and the inputs since, spelled
 pub record Note : Type 0 where
   pub moment : ℕ
   pub taken : ℕ

@@ -53,10 +53,11 @@ impl<S: Store<A>, A: Allocator + Copy, H: BuildHasher> Noted<S, A, H> {
             × (sent : below.Answer) × Step (state_of S.content self.old.server)
             (Feeds now.0 from bytes.now word up came h sent) (state_of S.content self.new.server)) }
         // A datagram that is taken is noted, with its moment, its sender and its word.
-        ensures noted { OnOk result (self.new.notes ≡ noted_with (Feed now.0 from bytes.now word) now.0 self.old.notes) }
+        ensures noted { OnOk result (self.new.notes
+            ≡ noted_with (Feed now.0 from bytes.now word) now.0 self.old.notes) }
         // A datagram that is refused memory is in no note, and leaves the server as it was.
         ensures err { OnErr result (self.new ≡ self.old) }
-        // Where no notes are kept, and the message layer sends nothing and hands nothing up, a datagram takes no memory.
+        // Where no notes are kept, a datagram for which nothing is sent and nothing is handed up takes no memory.
         ensures quiet { self.old.notes ≡ None → IsQuiet (made self.old.server.exchanges.layer
             (max self.old.server.clock now.0) (below.Receive from bytes.now)) → IsOk result }
     {
@@ -66,11 +67,11 @@ impl<S: Store<A>, A: Allocator + Copy, H: BuildHasher> Noted<S, A, H> {
         }
     }
 
-    /// Does the first that is due, as `Server::tick`. Where notes are kept, a tick that is not due yet changes nothing and is
-    /// not noted. After an `Err` nothing changed.
+    /// Does the first that is due, as `Server::tick`. Where notes are kept, a tick that is not due yet changes
+    /// nothing and is not noted. After an `Err` nothing changed.
     pub fn tick(&mut self, now: Moment, word: u64) -> Result<bool, AllocError>
-        // A tick that is answered rests, where notes are kept and none is due; or it is noted, and is a step of the server's
-        // machine.
+        // A tick that is answered rests, where notes are kept and none is due; or it is noted, and is a step of the
+        // server's machine.
         ensures ticked { IfOk result (λ did. ((did ≡ false) × (self.new ≡ self.old) × (self.old.notes ≢ None)
             × IsNotDue now.0 (state_of S.content self.old.server))
             ⊎ ((self.new.notes ≡ noted_with (Tick now.0 word) now.0 self.old.notes)

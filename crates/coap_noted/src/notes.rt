@@ -1,5 +1,5 @@
 //! What a server took since that was asked last.
-ghost use Rattle.std.specs.Prelude.{◌≡◌, ◌≤◌, ◌+◌, ◌<◌, ◌^◌, true, false, [], Some, None, length, IfOk, OnOk, option_map};
+ghost use Rattle.std.specs.Prelude.{◌≡◌, ◌≤◌, ◌+◌, ◌<◌, true, false, [], Some, length, IfOk, OnOk, option_map};
 ghost use Rattle.std.specs.Vec.{vec_capacity};
 ghost use Rattle.coap_noted.specs.Notes.{Waits, most, told_in};
 

@@ -49,8 +49,8 @@ pub fn replay<S: Store<A>, A: Allocator + Copy, H: BuildHasher>(
     opened: &Opened<'_>,
 ) -> Result<(Noted<S, A, H>, Replayed), ReplayError>
     requires room { opened.now.place + length opened.now.further.now < 2 ^ 63 }
-    // The server that is handed out has done the records of the frames that were opened, and the life and the moment that
-    // are told are their last.
+    // The server that is handed out has done the records of the frames that were opened, and the life and the
+    // moment that are told are their last.
     ensures records { IfOk result (λ p. (records : List Record) × (out : List Packet)
         × (opened.now.further.now ≡ frames opened.now.place (bodies records))
         × Replays (state_of S.content server) records out (state_of S.content p.0.server)
@@ -58,8 +58,8 @@ pub fn replay<S: Store<A>, A: Allocator + Copy, H: BuildHasher>(
         × (p.1.latest.0 ≡ latest_moment opened.now.first.moment.0 records)) }
     // A server that was replayed keeps notes, with no input, after the latest moment of the journal.
     ensures notes { IfOk result (λ p. p.0.notes ≡ Some (record { moment = p.1.latest.0; taken = 0; inputs = [] })) }
-    // The journal of another server is refused only where a turn follows before which more datagrams were taken than the
-    // server has.
+    // The journal of another server is refused only where a turn follows before which more datagrams were taken
+    // than the server has.
     ensures other { IfErr result (λ why. why ≡ OtherServer
         → StopsAt IsOfOther opened.now.place (state_of S.content server) opened.now.further.now) }
 {

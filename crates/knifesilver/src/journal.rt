@@ -168,7 +168,8 @@ fn beginning_of(config: &KsConfig, seed: &KsSeed) -> Result<Beginning, i32>
     })
 }
 
-/// The frame with which the file of a journal begins: the server of this configuration and this seed, and its first life.
+/// The frame with which the file of a journal begins: the server of this configuration and this seed, and its
+/// first life.
 #[unsafe(no_mangle)]
 pub extern "C" fn ks_journal_begin(
     alloc: Global,
@@ -178,14 +179,17 @@ pub extern "C" fn ks_journal_begin(
     room: &mut [u8],
     len: &mut usize,
 ) -> i32
-    // What is written is the first frame of a journal, of the server with that configuration and that seed, and of that life.
+    // What is written is the first frame of a journal, of the server with that configuration and that seed, and of
+    // that life.
     ensures begun { IsAnswered result → (result ≡ pos 1) × (beginning : BeginningSpec)
         × IsBeginning config.now seed.now beginning
         × IsFramed 0 (record_bytes (Begun beginning (life_of life.now))) room.new len.new }
     // A journal is begun only with a configuration that can be taken.
     ensures taken { IsAnswered result → ServesWith config.now }
-    // No journal is begun for what is wrong with the configuration, for the room and for want of memory, and for nothing else.
-    ensures why { IsRefused result → SaysWrongOfServer config.now result ⊎ (result ≡ SMALL_ROOM) ⊎ (result ≡ NO_MEMORY) }
+    // No journal is begun for what is wrong with the configuration, for the room and for want of memory, and for
+    // nothing else.
+    ensures why { IsRefused result
+        → SaysWrongOfServer config.now result ⊎ (result ≡ SMALL_ROOM) ⊎ (result ≡ NO_MEMORY) }
 {
     let beginning = match beginning_of(config, seed) {
         Ok(beginning) => beginning,
@@ -197,13 +201,15 @@ pub extern "C" fn ks_journal_begin(
     }
 }
 
-/// For how many milliseconds a server is to be silent that was replayed, and its moment behind that, by the boot and the
-/// uptime of a life that begins now; the moment in that life is not read.
+/// For how many milliseconds a server is to be silent that was replayed, and its moment behind that, by the boot
+/// and the uptime of a life that begins now; the moment in that life is not read.
 #[unsafe(no_mangle)]
 pub extern "C" fn ks_journal_go_on(replayed: &KsReplayed, now: &KsLife, moment: &mut u64) -> u64
-    // In the same boot there is no silence, and the moment is that of the last life and what passed since, by the uptime.
+    // In the same boot there is no silence, and the moment is that of the last life and what passed since, by the
+    // uptime.
     ensures same { IsSameBoot (life_of replayed.now.life) (life_of now.now).boot now.now.uptime
-        → (result ≡ 0) × (moment.new ≡ same_boot_moment (life_of replayed.now.life) replayed.now.moment now.now.uptime) }
+        → (result ≡ 0)
+        × (moment.new ≡ same_boot_moment (life_of replayed.now.life) replayed.now.moment now.now.uptime) }
     // In another boot there is a silence, and it alone is counted.
     ensures other { (IsSameBoot (life_of replayed.now.life) (life_of now.now).boot now.now.uptime → ⊥)
         → (result ≡ SILENCE_MS) × (moment.new ≡ min (replayed.now.moment + SILENCE_MS) (2 ^ 64 - 1)) }
