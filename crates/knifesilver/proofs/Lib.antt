@@ -2,5 +2,6 @@ pub mod BlockSizes
 pub mod Carried
 pub mod Either
 pub mod HandleValues
+pub mod NeverBoth
 pub mod ReleasedValues
 pub mod Walking

@@ -1,5 +1,6 @@
 //! A server that is replayed from its journal, and what it took since.
-ghost use Rattle.std.specs.Prelude.{◌≡◌, ◌≢◌, ◌⊎◌, ◌++◌, ◌∷◌, ◌<◌, ℕ, List, [], pos, length, Err, Some, IfErr, IfOk, IfSome};
+ghost use Rattle.std.specs.Prelude.{◌≡◌, ◌≢◌, ◌⊎◌, ◌<◌, ◌+◌, ◌^◌, List, [], pos, length, Some, IfErr, IfOk};
+ghost use Rattle.std.specs.Prelude.{IfSome};
 ghost use Rattle.coap_layer.specs.Trace.{Packet};
 ghost use Rattle.coap_resource.specs.Entries.{content_of};
 ghost use Rattle.coap_server.specs.Led.{Led, State};
@@ -12,7 +13,8 @@ ghost use Rattle.coap_noted.specs.Notes.{begun_anew, told_in};
 ghost use Rattle.coap_noted.specs.Opening.{IsDamagedAt};
 ghost use Rattle.coap_noted.specs.declared.opening.OpenError.TheVariants as refusals;
 ghost use Rattle.knifesilver.specs.Answers.{IsAnswered, IsRefused, IsUsual};
-ghost use Rattle.knifesilver.specs.Journals.{HoldSameServer, IsReplayed, IsTurnLong, NotedAnswers, life_of, limits_of, setup_of};
+ghost use Rattle.knifesilver.specs.Journals.{HoldSameServer, IsReplayed, IsTurnLong, NotedAnswers};
+ghost use Rattle.knifesilver.specs.Journals.{life_of, limits_of, setup_of};
 ghost use Rattle.knifesilver.specs.ServerHeld.{HoldsServer, IsServer, notes_in};
 
 use crate::answers::{DONE, NO_MEMORY, NOT_LIVE, NOTHING, SMALL_ROOM};
@@ -137,7 +139,8 @@ pub extern "C" fn ks_server_replay(
     file: &[u8],
     told: &mut KsReplayed,
 ) -> i32
-    // A server that is replayed began as its journal says and did the records of its whole frames; it keeps notes from then on.
+    // A server that is replayed began as its journal says and did the records of its whole frames; it keeps notes
+    // from then on.
     ensures made { result ≡ pos 0 → IsReplayed file.now told.new handle.new.held }
     // Where no server is replayed, the handle holds what it held.
     ensures kept { (result ≡ pos 0 → ⊥) → handle.new.held ≡ handle.old.held }
@@ -207,8 +210,8 @@ fn noted(held: &mut Held, room: &mut [u8], len: &mut usize) -> i32
     }
 }
 
-/// What the server took since that was asked last, as a turn for `ks_journal_frame`: 1, or 0 where it took nothing or keeps no
-/// notes.
+/// What the server took since that was asked last, as a turn for `ks_journal_frame`: 1, or 0 where it took
+/// nothing or keeps no notes.
 #[unsafe(no_mangle)]
 pub extern "C" fn ks_server_noted(
     alloc: Global,
@@ -229,7 +232,8 @@ pub extern "C" fn ks_server_noted(
     ensures long { result ≡ SMALL_ROOM → IsTurnLong (length room.old) len.new (told_in (notes_in handle.old.held)) }
     // `noted` never says of a handle with a server that it holds none.
     ensures live { HoldsServer handle.old.held → result ≢ NOT_LIVE }
-    // To ask what was taken is refused for the room, for want of memory or of a server in the handle, and for nothing else.
+    // To ask what was taken is refused for the room, for want of memory or of a server in the handle, and for
+    // nothing else.
     ensures why { IsRefused result → (result ≡ SMALL_ROOM) ⊎ IsUsual result }
 {
     let Some(mut held) = handle.take(alloc) else {
