@@ -17,7 +17,7 @@ mod uploads;
 
 use crate::rows::words_of;
 use coap_arguments::{StoreKind, path_of_text};
-use coap_commands::{USUAL_ENDS, close, command, sim_to, sim_with};
+use coap_commands::{Printing, USUAL_ENDS, close, command, sim_to, sim_with};
 use coap_types::{Path, Remembered};
 use std::alloc::{AllocError, Global};
 use std::io::{ErrorKind, Read};
@@ -60,7 +60,7 @@ fn check_script_with(
             plains,
             Remembered::default(),
             USUAL_ENDS,
-            false,
+            Printing::Lines,
             &mut out,
         );
         assert_eq!(rt; out.as_slice(), printed, "at {name} over {store:?}");

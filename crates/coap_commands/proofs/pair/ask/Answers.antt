@@ -7,7 +7,7 @@ pub returns-in_ok-report-in-Ok : goal.returns-in_ok-report-in-Ok
 returns-in_ok-report-in-Ok g c =
     taken_handed c.in_ok-now.now.0 (shown_request c.args.request) _ c.in-Ok.id c.args.client.now _ _
     c.in_ok-report-in-Ok.report
-    c.in-Ok.is 
+    c.in-Ok.is
     (λ server sizes w t led other. led_client server sizes w t _ _ _ led (c.in_ok-id.ensures.step other))
     c.in_ok-report-in-Ok.ensures
 
