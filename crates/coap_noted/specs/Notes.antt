@@ -1,5 +1,5 @@
 -- What a server took since that was asked last.
-use Rattle.std.specs.Prelude.{◌≡◌, ◌≢◌, ◌⊎◌, ◌≤◌, ◌+◌, ◌-◌, ◌^◌, ℕ, max, Bool, true, false, Option, Some, None}
+use Rattle.std.specs.Prelude.{◌≡◌, ◌≢◌, ◌⊎◌, ◌≤◌, ◌<◌, ◌+◌, ◌-◌, ◌^◌, ℕ, max, Bool, true, false, Option, Some, None}
 use Rattle.std.specs.Prelude.{List, [], ◌∷◌, ◌++◌}
 use Rattle.coap_journal.specs.Input.{Input, spelled}
 use Rattle.coap_journal.specs.Numbers.{number}
@@ -59,4 +59,4 @@ begun_anew (Some n) = Some (record { moment = n.moment; taken = 0; inputs = [] }
 
 -- no tick does anything up to this moment
 abbrev pub IsNotDue : ℕ → State → Type 0
-IsNotDue now s = (at : ℕ) → max (latest s) at ≤ now → TicksDo false s at
+IsNotDue now s = (at : ℕ) → at < 2 ^ 64 → max (latest s) at ≤ now → TicksDo false s at

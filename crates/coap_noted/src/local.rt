@@ -100,7 +100,10 @@ impl<S: Store<A>, A: Allocator + Copy, H: BuildHasher> Noted<S, A, H> {
     {
         match &mut self.notes {
             None => Ok(self.server.remove(now, path)),
-            Some(notes) => remove_noted(&mut self.server, notes, now, path),
+            Some(notes) => {
+                let done = remove_noted(&mut self.server, notes, now, path)?;
+                Ok(done)
+            }
         }
     }
 

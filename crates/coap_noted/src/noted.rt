@@ -62,9 +62,10 @@ impl<S: Store<A>, A: Allocator + Copy, H: BuildHasher> Noted<S, A, H> {
             (max self.old.server.clock now.0) (below.Receive from bytes.now)) → IsOk result }
     {
         match &mut self.notes {
-            None => self.server.feed(now, from, bytes, word),
-            Some(notes) => feed_noted(&mut self.server, notes, now, from, bytes, word),
+            None => self.server.feed(now, from, bytes, word)?,
+            Some(notes) => feed_noted(&mut self.server, notes, now, from, bytes, word)?,
         }
+        Ok(())
     }
 
     /// Does the first that is due, as `Server::tick`. Where notes are kept, a tick that is not due yet changes
@@ -93,7 +94,10 @@ impl<S: Store<A>, A: Allocator + Copy, H: BuildHasher> Noted<S, A, H> {
                 let did = self.server.tick(now, word)?;
                 Ok(did)
             }
-            Some(notes) => tick_noted(&mut self.server, notes, now, word),
+            Some(notes) => {
+                let did = tick_noted(&mut self.server, notes, now, word)?;
+                Ok(did)
+            }
         }
     }
 
@@ -113,7 +117,10 @@ impl<S: Store<A>, A: Allocator + Copy, H: BuildHasher> Noted<S, A, H> {
     {
         match &mut self.notes {
             None => Ok(self.server.next_out()),
-            Some(notes) => next_noted(&mut self.server, notes),
+            Some(notes) => {
+                let next = next_noted(&mut self.server, notes)?;
+                Ok(next)
+            }
         }
     }
 
@@ -125,7 +132,10 @@ impl<S: Store<A>, A: Allocator + Copy, H: BuildHasher> Noted<S, A, H> {
     {
         match &self.notes {
             None => Ok(None),
-            Some(notes) => notes.turn(),
+            Some(notes) => {
+                let turn = notes.turn()?;
+                Ok(turn)
+            }
         }
     }
 
@@ -176,10 +186,13 @@ fn rests<S: Store<A>, A: Allocator + Copy, H: BuildHasher>(
 ) -> bool
     ensures { result ≡ true → IsNotDue now.0 (state_of S.content server.now) }
 {
-    match server.due() {
-        Some(at) => now.0 < at.0,
-        None => true,
+    let Some(at) = server.due() else {
+        return true;
+    };
+    if at.0 <= now.0 {
+        return false;
     }
+    true
 }
 
 fn tick_noted<S: Store<A>, A: Allocator + Copy, H: BuildHasher>(

@@ -1,5 +1,5 @@
 //! How the file of a journal begins.
-ghost use Rattle.std.specs.Prelude.{◌≡◌, ◌≢◌, ◌≤◌, ◌<◌, ◌^◌, ◌+◌, ◌++◌, ◌∷◌, ◌×◌, ℕ, List, [], length, Err, IfOk};
+ghost use Rattle.std.specs.Prelude.{◌≡◌, ◌≢◌, ◌≤◌, ◌<◌, ◌^◌, ◌+◌, ◌++◌, ◌∷◌, ℕ, List, [], length, Err, IfOk};
 ghost use Rattle.coap_journal.specs.Frames.{BeginsFrame, IsDamage, frame};
 ghost use Rattle.coap_journal.specs.Numbers.{short};
 ghost use Rattle.coap_journal.specs.Records.{Begun, record_bytes};

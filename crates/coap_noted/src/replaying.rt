@@ -43,7 +43,7 @@ fn replay_whole<S: Store<A>, A: Allocator + Copy, H: BuildHasher>(
 
 /// The server of a journal that was opened, with notes of what it takes from now on. The server that is
 /// handed in is the one that began so, and to which nothing has happened.
-pub fn replay<S: Store<A>, A: Allocator + Copy, H: BuildHasher>(
+pub fn replay<S: Store<A>, A: Allocator + Copy, H: BuildHasher + Drop>(
     alloc: A,
     server: Server<S, A, H>,
     opened: &Opened<'_>,

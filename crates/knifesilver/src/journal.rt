@@ -1,11 +1,10 @@
 //! The frames of a journal, for C. None of these calls needs a server.
-ghost use Rattle.std.specs.Prelude.{◌≡◌, ◌≢◌, ◌⊎◌, ◌≤◌, ◌<◌, ◌+◌, ◌^◌, min, pos, length, IfErr, IfOk, OnOk};
-ghost use Rattle.coap_journal.specs.Frames.{frame};
+ghost use Rattle.std.specs.Prelude.{◌≡◌, ◌⊎◌, ◌+◌, ◌-◌, ◌^◌, min, pos, length, IfErr, IfOk, OnOk};
 ghost use Rattle.coap_journal.specs.Records.{Begun, Woke, record_bytes};
 ghost use Rattle.coap_journal.specs.Waking.{IsSameBoot, same_boot_moment};
 ghost use Rattle.coap_journal.specs.declared.beginning.Beginning.{Beginning as BeginningSpec};
 ghost use Rattle.knifesilver.specs.Answers.{IsAnswered, IsRefused};
-ghost use Rattle.knifesilver.specs.Configs.{SaysWrongOfServer, ServesWith, chosen};
+ghost use Rattle.knifesilver.specs.Configs.{SaysWrongOfServer, ServesWith};
 ghost use Rattle.knifesilver.specs.Journals.{IsBeginning, IsFrameLong, IsFramed, IsNoFrame, life_of};
 
 use crate::answers::{BAD_ARGUMENT, BAD_BASE, BAD_CHANGES, DONE, NO_MEMORY, SMALL_ROOM};
@@ -138,7 +137,6 @@ fn beginning_of(config: &KsConfig, seed: &KsSeed) -> Result<Beginning, i32>
     ensures taken { OnOk result (ServesWith config.now) }
     ensures refused { IfErr result IsRefused }
     ensures why { IfErr result (SaysWrongOfServer config.now) }
-    ensures room { IfErr result (λ answer. (answer ≢ SMALL_ROOM) × (answer ≢ BAD_ARGUMENT) × (answer ≢ NO_MEMORY)) }
 {
     let choice = match choice_of(config) {
         Ok(choice) => choice,

@@ -53,9 +53,14 @@ fn begun_server(alloc: Global, beginning: &Beginning) -> Option<MapServer>
     ensures { IfSome result (λ server. Led (limits_of beginning.now) beginning.now.configuration.szx
         (setup_of beginning.now) [] (state_of content_of server)) }
 {
-    let base = VersionBase::new(beginning.base)?;
     let configuration = beginning.configuration;
-    let store = MapStore::new_after(alloc, configuration.changes, configuration.limit, base)?;
+    let Some(base) = VersionBase::new(beginning.base) else {
+        return None;
+    };
+    let store = MapStore::new_after(alloc, configuration.changes, configuration.limit, base);
+    let Some(store) = store else {
+        return None;
+    };
     let setup = Setup {
         word: beginning.seed.word,
         remembered: configuration.remembered,
