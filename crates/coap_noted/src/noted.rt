@@ -186,13 +186,15 @@ fn rests<S: Store<A>, A: Allocator + Copy, H: BuildHasher>(
 ) -> bool
     ensures { result ≡ true → IsNotDue now.0 (state_of S.content server.now) }
 {
-    let Some(at) = server.due() else {
-        return true;
-    };
-    if at.0 <= now.0 {
-        return false;
+    match server.due() {
+        Some(at) => {
+            if at.0 <= now.0 {
+                return false;
+            }
+            true
+        }
+        None => true,
     }
-    true
 }
 
 fn tick_noted<S: Store<A>, A: Allocator + Copy, H: BuildHasher>(

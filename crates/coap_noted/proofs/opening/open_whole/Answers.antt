@@ -1,4 +1,4 @@
-use Rattle.std.proofs.Common.{rules, ◌≡◌, ◌++◌, ◌∙◌, ℕ, List, length, drop, ap, sym, subst, arith}
+use Rattle.std.proofs.Common.{◌≡◌, ◌++◌, ◌∙◌, ℕ, List, length, drop, ap, sym, subst, arith}
 use Rattle.std.proofs.lemmas.List.{length-append, take-append-drop}
 use Rattle.coap_journal.specs.Frames.{BeginsFrame, IsDamage, frame}
 use Rattle.coap_noted.proofs.WholeParts.{begins_none, behind_is, ends_within, opened_parts}
