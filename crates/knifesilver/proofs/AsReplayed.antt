@@ -18,7 +18,7 @@ use Rattle.knifesilver.specs.declared.server.replaying.KsReplayed.{KsReplayed}
 
 -- the second frame stands where the first one ends
 stands : (file : List ℕ) (b : Beginning) (l : Life) (place : ℕ) (further : List ℕ) (end torn : ℕ)
-    → (o : IsOpened file b l place further end torn) → place ≡ 20 + length (record_bytes (Begun b l))
+    → (o : IsOpened file b l place further end torn) → place ≡ 0 + (20 + length (record_bytes (Begun b l)))
 stands file b l place further end torn o =
     let first = frame 0 (record_bytes (Begun b l)) in
     omega (

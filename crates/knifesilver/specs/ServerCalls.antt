@@ -1,5 +1,5 @@
 -- Which call of a server an export makes, by what the export was handed and answered.
-use Rattle.std.specs.Prelude.{◌≡◌, ◌≢◌, ◌<◌, ◌⊎◌, ◌^◌, ◌+◌, max, ℕ, suc, ℤ, pos, negsuc, Bool, true, false, List, length, take}
+use Rattle.std.specs.Prelude.{◌≡◌, ◌≢◌, ◌<◌, ◌⊎◌, ◌^◌, ◌+◌, max, nat_lt, ℕ, ℤ, pos, negsuc, Bool, true, false, List, length, take}
 use Rattle.std.specs.Prelude.{Option, Some, None, Result, Ok, Err}
 use Rattle.coap_types.specs.declared.endpoint.Endpoint.{Endpoint}
 use Rattle.coap_codec.specs.Message.{Message}
@@ -116,8 +116,7 @@ IsTooLong path shown room s = IsLong shown room (s.own.store.holds path)
 
 -- whether a datagram was taken, by the answer
 abbrev pub is_given : ℤ → Bool
-is_given (pos 0) = false
-is_given (pos (suc n)) = true
+is_given (pos n) = nat_lt 0 n
 is_given (negsuc n) = false
 
 -- a datagram is taken to be sent, and is told

@@ -184,10 +184,10 @@ pub extern "C" fn ks_journal_begin(
         × IsFramed 0 (record_bytes (Begun beginning (life_of life.now))) room.new len.new }
     // A journal is begun only with a configuration that can be taken.
     ensures taken { IsAnswered result → ServesWith config.now }
-    // No journal is begun for what is wrong with the configuration, for the room and for want of memory, and for
-    // nothing else.
-    ensures why { IsRefused result
-        → SaysWrongOfServer config.now result ⊎ (result ≡ SMALL_ROOM) ⊎ (result ≡ NO_MEMORY) }
+    // No journal is begun for what is wrong with the configuration, for the room, for a frame that is too long and
+    // for want of memory, and for nothing else.
+    ensures why { IsRefused result → SaysWrongOfServer config.now result
+        ⊎ ((result ≡ SMALL_ROOM) ⊎ (result ≡ BAD_ARGUMENT) ⊎ (result ≡ NO_MEMORY)) }
 {
     let beginning = match beginning_of(config, seed) {
         Ok(beginning) => beginning,

@@ -10,7 +10,7 @@ ghost use Rattle.knifesilver.specs.Answers.{IsAnswered, IsRefused, IsUsual};
 ghost use Rattle.knifesilver.specs.Formats.{format_in};
 ghost use Rattle.knifesilver.specs.declared.held.Held.TheVariants.{Server};
 ghost use Rattle.knifesilver.specs.PathRefusals.{RefusesPath};
-ghost use Rattle.knifesilver.specs.ServerCalls.{HoldsThat, IsDelay, IsRemove, IsSet, Updates};
+ghost use Rattle.knifesilver.specs.ServerCalls.{HoldsThat, IsDelay, IsRemove, IsSet, RemoveAnswers, Updates};
 ghost use Rattle.knifesilver.specs.ServerHeld.{HoldsServer, IsNoted, IsServer, Made};
 
 use crate::answers::{BAD_PATH, DONE, NO_MEMORY, NOT_LIVE, NOTHING};
@@ -213,6 +213,20 @@ pub extern "C" fn ks_server_update(
     answer
 }
 
+// What a removal answers.
+fn removed(done: Result<bool, StoreRefusal>) -> i32
+    ensures told { RemoveAnswers result done }
+    ensures answered { IsRefused result → ⊥ }
+    ensures live { result ≢ NOT_LIVE }
+    ensures path { result ≢ BAD_PATH }
+{
+    match done {
+        Ok(true) => DONE,
+        Ok(false) => NOTHING,
+        Err(why) => set_number(why),
+    }
+}
+
 // Takes away what the path holds.
 fn remove(held: &mut Held, now: u64, path: &Path) -> i32
     ensures led { IsAnswered result → Made (IsRemove now path.now result) (Some held.old) (Some held.new) }
@@ -224,9 +238,7 @@ fn remove(held: &mut Held, now: u64, path: &Path) -> i32
 {
     match held {
         Held::Server(server) => match server.remove(Moment(now), path) {
-            Ok(Ok(true)) => DONE,
-            Ok(Ok(false)) => NOTHING,
-            Ok(Err(why)) => set_number(why),
+            Ok(done) => removed(done),
             Err(_) => NO_MEMORY,
         },
         Held::Client(_) => NOT_LIVE,

@@ -57,8 +57,12 @@ fn begun_server(alloc: Global, beginning: &Beginning) -> Option<MapServer>
     let Some(base) = VersionBase::new(beginning.base) else {
         return None;
     };
-    let store = MapStore::new_after(alloc, configuration.changes, configuration.limit, base);
-    let Some(store) = store else {
+    let Some(store) = MapStore::new_after(
+        alloc,
+        configuration.changes,
+        configuration.limit,
+        base,
+    ) else {
         return None;
     };
     let setup = Setup {
