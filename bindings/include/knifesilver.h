@@ -53,13 +53,15 @@ enum {
     KS_NO_MEMORY = -2,      /* malloc or realloc answered NULL */
     KS_BAD_PATH = -3,       /* over 16 segments, one of over 255 bytes, or a % without two hexadecimal digits */
     KS_SMALL_ROOM = -4,     /* the buffer is too small: nothing was taken, call again with a larger one */
-    KS_BAD_ARGUMENT = -5,   /* an entity-tag of 0 or over 8 bytes, over 4 of them, a method or an error that is none */
+    KS_BAD_ARGUMENT = -5,   /* an entity-tag of 0 or over 8 bytes, over 4 of them, a method or an error that is none; a
+                             * place of 2^62 or a turn of 2^32 bytes or more */
     KS_BAD_SIZE = -6,       /* ks_config.size is neither 0 nor sizeof (ks_config); ks_end_load.size is not sizeof (ks_end_load) */
     KS_BAD_BLOCK_SIZE = -7, /* ks_config.block_size is none of 0, 16, 32, 64, 128, 256, 512 and 1,024 */
     KS_BAD_BODY_LIMIT = -8, /* ks_config.body_limit is over 1,048,576 */
     KS_BAD_REMEMBERED = -9, /* ks_config.remembered is over 1,048,576 */
     KS_BAD_CHANGES = -10,   /* ks_config.changes is over 4,194,303 */
-    KS_BAD_BASE = -11       /* ks_config.base is no multiple of 2^24, or not below 2^63 */
+    KS_BAD_BASE = -11,      /* ks_config.base is no multiple of 2^24, or not below 2^63 */
+    KS_UNTOLD = -12         /* what a server took is to be asked by ks_server_noted first, and kept */
 };
 
 #define KS_VERSION 200u         /* of this header: 0.2.0 */
@@ -178,8 +180,8 @@ int32_t ks_server_tick(ks_server *handle, uint64_t now, uint64_t word);
 int32_t ks_server_due(ks_server *handle, uint64_t *at);
 
 /* Takes the datagram that is to be sent next: KS_DONE with *to, *len and its bytes at the front of the room; KS_OK where
- * there is none; KS_SMALL_ROOM where the room has under KS_DATAGRAM_ROOM bytes; KS_NOT_LIVE. What you don't send is lost,
- * as on the way: it is sent again if it is to be. */
+ * there is none; KS_SMALL_ROOM where the room has under KS_DATAGRAM_ROOM bytes; KS_UNTOLD, of a server with a journal
+ * alone; KS_NOT_LIVE. What you don't send is lost, as on the way: it is sent again if it is to be. */
 int32_t ks_server_next_out(ks_server *handle, ks_address *to, void *room, size_t room_len, size_t *len);
 
 typedef struct {
@@ -196,6 +198,89 @@ typedef struct {
  * is nothing; KS_SMALL_ROOM, after which you may ask again; KS_NOT_LIVE. The next feed or tick, an idle one too, empties
  * it: ask after each feed, and after each tick that answered KS_DONE, before the next. */
 int32_t ks_server_applied(ks_server *handle, ks_applied *done, char *room, size_t room_len);
+
+/* ---- The journal of a server ------------------------------------------------------------------------------------- */
+
+/* A server that is ended at any moment, and goes on. It is a function of what it is handed; so what it took is kept in a
+ * file, and a server that is handed the same again is the same one: nothing is applied twice, no entity-tag names two
+ * bodies, observers stay. The file is one frame after the other: how the server began, then its further lives and its
+ * turns. You write and sync the file; the library has the format.
+ *
+ *     read the file; where it is empty (or KS_JOURNAL_NOT_BEGUN): cut it to 0 bytes, append ks_journal_begin, sync, read it
+ *     ks_server_replay(&server, file, file_len, &replayed);  cut the file to replayed.end bytes; sync
+ *     take each ks_server_next_out, and throw it away
+ *     silence = ks_journal_go_on(&replayed, &life, &life.moment);  wait for so long, with the socket unread
+ *     append ks_journal_wake(place, &life, ..), sync; switch what hangs on what a path holds
+ *     for (;;) {
+ *         feed what came; tick while something is due; set, remove and so on
+ *         if (ks_server_noted(&server, turn, ..) == KS_DONE) append ks_journal_frame(place, turn, ..), sync
+ *         send each ks_server_next_out; wait
+ *     }
+ *
+ * `place` is how many bytes the file has then. Append the whole frame and sync the file before you send anything: until
+ * ks_server_noted has told what was taken, ks_server_next_out answers KS_UNTOLD. After a write or a sync that failed, end,
+ * and don't write to this file again. One program at a time writes to it. The file holds all bodies and the seed.
+ *
+ * The moments go on: `now` is `life.moment` and the milliseconds since ks_journal_go_on and that silence. */
+
+/* A life of a server, from its start to its end. The boot is 128 bits that differ in each boot of the machine (Linux:
+ * /proc/sys/kernel/random/boot_id), the uptime how long it has been up, with what it slept, in ms (CLOCK_BOOTTIME). Who has
+ * no such name hands in 128 random bits: then each outage counts as one of unknown length. */
+typedef struct {
+    uint64_t boot_high;
+    uint64_t boot_low;
+    uint64_t uptime;
+    uint64_t moment;            /* of the server, at that uptime */
+} ks_life;
+
+/* The frame with which a file begins: how the server is made, as by ks_server_new, and its first life: 109 bytes. KS_DONE
+ * with *len and its bytes at the front of the room; KS_SMALL_ROOM with *len; KS_BAD_SIZE, KS_BAD_BLOCK_SIZE, KS_BAD_BODY_LIMIT,
+ * KS_BAD_REMEMBERED, KS_BAD_CHANGES, KS_BAD_BASE; KS_NO_MEMORY. */
+int32_t ks_journal_begin(const ks_config *config, const ks_seed *seed, const ks_life *life, void *room, size_t room_len,
+                         size_t *len);
+
+/* The frame of a further life, 53 bytes, which is to stand at this place of the file. KS_DONE and KS_SMALL_ROOM as there;
+ * KS_BAD_ARGUMENT: no frame stands at a place of 2^62 or more; KS_NO_MEMORY. */
+int32_t ks_journal_wake(uint64_t place, const ks_life *life, void *room, size_t room_len, size_t *len);
+
+/* The frame of a turn, as ks_server_noted tells it, with 20 bytes more. Else as ks_journal_wake; KS_BAD_ARGUMENT, too, where the turn has 2^32
+ * bytes or more. */
+int32_t ks_journal_frame(uint64_t place, const void *turn, size_t turn_len, void *room, size_t room_len, size_t *len);
+
+typedef struct {
+    uint64_t end;               /* where the last whole frame ends: cut the file off there */
+    uint64_t torn;              /* how many bytes of a torn frame are behind it */
+    uint64_t moment;            /* the latest moment that the journal tells */
+    ks_life life;               /* the last life */
+} ks_replayed;
+
+/* Why a journal is not replayed. (Want of memory is KS_NO_MEMORY.) */
+enum ks_journal_refusal {
+    KS_JOURNAL_DAMAGED = 145,   /* whole frames stand behind one that isn't, which begins at told->end */
+    KS_JOURNAL_NOT_BEGUN = 146, /* no frame is whole: nothing was ever sent */
+    KS_JOURNAL_OTHER_FORMAT = 147, /* another library wrote it */
+    KS_JOURNAL_OTHER_LAW = 148, /* .. whose server does otherwise with the same inputs */
+    KS_JOURNAL_UNREADABLE = 149, /* a whole frame that holds no record, or a first one that holds no beginning */
+    KS_JOURNAL_OTHER_SERVER = 150 /* more datagrams went out than this server had */
+};
+
+/* Makes the server of this file, as it was after the last whole frame; what the handle held is freed. From then on it
+ * notes what it takes. KS_OK with *told written, also where a torn frame is behind the whole ones. After another answer the
+ * handle holds what it held: ks_journal_refusal; KS_NO_MEMORY. The applications of what is replayed are not told again:
+ * look at what the paths hold. */
+int32_t ks_server_replay(ks_server *handle, const void *file, size_t file_len, ks_replayed *told);
+
+/* For how many ms a server that was replayed is to be silent: nothing is fed and nothing sent. *moment is that of the
+ * server behind the silence. In the boot of its last life it is 0, and the time that passed counts; in another boot, or
+ * where the uptime is smaller, what passed isn't known: then it is 47,001, and that alone counts. The moment of `now` is
+ * not read. */
+uint64_t ks_journal_go_on(const ks_replayed *replayed, const ks_life *now, uint64_t *moment);
+
+/* What a server with a journal took since this was asked last, for ks_journal_frame: KS_DONE with *len and its bytes at the
+ * front of the room, after which it is told no more; KS_OK where it took nothing, or has no journal; KS_SMALL_ROOM with *len;
+ * KS_NO_MEMORY; KS_NOT_LIVE. A call that was refused memory is in no turn. A tick is one where it was due; where none is,
+ * ks_server_tick of a server with a journal does nothing. A datagram takes 27 bytes and its own, a tick 17. */
+int32_t ks_server_noted(ks_server *handle, void *room, size_t room_len, size_t *len);
 
 /* ---- The client of one server ------------------------------------------------------------------------------------ */
 
@@ -438,6 +523,7 @@ static inline const char *ks_answer_text(int32_t answer) {
     case KS_BAD_REMEMBERED: return "the number of remembered messages is not 1 to 1,048,576";
     case KS_BAD_CHANGES: return "the number of changes is not 1 to 4,194,303";
     case KS_BAD_BASE: return "the base of versions is no multiple of 2^24 below 2^63";
+    case KS_UNTOLD: return "what was taken is not handed out yet";
     case KS_SET_TOO_LARGE: return "the body is longer than the server's limit";
     case KS_SET_TOO_MANY_PATHS: return "256 other paths hold something";
     case KS_SET_RATE_EXCEEDED: return "the window of 256 s has no change left";
@@ -459,6 +545,12 @@ static inline const char *ks_answer_text(int32_t answer) {
     case KS_WOULD_NO_ID: return "the datagram would not be served, as no Message ID is free";
     case KS_WOULD_ACKNOWLEDGE: return "the datagram would acknowledge what is outstanding";
     case KS_WOULD_RESET: return "the datagram would be a Reset";
+    case KS_JOURNAL_DAMAGED: return "whole frames of the journal stand behind one that isn't";
+    case KS_JOURNAL_NOT_BEGUN: return "no frame of the journal is whole";
+    case KS_JOURNAL_OTHER_FORMAT: return "a journal of another format";
+    case KS_JOURNAL_OTHER_LAW: return "a journal of a server by another law";
+    case KS_JOURNAL_UNREADABLE: return "a whole frame of the journal that holds no record";
+    case KS_JOURNAL_OTHER_SERVER: return "a journal of another server";
     case KS_FAULT_SHORT: return "fewer than 4 bytes";
     case KS_FAULT_VERSION: return "a version other than 1";
     case KS_FAULT_TOKEN_LENGTH: return "a token length of 9 to 15";

@@ -53,6 +53,7 @@ pub mod driver;
 #[macro_use]
 mod errors;
 pub mod exchange;
+mod journal;
 mod load;
 mod message;
 mod raw;
@@ -62,6 +63,7 @@ mod setting;
 
 pub use client::{CallId, Client, Fetched, Report, Request};
 pub use errors::{CallError, CancelError, DelayError, NewError, OutOfMemory, PeekError, PlainError, SetError};
+pub use journal::{Boot, Journal, JournalError, Replayed};
 pub use load::{Load, Would};
 pub use message::{peek, refusal, Code, Kind, Message, Method, Tag};
 pub use server::{Applied, Ended, Representation, Server};

@@ -47,6 +47,12 @@ pub const KS_FAULT_DELTA_RESERVED: i32 = 86;
 pub const KS_FAULT_LENGTH_RESERVED: i32 = 87;
 pub const KS_FAULT_OPTION_CUT: i32 = 88;
 pub const KS_FAULT_NUMBER_TOO_LARGE: i32 = 89;
+pub const KS_JOURNAL_DAMAGED: i32 = 145;
+pub const KS_JOURNAL_NOT_BEGUN: i32 = 146;
+pub const KS_JOURNAL_OTHER_FORMAT: i32 = 147;
+pub const KS_JOURNAL_OTHER_LAW: i32 = 148;
+pub const KS_JOURNAL_UNREADABLE: i32 = 149;
+pub const KS_JOURNAL_OTHER_SERVER: i32 = 150;
 pub const KS_VERSION: u32 = 200;
 pub const KS_NO_FORMAT: i32 = -1;
 pub const KS_DATAGRAM_ROOM: usize = 1152;
@@ -134,6 +140,24 @@ pub struct ks_applied {
     pub method: u8,
     pub token_len: u8,
     pub token: [u8; 8],
+}
+
+#[repr(C)]
+#[derive(Clone, Copy, Default)]
+pub struct ks_life {
+    pub boot_high: u64,
+    pub boot_low: u64,
+    pub uptime: u64,
+    pub moment: u64,
+}
+
+#[repr(C)]
+#[derive(Clone, Copy, Default)]
+pub struct ks_replayed {
+    pub end: u64,
+    pub torn: u64,
+    pub moment: u64,
+    pub life: ks_life,
 }
 
 #[repr(C)]
@@ -225,6 +249,12 @@ extern "C" {
     fn ks_server_due(handle: *mut ks_server, at: *mut u64) -> i32;
     fn ks_server_next_out(handle: *mut ks_server, to: *mut ks_address, room: *mut c_void, room_len: usize, len: *mut usize) -> i32;
     fn ks_server_applied(handle: *mut ks_server, done: *mut ks_applied, room: *mut c_char, room_len: usize) -> i32;
+    fn ks_journal_begin(config: *const ks_config, seed: *const ks_seed, life: *const ks_life, room: *mut c_void, room_len: usize, len: *mut usize) -> i32;
+    fn ks_journal_wake(place: u64, life: *const ks_life, room: *mut c_void, room_len: usize, len: *mut usize) -> i32;
+    fn ks_journal_frame(place: u64, turn: *const c_void, turn_len: usize, room: *mut c_void, room_len: usize, len: *mut usize) -> i32;
+    fn ks_server_replay(handle: *mut ks_server, file: *const c_void, file_len: usize, told: *mut ks_replayed) -> i32;
+    fn ks_journal_go_on(replayed: *const ks_replayed, now: *const ks_life, moment: *mut u64) -> u64;
+    fn ks_server_noted(handle: *mut ks_server, room: *mut c_void, room_len: usize, len: *mut usize) -> i32;
     fn ks_client_new(handle: *mut ks_client, server: *const ks_address, config: *const ks_config, seed: *const ks_seed) -> i32;
     fn ks_client_free(handle: *mut ks_client);
     fn ks_client_call(handle: *mut ks_client, now: u64, what: *const ks_request, path: *const c_char, path_len: usize, body: *const c_void, body_len: usize, etags: *const ks_tag, etags_len: usize, if_match: *const ks_tag, if_match_len: usize, id: *mut u64) -> i32;
@@ -264,6 +294,27 @@ pub fn base(word: u64) -> u64 {
     unsafe { ks_base(word) }
 }
 
+/// The frame with which the file of a journal begins.
+pub fn journal_begin(config: &ks_config, seed: &ks_seed, life: &ks_life, room: &mut [u8], len: &mut usize) -> i32 {
+    unsafe { ks_journal_begin(config, seed, life, room.as_mut_ptr().cast(), room.len(), len) }
+}
+
+/// The frame of a further life.
+pub fn journal_wake(place: u64, life: &ks_life, room: &mut [u8], len: &mut usize) -> i32 {
+    unsafe { ks_journal_wake(place, life, room.as_mut_ptr().cast(), room.len(), len) }
+}
+
+/// The frame of a turn.
+pub fn journal_frame(place: u64, turn: &[u8], room: &mut [u8], len: &mut usize) -> i32 {
+    let (at, bytes) = (turn.as_ptr().cast(), room.as_mut_ptr().cast());
+    unsafe { ks_journal_frame(place, at, turn.len(), bytes, room.len(), len) }
+}
+
+/// For how long a server that was replayed is silent, and its moment behind that.
+pub fn journal_go_on(replayed: &ks_replayed, now: &ks_life, moment: &mut u64) -> u64 {
+    unsafe { ks_journal_go_on(replayed, now, moment) }
+}
+
 /// What a datagram says.
 pub fn peek(datagram: &[u8], shown: &mut ks_message, room: &mut [u8]) -> i32 {
     let (at, len) = (datagram.as_ptr().cast(), datagram.len());
@@ -290,6 +341,14 @@ impl Server {
 
     pub fn make(&mut self, config: &ks_config, seed: &ks_seed) -> i32 {
         unsafe { ks_server_new(self.0.get_mut(), config, seed) }
+    }
+
+    pub fn replay(&mut self, file: &[u8], told: &mut ks_replayed) -> i32 {
+        unsafe { ks_server_replay(self.0.get_mut(), file.as_ptr().cast(), file.len(), told) }
+    }
+
+    pub fn noted(&mut self, room: &mut [u8], len: &mut usize) -> i32 {
+        unsafe { ks_server_noted(self.0.get_mut(), room.as_mut_ptr().cast(), room.len(), len) }
     }
 
     pub fn set(&mut self, now: u64, path: &str, format: i32, body: &[u8], version: &mut u64) -> i32 {

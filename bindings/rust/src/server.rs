@@ -99,6 +99,25 @@ impl Server {
         Ok(Server { raw, around, applied: VecDeque::new(), ended: Vec::new(), room: vec![0; raw::KS_PATH_ROOM] })
     }
 
+    // A server that was replayed, and whose milliseconds at this moment are so many.
+    pub(crate) fn replayed(raw: raw::Server, config: &Config, now: Instant, moment: u64) -> Server {
+        let around = Surroundings::from(config, now, moment);
+        Server { raw, around, applied: VecDeque::new(), room: vec![0; raw::KS_PATH_ROOM] }
+    }
+
+    // What it took since this was asked last, in the room, which grows to hold it.
+    pub(crate) fn noted<'a>(&mut self, room: &'a mut Vec<u8>) -> Result<Option<&'a [u8]>, OutOfMemory> {
+        let mut len = 0;
+        loop {
+            match self.raw.noted(room, &mut len) {
+                raw::KS_SMALL_ROOM => room.resize(len, 0),
+                raw::KS_DONE => return Ok(Some(&room[..len])),
+                raw::KS_OK => return Ok(None),
+                _ => return Err(OutOfMemory),
+            }
+        }
+    }
+
     /// Has the path hold the body, and marks its observers, also where the body is the same. Its version.
     pub fn set(&mut self, now: Instant, path: &str, format: Option<u16>, body: &[u8]) -> Result<u64, SetError> {
         let mut version = 0;
@@ -197,7 +216,8 @@ impl Server {
         }
     }
 
-    /// The datagram that is to be sent next, in the buffer.
+    /// The datagram that is to be sent next, in the buffer. None, too, where a server with a journal took something that
+    /// [`Journal::keep`](crate::Journal::keep) hasn't kept yet.
     #[must_use = "a datagram that is not sent is lost"]
     pub fn poll_transmit(&mut self, buffer: &mut [u8; MAX_DATAGRAM]) -> Option<Transmit> {
         let (mut to, mut size) = (raw::ks_address::default(), 0);

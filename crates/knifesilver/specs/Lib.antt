@@ -7,6 +7,7 @@ pub mod Configs
 pub mod Endings
 pub mod Formats
 pub mod Fresh
+pub mod Journals
 pub mod Known
 pub mod Loads
 pub mod Outgoing

@@ -9,6 +9,7 @@ mod config;
 mod crossing;
 mod handle;
 mod held;
+mod journal;
 mod load;
 mod numbers;
 mod outgoing;

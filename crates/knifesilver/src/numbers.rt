@@ -82,6 +82,28 @@ const FAULT_NUMBER_TOO_LARGE: i32 = 89;
 
 const FAULT_NO_PAYLOAD: i32 = 90;
 
+// A journal that is not replayed: 144, and the number of its refusal.
+/// Whole frames stand behind one that isn't.
+pub(crate) const JOURNAL_DAMAGED: i32 = 145;
+/// No frame is whole.
+pub(crate) const JOURNAL_NOT_BEGUN: i32 = 146;
+/// It has another format.
+pub(crate) const JOURNAL_OTHER_FORMAT: i32 = 147;
+/// It is of a server by another law.
+pub(crate) const JOURNAL_OTHER_LAW: i32 = 148;
+/// A whole frame holds no record, or the first one no beginning.
+pub(crate) const JOURNAL_UNREADABLE: i32 = 149;
+/// More datagrams were given out than its server had.
+pub(crate) const JOURNAL_OTHER_SERVER: i32 = 150;
+
+const _: () = prove!(
+    JOURNAL_DAMAGED == 145 && JOURNAL_NOT_BEGUN == 146 && JOURNAL_OTHER_FORMAT == 147
+);
+
+const _: () = prove!(
+    JOURNAL_OTHER_LAW == 148 && JOURNAL_UNREADABLE == 149 && JOURNAL_OTHER_SERVER == 150
+);
+
 /// The number of a refusal of the store.
 pub(crate) fn set_number(why: StoreRefusal) -> i32
     ensures { result ≡ pos (16 + refusal_number why) }

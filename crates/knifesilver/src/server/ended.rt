@@ -31,7 +31,7 @@ fn tell(held: &Held, told: &mut KsEnded) -> i32
     ensures why { IsRefused result → result ≡ NOT_LIVE }
 {
     match held {
-        Held::Server(server) => match server.ended() {
+        Held::Server(server) => match server.server.ended() {
             Some(ended) => {
                 let (token, token_len) = token_of(&ended.token);
                 *told = KsEnded {

@@ -21,7 +21,7 @@ fn tell(held: &Held, now: u64, load: &mut KsEndLoad) -> i32
 {
     match held {
         Held::Server(server) => {
-            *load = server_load(server.load(Moment(now)));
+            *load = server_load(server.server.load(Moment(now)));
             NOTHING
         }
         Held::Client(_) => NOT_LIVE,

@@ -19,7 +19,7 @@ fn know(held: &Held, now: u64, peer: Endpoint) -> i32
 {
     match held {
         Held::Server(server) => {
-            if server.knows(Moment(now), peer) {
+            if server.server.knows(Moment(now), peer) {
                 DONE
             } else {
                 NOTHING

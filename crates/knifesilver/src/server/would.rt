@@ -19,7 +19,7 @@ fn foretell(held: &Held, now: u64, from: Endpoint, datagram: &[u8]) -> i32
     ensures why { IsRefused result → result ≡ NOT_LIVE }
 {
     match held {
-        Held::Server(server) => would_number(server.would(Moment(now), from, datagram)),
+        Held::Server(server) => would_number(server.server.would(Moment(now), from, datagram)),
         Held::Client(_) => NOT_LIVE,
     }
 }
