@@ -347,7 +347,8 @@ fn tell_why<E: Write>(name: &str, why: KeepError, err: &mut E) -> Result<Status,
 fn keeping_of<'a, R: RandomSource>(
     rt: &R,
     options: &ServeOptions,
-    journal: Journal<'a>,
+    journal: Journal<'_>,
+    name: &'a str,
     setup: &'a [u8],
 ) -> Result<Keeping<'a>, Stop>
     ensures { IfOk result (λ keeping. AreWishes options.now journal.entry setup.now keeping.wishes) }
@@ -355,7 +356,7 @@ fn keeping_of<'a, R: RandomSource>(
     let drawn = drawn_of(rt, options, journal)?;
     let wishes = wishes_of(options, journal, setup);
     Ok(Keeping {
-        name: journal.file,
+        name,
         wishes,
         drawn,
         setup,
@@ -431,26 +432,17 @@ where
     let mut time = ProgramTime::begin(rt)?;
     let syncs = time.again();
     let setup = setup_of(alloc, options)?;
-    let keeping = keeping_of(rt, options, journal, setup.as_slice())?;
+    let name = journal.file;
+    let keeping = keeping_of(rt, options, journal, name, setup.as_slice())?;
     let word = word_of(rt, WordChoice::Random)?;
     let hasher = RandomState::new(rt)?;
     let told = SharedWriter::new(err);
     let mut said = SharedWriter::new(err);
     match keep(rt, &keeping, link, &mut time, syncs, told, hasher) {
         Ok(kept) => go_on_kept(
-            alloc,
-            kept,
-            serving,
-            options,
-            changes,
-            link,
-            time,
-            word,
-            journal.file,
-            out,
-            &mut said,
+            alloc, kept, serving, options, changes, link, time, word, name, out, &mut said,
         ),
-        Err(why) => tell_why(journal.file, why, &mut said),
+        Err(why) => tell_why(name, why, &mut said),
     }
 }
 
