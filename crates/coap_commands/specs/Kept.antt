@@ -12,6 +12,7 @@ use Rattle.coap_arguments.specs.declared.orders.ServeOptions.{ServeOptions}
 use Rattle.coap_arguments.specs.declared.orders.WordChoice.{WordChoice}
 use Rattle.coap_arguments.specs.declared.orders.WordChoice.TheVariants.{Given, Random}
 use Rattle.coap_commands.specs.Served.{FedFrom, IsServed}
+use Rattle.coap_commands.specs.declared.keeping.Says.{Says}
 use Rattle.coap_journal.specs.Input.{spelled}
 use Rattle.coap_journal.specs.Input as input
 use Rattle.coap_journal_file.specs.declared.wishes.Wishes.{Wishes}
@@ -48,12 +49,16 @@ abbrev pub IsSaidSetup : List ℕ → Option (Bor (List ℕ)) → Type 0
 IsSaidSetup inputs None = inputs ≡ []
 IsSaidSetup inputs (Some wish) = wish.now ≡ inputs
 
--- the words say this of how a server began
-pub record AreWishes (options : ServeOptions) (journal : Journal) (inputs : List ℕ) (wishes : Wishes) : Type 0 where
-  pub word : wishes.word ≡ word_if journal.says_word options.word
-  pub limit : wishes.limit ≡ said journal.says_limit options.limit
-  pub remembered : wishes.remembered ≡ said journal.says_remembered options.remembered
+-- the words say this of how a server began, where they say such things
+pub record AreWishesBy (options : ServeOptions) (says : Says) (inputs : List ℕ) (wishes : Wishes) : Type 0 where
+  pub word : wishes.word ≡ word_if says.word options.word
+  pub limit : wishes.limit ≡ said says.limit options.limit
+  pub remembered : wishes.remembered ≡ said says.remembered options.remembered
   pub setup : IsSaidSetup inputs wishes.setup
+
+abbrev pub AreWishes : ServeOptions → Journal → List ℕ → Wishes → Type 0
+AreWishes options journal inputs wishes = AreWishesBy options
+    (record { word = journal.says_word; limit = journal.says_limit; remembered = journal.says_remembered }) inputs wishes
 
 -- what is held stays, and where nothing is this text is set at the moment
 abbrev pub IsHeldOrSet : ℕ → List (List ℕ) → List ℕ → Option Held → State → State → Type 0

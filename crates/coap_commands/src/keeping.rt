@@ -5,7 +5,7 @@ ghost use Rattle.coap_resource.specs.Entries.{content_of};
 ghost use Rattle.coap_server.specs.Led.{State, Step};
 ghost use Rattle.coap_server.specs.Object.Shown.{state_of};
 ghost use Rattle.coap_server.specs.Trace.{Gets};
-ghost use Rattle.coap_commands.specs.Kept.{AreWishes, HoldsEach, HoldsMissing, IsGoneOn, IsServedOn, IsSetMissing};
+ghost use Rattle.coap_commands.specs.Kept.{AreWishesBy, HoldsEach, HoldsMissing, IsGoneOn, IsServedOn, IsSetMissing};
 ghost use Rattle.coap_commands.specs.Kept.{IsSaidSetup, said, setup_bytes, word_if};
 ghost use Rattle.coap_commands.specs.Kept.{with_delay_bytes, with_plain_bytes};
 ghost use Rattle.coap_commands.specs.Served.{FedFrom};
@@ -74,6 +74,14 @@ fn setup_of(alloc: Global, options: &ServeOptions) -> Result<Vec<u8>, Stop>
     Ok(inputs)
 }
 
+// What else the words say beside a journal.
+#[derive(Clone, Copy)]
+struct Says {
+    word: bool,
+    limit: bool,
+    remembered: bool,
+}
+
 // The word that is said, if any.
 fn said_word(is_said: bool, choice: WordChoice) -> Option<u64>
     ensures { result ≡ word_if is_said choice }
@@ -109,13 +117,13 @@ fn said_setup(setup: &[u8]) -> Option<&[u8]>
 }
 
 // What the words say of how a server began.
-fn wishes_of<'a>(options: &ServeOptions, journal: Journal<'_>, setup: &'a [u8]) -> Wishes<'a>
-    ensures { AreWishes options.now journal.entry setup.now result }
+fn wishes_of<'a>(options: &ServeOptions, says: Says, setup: &'a [u8]) -> Wishes<'a>
+    ensures { AreWishesBy options.now says setup.now result }
 {
     Wishes {
-        word: said_word(journal.says_word, options.word),
-        limit: said_limit(journal.says_limit, options.limit),
-        remembered: said_number(journal.says_remembered, options.remembered),
+        word: said_word(says.word, options.word),
+        limit: said_limit(says.limit, options.limit),
+        remembered: said_number(says.remembered, options.remembered),
         setup: said_setup(setup),
     }
 }
@@ -124,9 +132,9 @@ fn wishes_of<'a>(options: &ServeOptions, journal: Journal<'_>, setup: &'a [u8]) 
 fn drawn_of<R: RandomSource>(
     rt: &R,
     options: &ServeOptions,
-    journal: Journal<'_>,
+    says: Says,
 ) -> Result<Beginning, Stop> {
-    let choice = if journal.says_word {
+    let choice = if says.word {
         options.word
     } else {
         WordChoice::Random
@@ -343,24 +351,22 @@ fn tell_why<E: Write>(name: &str, why: KeepError, err: &mut E) -> Result<Status,
     }
 }
 
-// What the program says of the journal of its server.
-fn keeping_of<'a, R: RandomSource>(
-    rt: &R,
+// What the program says of a journal of this name: what the words say, and what is drawn where they say nothing.
+fn keeping_of<'a>(
     options: &ServeOptions,
-    journal: Journal<'_>,
+    says: Says,
+    drawn: Beginning,
     name: &'a str,
     setup: &'a [u8],
-) -> Result<Keeping<'a>, Stop>
-    ensures { IfOk result (λ keeping. AreWishes options.now journal.entry setup.now keeping.wishes) }
+) -> Keeping<'a>
+    ensures { AreWishesBy options.now says setup.now result.wishes }
 {
-    let drawn = drawn_of(rt, options, journal)?;
-    let wishes = wishes_of(options, journal, setup);
-    Ok(Keeping {
+    Keeping {
         name,
-        wishes,
+        wishes: wishes_of(options, says, setup),
         drawn,
         setup,
-    })
+    }
 }
 
 // Serves with a server that goes on, by the clock of the program.
@@ -432,8 +438,14 @@ where
     let mut time = ProgramTime::begin(rt)?;
     let syncs = time.again();
     let setup = setup_of(alloc, options)?;
+    let says = Says {
+        word: journal.says_word,
+        limit: journal.says_limit,
+        remembered: journal.says_remembered,
+    };
+    let drawn = drawn_of(rt, options, says)?;
     let name = journal.file;
-    let keeping = keeping_of(rt, options, journal, name, setup.as_slice())?;
+    let keeping = keeping_of(options, says, drawn, name, setup.as_slice());
     let word = word_of(rt, WordChoice::Random)?;
     let hasher = RandomState::new(rt)?;
     let told = SharedWriter::new(err);

@@ -5,12 +5,12 @@ use Rattle.coap_commands.proofs.keeping.keep_over.Goals as goal
 
 pub returns-in-Ok : goal.returns-in-Ok
 returns-in-Ok g c =
-    let wishes = c.in_ok-keeping.keeping.wishes in
+    let wishes = c.keeping_of-keeping.result.wishes in
     if_ok c.go_on_kept.result
     (λ s gone. inr (
       wishes,
       subst (λ (inputs : List ℕ). AreWishes c.args.options.now c.args.journal inputs wishes)
-          (c.as_slice.ensures.value ∙ c.in_ok-setup.ensures) c.in_ok-keeping.ensures,
+          (c.as_slice.ensures.value ∙ c.in_ok-setup.ensures) c.keeping_of-keeping.ensures,
       c.in-Ok.kept.first.0,
       c.in-Ok.ensures.bytes,
       _,
