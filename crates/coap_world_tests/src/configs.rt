@@ -6,9 +6,6 @@ use coap_types::{MAX_SZX, Path, PathRefusal, Szx};
 use failing_allocator::Failing;
 use std::alloc::Allocator;
 use std::test::Fail;
-use test_scripts::Line;
-
-const NO_LINE: [Line<'static>; 0] = [];
 
 #[test]
 fn how_many_changes_a_window_may_take(rt: HostRuntime) -> Result<(), Fail> {
@@ -31,7 +28,7 @@ fn how_many_changes_a_window_may_take(rt: HostRuntime) -> Result<(), Fail> {
 
 #[test]
 fn no_event(rt: HostRuntime) -> Result<(), Fail> {
-    let config = config_of(rt.alloc(), &NO_LINE)?;
+    let config = config_of(rt.alloc(), "")?;
     let events: [Event; 0] = [];
     let ended = run(&events, &config);
     let Ok(record) = &ended else {
@@ -52,7 +49,7 @@ fn path_of<A: Allocator + Copy>(memory: A, byte: u8) -> Result<Path<A>, PathRefu
 
 #[test]
 fn sixteen_paths_have_a_delay(rt: HostRuntime) -> Result<(), Fail> {
-    let mut config = config_of(rt.alloc(), &NO_LINE)?;
+    let mut config = config_of(rt.alloc(), "")?;
     for byte in 0..16u8 {
         config.delay(&path_of(rt.alloc(), byte)?, 1_000)?;
     }
@@ -73,7 +70,7 @@ const MANY: u64 = 10;
 fn a_delay_for_which_memory_is_wanting(rt: HostRuntime) -> Result<(), Fail> {
     for number in 1..MANY {
         let memory = Failing::new(rt.alloc(), number);
-        let mut config = config_of(&memory, &NO_LINE)?;
+        let mut config = config_of(&memory, "")?;
         let Ok(path) = path_of(&memory, 0) else {
             continue;
         };
@@ -91,7 +88,7 @@ fn a_delay_for_which_memory_is_wanting(rt: HostRuntime) -> Result<(), Fail> {
 
 #[test]
 fn sixteen_paths_are_plain(rt: HostRuntime) -> Result<(), Fail> {
-    let mut config = config_of(rt.alloc(), &NO_LINE)?;
+    let mut config = config_of(rt.alloc(), "")?;
     for byte in 0..16u8 {
         config.plain(&path_of(rt.alloc(), byte)?)?;
     }
@@ -109,7 +106,7 @@ fn sixteen_paths_are_plain(rt: HostRuntime) -> Result<(), Fail> {
 fn a_plain_path_for_which_memory_is_wanting(rt: HostRuntime) -> Result<(), Fail> {
     for number in 1..MANY {
         let memory = Failing::new(rt.alloc(), number);
-        let mut config = config_of(&memory, &NO_LINE)?;
+        let mut config = config_of(&memory, "")?;
         let Ok(path) = path_of(&memory, 0) else {
             continue;
         };

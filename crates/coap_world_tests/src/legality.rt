@@ -1,10 +1,6 @@
 //! Which lists of events are legal, and which event is the first that is not.
-use test_scripts::Scripts;
 
-pub(crate) const RUNS: Scripts<'static> = Scripts {
-    module: module_path!(),
-    line: 7,
-    text: "
+pub(crate) const RUNS: &str = "
 == nothing_happens
 
 == the_greatest_moment
@@ -57,5 +53,4 @@ pub(crate) const RUNS: Scripts<'static> = Scripts {
 == a_stranger_at_the_address_of_the_server
 0 stranger client S 40000001
 ! not legal 0
-",
-};
+";

@@ -1,10 +1,6 @@
 //! Observations, their cancels and their ends (RFC 7641).
-use test_scripts::Scripts;
 
-pub(crate) const RUNS: Scripts<'static> = Scripts {
-    module: module_path!(),
-    line: 7,
-    text: "
+pub(crate) const RUNS: &str = "
 == a_resource_is_observed
 0 set /t 0 a
 > puts 1
@@ -259,5 +255,4 @@ plain /t
 > out 4 2004 C S 60000000
 > reports 0 value 2 0000000000000002 0 62
 2005 deliver 1
-",
-};
+";

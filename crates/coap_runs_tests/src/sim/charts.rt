@@ -1,6 +1,6 @@
 //! Runs that are drawn as charts: rows of what happens, and of datagrams that are sent and delivered, lost, sent again,
 //! delivered twice, late, and from and for elsewhere.
-use super::Case;
+use super::{name_of, parts_of};
 use crate::rows::{check_row, words_of};
 use coap_arguments::StoreKind;
 use coap_commands::{
@@ -17,12 +17,8 @@ use std::process::Abort;
 use std::random::RandomSource;
 use std::rt::{Clock, Files};
 use std::test::Fail;
-use test_scripts::{Script, Scripts, scripts_of};
 
-const SCRIPTS: Scripts<'static> = Scripts {
-    module: module_path!(),
-    line: 25,
-    text: "
+const SCRIPTS: &str = "
 == a_get
 >     ms    client                                                                           server
 0 set t hi
@@ -153,8 +149,7 @@ const SCRIPTS: Scripts<'static> = Scripts {
 18446744073709551615 stranger server 9 40000001
 > 18446744073709551615    |                              from 127.0.0.1:9: CON 0.00 0001 [] Empty |<--
 > 18446744073709551615    |                              0 to 127.0.0.1:9: RST 0.00 0001 [] Empty |-->
-",
-};
+";
 
 // No row has more columns.
 const MAX_WIDTH: usize = 100;
@@ -186,32 +181,31 @@ fn drawn<A: Allocator + Copy, W: Write>(
 }
 
 // A script is drawn so, over each store.
-fn check_chart(rt: &impl Abort, alloc: Global, script: &Script<'_>) -> Result<(), Fail> {
-    let name = script.name();
-    let case = Case::of(alloc, script)?;
+fn check_chart(rt: &impl Abort, alloc: Global, case: &str) -> Result<(), Fail> {
+    let name = name_of(case);
+    let (script, chart) = parts_of(alloc, case)?;
+    let chart = chart.as_str();
     assert!(rt;
-        case.wanted
-            .as_str()
-            .lines()
-            .all(|row| row.len() <= MAX_WIDTH),
+        chart.lines().all(|row| row.len() <= MAX_WIDTH),
         "at {name}"
     );
-    for (store, run) in [
-        (StoreKind::Map, "over a map"),
-        (StoreKind::List, "over a list"),
-    ] {
+    for store in [StoreKind::Map, StoreKind::List] {
         let mut out = Vec::new(alloc);
-        let ended = drawn(alloc, case.text.as_str(), store, Ink::Plain, &mut out);
+        let ended = drawn(alloc, script.as_str(), store, Ink::Plain, &mut out);
         assert!(rt; matches!(ended, Ok(Status::Done)), "at {name}");
-        case.wanted.check(run, out.as_slice())?;
+        assert_eq!(rt;
+            out.as_slice(),
+            chart.as_bytes(),
+            "at {name} over {store:?}"
+        );
     }
     Ok(())
 }
 
 #[test]
 fn charts(rt: HostRuntime) -> Result<(), Fail> {
-    for script in scripts_of(rt.alloc(), &SCRIPTS)?.iter() {
-        check_chart(&rt, rt.alloc(), script)?;
+    for case in SCRIPTS.split("\n== ").skip(1) {
+        check_chart(&rt, rt.alloc(), case)?;
     }
     Ok(())
 }

@@ -1,10 +1,6 @@
 //! Runs that are legal and runs that are not, and lines that can't be read.
-use test_scripts::Scripts;
 
-pub(super) const SCRIPTS: Scripts<'static> = Scripts {
-    module: module_path!(),
-    line: 7,
-    text: "
+pub(super) const SCRIPTS: &str = "
 == nothing
 
 == nothing_happens
@@ -62,8 +58,7 @@ pub(super) const SCRIPTS: Scripts<'static> = Scripts {
 4 tick client
 4 tick
 > bad line 3
-",
-};
+";
 
 /// Lines that can't be read.
 pub(super) const BAD_LINES: [&str; 48] = [

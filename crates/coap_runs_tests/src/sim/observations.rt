@@ -1,10 +1,6 @@
 //! Observations (RFC 7641).
-use test_scripts::Scripts;
 
-pub(super) const SCRIPTS: Scripts<'static> = Scripts {
-    module: module_path!(),
-    line: 7,
-    text: "
+pub(super) const SCRIPTS: &str = "
 == an_observation
 0 set t a
 0 observe t
@@ -187,5 +183,4 @@ pub(super) const SCRIPTS: Scripts<'static> = Scripts {
 7 forget 0
 7 cancel 0
 > 7 refused 1
-",
-};
+";

@@ -1,10 +1,6 @@
 //! Datagrams of strangers (RFC 7252, section 11).
-use test_scripts::Scripts;
 
-pub(super) const SCRIPTS: Scripts<'static> = Scripts {
-    module: module_path!(),
-    line: 7,
-    text: "
+pub(super) const SCRIPTS: &str = "
 == a_ping
 0 stranger server 9 40000001
 > 0 out 0 server 70000001
@@ -81,5 +77,4 @@ pub(super) const SCRIPTS: Scripts<'static> = Scripts {
 2 deliver 3
 > 2 out 4 client 60000000
 > 2 report 0 value 2 0000000000000002 - 78
-",
-};
+";
