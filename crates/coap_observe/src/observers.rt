@@ -9,8 +9,8 @@ ghost use Rattle.coap_observe.specs.Observers.{is_due_of, marked_in, noted_to, r
 ghost use Rattle.coap_observe.specs.Observers.{reset_at, sent_to};
 
 use crate::entries::{
-    due_behind, first_due, first_noted, has, has_endpoint, is_due, make_room, mark_all, note_all, others,
-    push_within, take_out, unmark_all,
+    due_behind, first_due, first_noted, has, has_endpoint, is_due, make_room, mark_all, note_all,
+    others, push_within, take_out, unmark_all,
 };
 use crate::entry::Entry;
 use crate::notice::Notice;

@@ -48,7 +48,13 @@ fn what_a_layer_has(rt: HostRuntime) -> Result<(), AllocError> {
     has_after(&rt, &mut layer, &again, 247_000, load(1, 1, 0, 65_535))?;
     has_after(&rt, &mut layer, &[], 247_001, load(0, 1, 0, 65_535))?;
     // A moment before the last one counts as the last.
-    has_after(&rt, &mut layer, &[Step::Passes(247_001)], 0, load(0, 1, 0, 65_535))?;
+    has_after(
+        &rt,
+        &mut layer,
+        &[Step::Passes(247_001)],
+        0,
+        load(0, 1, 0, 65_535),
+    )?;
     let acked = [Step::Comes(247_001, "60000000", Came::Acked(Id(0)), "")];
     has_after(&rt, &mut layer, &acked, 247_001, load(0, 0, 0, 65_535))
 }
@@ -56,12 +62,30 @@ fn what_a_layer_has(rt: HostRuntime) -> Result<(), AllocError> {
 #[test]
 fn how_many_message_ids_a_layer_has_left(rt: HostRuntime) -> Result<(), AllocError> {
     let mut layer = Layer::new(rt.alloc(), 0);
-    has_after(&rt, &mut layer, &[Step::Floods(4_096)], 0, load(0, 0, 0, 61_440))?;
-    has_after(&rt, &mut layer, &[Step::Floods(1)], 0, load(0, 0, 0, 61_439))?;
+    has_after(
+        &rt,
+        &mut layer,
+        &[Step::Floods(4_096)],
+        0,
+        load(0, 0, 0, 61_440),
+    )?;
+    has_after(
+        &rt,
+        &mut layer,
+        &[Step::Floods(1)],
+        0,
+        load(0, 0, 0, 61_439),
+    )?;
     // The first group rests for more than 400 s.
     has_after(&rt, &mut layer, &[], 400_000, load(0, 0, 0, 61_439))?;
     has_after(&rt, &mut layer, &[], 400_001, load(0, 0, 0, 65_535))?;
-    has_after(&rt, &mut layer, &[Step::Floods(61_438)], 0, load(0, 0, 0, 1))?;
+    has_after(
+        &rt,
+        &mut layer,
+        &[Step::Floods(61_438)],
+        0,
+        load(0, 0, 0, 1),
+    )?;
     has_after(&rt, &mut layer, &[Step::Floods(1)], 0, load(0, 0, 0, 0))?;
     has_after(&rt, &mut layer, &[], 400_000, load(0, 0, 0, 0))?;
     has_after(&rt, &mut layer, &[], 400_001, load(0, 0, 0, 65_536))
@@ -83,9 +107,7 @@ fn would_be<R: Abort + AllocGlobal, S: BuildHasher>(
 }
 
 // A layer that remembers one message.
-fn with_one_place<R: Abort + AllocGlobal>(
-    rt: &R,
-) -> Layer<Global, BuildHasherDefault<FoldHasher>> {
+fn with_one_place<R: Abort + AllocGlobal>(rt: &R) -> Layer<Global, BuildHasherDefault<FoldHasher>> {
     let setup = Setup {
         word: 0,
         remembered: Remembered::new(1).expect(rt, "a number of messages"),
@@ -108,9 +130,17 @@ fn what_a_datagram_would_be(rt: HostRuntime) -> Result<(), AllocError> {
     would_be(&rt, &mut layer, 0, "5000000d", Would::Ignored)?;
     would_be(&rt, &mut layer, 247_000, "4001000b", Would::NoPlace)?;
     would_be(&rt, &mut layer, 247_001, "4001000b", Would::Taken)?;
-    take_steps(&rt, &mut layer, &[Step::Confirms(247_001, THERE, 0, Ok(Id(0)))])?;
+    take_steps(
+        &rt,
+        &mut layer,
+        &[Step::Confirms(247_001, THERE, 0, Ok(Id(0)))],
+    )?;
     would_be(&rt, &mut layer, 247_001, "60000000", Would::Acknowledges)?;
-    take_steps(&rt, &mut layer, &[Step::Confirms(247_001, THERE, 0, Ok(Id(1)))])?;
+    take_steps(
+        &rt,
+        &mut layer,
+        &[Step::Confirms(247_001, THERE, 0, Ok(Id(1)))],
+    )?;
     would_be(&rt, &mut layer, 247_001, "70000001", Would::Resets)
 }
 
@@ -150,7 +180,13 @@ fn whom_a_layer_knows(rt: HostRuntime) -> Result<(), AllocError> {
     knows_after(&rt, &mut layer, &acked, THERE, false)?;
     // A datagram waits to be taken.
     knows_after(&rt, &mut layer, &[Step::SendsPlain(0, Id(1))], THERE, true)?;
-    knows_after(&rt, &mut layer, &[Step::Sends("50450001ff6869")], THERE, false)
+    knows_after(
+        &rt,
+        &mut layer,
+        &[Step::Sends("50450001ff6869")],
+        THERE,
+        false,
+    )
 }
 
 #[test]
