@@ -55,7 +55,7 @@ enum {
     KS_SMALL_ROOM = -4,     /* the buffer is too small: nothing was taken, call again with a larger one */
     KS_BAD_ARGUMENT = -5,   /* an entity-tag of 0 or over 8 bytes, over 4 of them, a method or an error that is none; a
                              * place of 2^62 or a turn of 2^32 bytes or more */
-    KS_BAD_SIZE = -6,       /* ks_config.size is neither 0 nor sizeof (ks_config) */
+    KS_BAD_SIZE = -6,       /* ks_config.size is neither 0 nor sizeof (ks_config); ks_end_load.size is not sizeof (ks_end_load) */
     KS_BAD_BLOCK_SIZE = -7, /* ks_config.block_size is none of 0, 16, 32, 64, 128, 256, 512 and 1,024 */
     KS_BAD_BODY_LIMIT = -8, /* ks_config.body_limit is over 1,048,576 */
     KS_BAD_REMEMBERED = -9, /* ks_config.remembered is over 1,048,576 */
@@ -206,7 +206,7 @@ int32_t ks_server_applied(ks_server *handle, ks_applied *done, char *room, size_
  * bodies, observers stay. The file is one frame after the other: how the server began, then its further lives and its
  * turns. You write and sync the file; the library has the format.
  *
- *     read the file; where it is empty (or KS_JOURNAL_NOT_BEGUN): cut it to 0 bytes, append ks_journal_begin, sync, read it
+ *     read the file; where it is empty: append ks_journal_begin, sync, read it
  *     ks_server_replay(&server, file, file_len, &replayed);  cut the file to replayed.end bytes; sync
  *     take each ks_server_next_out, and throw it away
  *     silence = ks_journal_go_on(&replayed, &life, &life.moment);  wait for so long, with the socket unread
@@ -257,7 +257,7 @@ typedef struct {
 /* Why a journal is not replayed. (Want of memory is KS_NO_MEMORY.) */
 enum ks_journal_refusal {
     KS_JOURNAL_DAMAGED = 145,   /* whole frames stand behind one that isn't, which begins at told->end */
-    KS_JOURNAL_NOT_BEGUN = 146, /* no frame is whole: nothing was ever sent */
+    KS_JOURNAL_NOT_BEGUN = 146, /* no frame is whole: no journal, or one of which nothing was ever sent */
     KS_JOURNAL_OTHER_FORMAT = 147, /* another library wrote it */
     KS_JOURNAL_OTHER_LAW = 148, /* .. whose server does otherwise with the same inputs */
     KS_JOURNAL_UNREADABLE = 149, /* a whole frame that holds no record, or a first one that holds no beginning */
@@ -435,9 +435,76 @@ int32_t ks_server_refuse(ks_server *handle, uint64_t now, const ks_address *from
  * ks_server_refuse, which asks nothing of the kind, and answers a Non-confirmable request, too. */
 int32_t ks_refuse(const void *datagram, size_t datagram_len, uint8_t code, void *room, size_t room_len, size_t *len);
 
+/* ---- How much an end has, and what a datagram would be ------------------------------------------------------------- */
+
+/* How much an end has at a moment. Set `size` to sizeof (ks_end_load) before the call. What an end of the other kind has alone
+ * is 0. Each count is exact; what has lived its time is not counted. Later versions add fields at the end. */
+typedef struct {
+    uint32_t size;              /* sizeof (ks_end_load) */
+    uint32_t ids_left;          /* Message IDs that can be given now, one after the other: at 0 nothing new can be sent */
+    uint64_t changes_left;      /* of a server: changes that its store can take now, one after the other */
+    uint64_t remembered;        /* messages that are remembered, to tell repeats */
+    uint64_t remembered_most;   /* how many can be: with as many, new messages go unanswered */
+    uint64_t outstanding;       /* Confirmable messages that are not acknowledged yet */
+    uint64_t queued;            /* datagrams that wait for ks_.._next_out */
+    uint64_t observers;         /* of a server: 64 at most */
+    uint64_t partial;           /* of a server: uploads that are not whole yet; 16 at most */
+    uint64_t deferred;          /* of a server: requests that wait for their separate responses; 16 at most */
+    uint64_t paths;             /* of a server: paths that hold something; 256 at most */
+    uint64_t delays;            /* of a server: paths with a delay; 16 at most */
+    uint64_t plains;            /* of a server: paths that are plain; 16 at most */
+    uint64_t waiting;           /* of a client: calls and cancels that wait; 8 at most */
+    uint64_t observations;      /* of a client: live ones; 16 at most */
+    uint64_t reports;           /* of a client: reports that wait for ks_client_next_report */
+} ks_end_load;
+
+/* How much the end has at this moment. A moment before the last one counts as the last. Nothing changes, and it takes no
+ * memory. KS_OK with *load written; KS_BAD_SIZE; KS_NOT_LIVE. */
+int32_t ks_server_load(ks_server *handle, uint64_t now, ks_end_load *load);
+int32_t ks_client_load(ks_client *handle, uint64_t now, ks_end_load *load);
+
+/* What a datagram would be if it were fed now. */
+enum ks_would {
+    KS_WOULD_IGNORE = 64,       /* silently ignored */
+    KS_WOULD_REJECT = 65,       /* answered with a Reset */
+    KS_WOULD_REPEAT = 66,       /* a repeat of what is remembered: the stored reply goes out again, if there is one */
+    KS_WOULD_TAKE = 67,         /* new: handed up */
+    KS_WOULD_NO_PLACE = 68,     /* new, but dropped: as many messages are remembered as can be */
+    KS_WOULD_NO_ID = 69,        /* a Non-confirmable request that is not served, as no Message ID is free for its answer */
+    KS_WOULD_ACKNOWLEDGE = 70,  /* an acknowledgement of what is outstanding, and no more */
+    KS_WOULD_RESET = 71         /* a Reset, of what is outstanding or of what is not */
+};
+
+/* What ks_.._feed would make of the datagram at this moment: the row of the table of arrivals that it would take. So new
+ * messages can be charged to whom they come from, or counted, before they are fed. Nothing changes, and it takes no
+ * memory. enum ks_would; KS_NOT_LIVE. */
+int32_t ks_server_would(ks_server *handle, uint64_t now, const ks_address *from, const void *datagram,
+                        size_t datagram_len);
+int32_t ks_client_would(ks_client *handle, uint64_t now, const ks_address *from, const void *datagram,
+                        size_t datagram_len);
+
+typedef struct {
+    ks_address to;
+    bool observe;               /* it was a notification */
+    uint8_t token_len;
+    uint8_t token[8];
+} ks_ended;
+
+/* The separate response or the notification that the last feed or tick ended, by a Reset or for want of an
+ * acknowledgement; whom a notification ends so, is no longer notified. KS_DONE with *ended written; KS_OK where there is
+ * none; KS_NOT_LIVE. The next feed or tick empties it, as ks_server_applied. */
+int32_t ks_server_ended(ks_server *handle, ks_ended *ended);
+
+/* Whether the server has something of this peer at this moment that it may send, or may still need: an observation, an
+ * upload that is not whole, a request that waits for its delay, a message that is not acknowledged or that waits for
+ * ks_server_next_out. KS_DONE; KS_OK where it has nothing; KS_NOT_LIVE. What tells repeats is not counted: that is over
+ * by itself, 247 s after the peer's last message. After both, a name of the peer can be given to another. */
+int32_t ks_server_knows(ks_server *handle, uint64_t now, const ks_address *peer);
+
 /* ---- What an answer says ----------------------------------------------------------------------------------------- */
 
-/* Whether a call refused. (Not of ks_peek, which answers KS_OK or what is wrong with the datagram.) */
+/* Whether a call refused. (Not of ks_peek, which answers KS_OK or what is wrong with the datagram, and not of
+ * ks_server_would and ks_client_would.) */
 static inline bool ks_refused(int32_t answer) { return answer != KS_OK && answer != KS_DONE; }
 
 /* An answer in words. */
@@ -450,7 +517,7 @@ static inline const char *ks_answer_text(int32_t answer) {
     case KS_BAD_PATH: return "the text is no path";
     case KS_SMALL_ROOM: return "the buffer is too small";
     case KS_BAD_ARGUMENT: return "a method, an entity-tag or a code that is none";
-    case KS_BAD_SIZE: return "the size of the configuration is none";
+    case KS_BAD_SIZE: return "the size of the struct is none";
     case KS_BAD_BLOCK_SIZE: return "the block size is none of 16, 32, .. 1,024";
     case KS_BAD_BODY_LIMIT: return "the limit of bodies is not 1 to 1,048,576";
     case KS_BAD_REMEMBERED: return "the number of remembered messages is not 1 to 1,048,576";
@@ -470,6 +537,14 @@ static inline const char *ks_answer_text(int32_t answer) {
     case KS_PLAIN_FULL: return "16 other paths are plain";
     case KS_CANCEL_UNKNOWN: return "no live observation has the number";
     case KS_CANCEL_QUEUE_FULL: return "8 calls wait: the cancel is not taken";
+    case KS_WOULD_IGNORE: return "the datagram would be ignored";
+    case KS_WOULD_REJECT: return "the datagram would be answered with a Reset";
+    case KS_WOULD_REPEAT: return "the datagram would be a repeat";
+    case KS_WOULD_TAKE: return "the datagram would be taken";
+    case KS_WOULD_NO_PLACE: return "the datagram would be dropped, as no place is left to remember it";
+    case KS_WOULD_NO_ID: return "the datagram would not be served, as no Message ID is free";
+    case KS_WOULD_ACKNOWLEDGE: return "the datagram would acknowledge what is outstanding";
+    case KS_WOULD_RESET: return "the datagram would be a Reset";
     case KS_JOURNAL_DAMAGED: return "whole frames of the journal stand behind one that isn't";
     case KS_JOURNAL_NOT_BEGUN: return "no frame of the journal is whole";
     case KS_JOURNAL_OTHER_FORMAT: return "a journal of another format";

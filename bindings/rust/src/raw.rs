@@ -31,6 +31,13 @@ pub const KS_CALL_CALLS_SPENT: i32 = 38;
 pub const KS_DELAY_FULL: i32 = 48;
 pub const KS_PLAIN_FULL: i32 = 49;
 pub const KS_CANCEL_QUEUE_FULL: i32 = 58;
+pub const KS_WOULD_REJECT: i32 = 65;
+pub const KS_WOULD_REPEAT: i32 = 66;
+pub const KS_WOULD_TAKE: i32 = 67;
+pub const KS_WOULD_NO_PLACE: i32 = 68;
+pub const KS_WOULD_NO_ID: i32 = 69;
+pub const KS_WOULD_ACKNOWLEDGE: i32 = 70;
+pub const KS_WOULD_RESET: i32 = 71;
 pub const KS_FAULT_SHORT: i32 = 81;
 pub const KS_FAULT_VERSION: i32 = 82;
 pub const KS_FAULT_TOKEN_LENGTH: i32 = 83;
@@ -195,6 +202,36 @@ pub struct ks_message {
     pub token: [u8; 8],
 }
 
+#[repr(C)]
+#[derive(Clone, Copy, Default)]
+pub struct ks_end_load {
+    pub size: u32,
+    pub ids_left: u32,
+    pub changes_left: u64,
+    pub remembered: u64,
+    pub remembered_most: u64,
+    pub outstanding: u64,
+    pub queued: u64,
+    pub observers: u64,
+    pub partial: u64,
+    pub deferred: u64,
+    pub paths: u64,
+    pub delays: u64,
+    pub plains: u64,
+    pub waiting: u64,
+    pub observations: u64,
+    pub reports: u64,
+}
+
+#[repr(C)]
+#[derive(Clone, Copy, Default)]
+pub struct ks_ended {
+    pub to: ks_address,
+    pub observe: bool,
+    pub token_len: u8,
+    pub token: [u8; 8],
+}
+
 #[rustfmt::skip]
 extern "C" {
     fn ks_version() -> u32;
@@ -231,6 +268,12 @@ extern "C" {
     fn ks_client_next_report(handle: *mut ks_client, report: *mut ks_report, room: *mut c_void, room_len: usize) -> i32;
     fn ks_server_refuse(handle: *mut ks_server, now: u64, from: *const ks_address, datagram: *const c_void, datagram_len: usize, word: u64) -> i32;
     fn ks_refuse(datagram: *const c_void, datagram_len: usize, code: u8, room: *mut c_void, room_len: usize, len: *mut usize) -> i32;
+    fn ks_server_load(handle: *mut ks_server, now: u64, load: *mut ks_end_load) -> i32;
+    fn ks_client_load(handle: *mut ks_client, now: u64, load: *mut ks_end_load) -> i32;
+    fn ks_server_would(handle: *mut ks_server, now: u64, from: *const ks_address, datagram: *const c_void, datagram_len: usize) -> i32;
+    fn ks_client_would(handle: *mut ks_client, now: u64, from: *const ks_address, datagram: *const c_void, datagram_len: usize) -> i32;
+    fn ks_server_knows(handle: *mut ks_server, now: u64, peer: *const ks_address) -> i32;
+    fn ks_server_ended(handle: *mut ks_server, ended: *mut ks_ended) -> i32;
     fn ks_peek(datagram: *const c_void, datagram_len: usize, shown: *mut ks_message, room: *mut c_char, room_len: usize) -> i32;
 }
 
@@ -358,6 +401,22 @@ impl Server {
     pub fn applied(&self, done: &mut ks_applied, room: &mut [u8]) -> i32 {
         unsafe { ks_server_applied(self.0.get(), done, room.as_mut_ptr().cast(), room.len()) }
     }
+
+    pub fn load(&self, now: u64, load: &mut ks_end_load) -> i32 {
+        unsafe { ks_server_load(self.0.get(), now, load) }
+    }
+
+    pub fn would(&self, now: u64, from: &ks_address, datagram: &[u8]) -> i32 {
+        unsafe { ks_server_would(self.0.get(), now, from, datagram.as_ptr().cast(), datagram.len()) }
+    }
+
+    pub fn knows(&self, now: u64, peer: &ks_address) -> i32 {
+        unsafe { ks_server_knows(self.0.get(), now, peer) }
+    }
+
+    pub fn ended(&self, ended: &mut ks_ended) -> i32 {
+        unsafe { ks_server_ended(self.0.get(), ended) }
+    }
 }
 
 impl Drop for Server {
@@ -427,6 +486,14 @@ impl Client {
 
     pub fn next_out(&mut self, to: &mut ks_address, room: &mut [u8], len: &mut usize) -> i32 {
         unsafe { ks_client_next_out(self.0.get_mut(), to, room.as_mut_ptr().cast(), room.len(), len) }
+    }
+
+    pub fn load(&self, now: u64, load: &mut ks_end_load) -> i32 {
+        unsafe { ks_client_load(self.0.get(), now, load) }
+    }
+
+    pub fn would(&self, now: u64, from: &ks_address, datagram: &[u8]) -> i32 {
+        unsafe { ks_client_would(self.0.get(), now, from, datagram.as_ptr().cast(), datagram.len()) }
     }
 
     pub fn next_report(&mut self, report: &mut ks_report, room: &mut [u8]) -> i32 {

@@ -1,8 +1,9 @@
 -- How a server is set up: `--address ADDRESS`, and `--hold PATH=BODY`, `--delay PATH=MS` and `--plain PATH`, each again
 -- and again.
-use Rattle.std.specs.Prelude.{ℕ, Bool, List, ◌≡◌, ◌<◌, ◌≤◌, ◌^◌, ◌==◌, ◌⊎◌, codes, length, if◌then◌else◌}
+use Rattle.std.specs.Prelude.{ℕ, Bool, List, Option, Some, None, ◌≡◌, ◌<◌, ◌≤◌, ◌^◌, ◌==◌, ◌⊎◌, codes, length}
+use Rattle.std.specs.Prelude.{if◌then◌else◌, is_some}
 use Rattle.std.specs.List.{after_first, before_first, position_or_len}
-use Rattle.clap.specs.Words.{Row, Text}
+use Rattle.clap.specs.Words.{Row, Text, first_of}
 use Rattle.coap_types.specs.Path.{HoldsAtMost}
 use Rattle.coap_types.specs.declared.path.TheConstants.{MAX_SEGMENT_LEN as max_segment_len}
 use Rattle.coap_types.specs.declared.path.TheConstants.{MAX_SEGMENTS as max_segments}
@@ -12,9 +13,10 @@ use Rattle.coap_arguments.specs.Numbers.{IsNumber}
 use Rattle.coap_arguments.specs.PathText.{IsPathText}
 use Rattle.coap_arguments.specs.Plains.{HasPlains}
 use Rattle.coap_arguments.specs.Texts.{AreTexts, SomeSaysNone, texts_of}
-use Rattle.coap_arguments.specs.Values.{HasLimit, HasRemembered, HasWord}
+use Rattle.coap_arguments.specs.Values.{HasLimit, HasRemembered, HasWord, IsValue}
 use Rattle.coap_arguments.specs.declared.orders.Delay.{Delay}
 use Rattle.coap_arguments.specs.declared.orders.Hold.{Hold}
+use Rattle.coap_arguments.specs.declared.orders.Journal.{Journal}
 use Rattle.coap_arguments.specs.declared.orders.ServeOptions.{ServeOptions}
 use Rattle.coap_arguments.specs.declared.refusals.SettingRefusal.{SettingRefusal}
 use Rattle.coap_arguments.specs.declared.refusals.SettingRefusal.TheVariants as setting
@@ -76,3 +78,14 @@ pub record HasServeOptions (usual : WordChoice) (values : List Row) (options : S
   pub word : HasWord usual values options.word
   pub limit : HasLimit values options.limit
   pub remembered : HasRemembered values options.remembered
+
+-- `--journal` names this file, and these words are said beside it
+pub record IsJournal (values : List Row) (journal : Journal) : Type 0 where
+  pub file : IsValue (codes "journal") values journal.file.now
+  pub word : journal.says_word ≡ is_some (first_of (codes "word") values)
+  pub limit : journal.says_limit ≡ is_some (first_of (codes "limit") values)
+  pub remembered : journal.says_remembered ≡ is_some (first_of (codes "remember") values)
+
+abbrev pub HasJournal : List Row → Option Journal → Type 0
+HasJournal values None = first_of (codes "journal") values ≡ None
+HasJournal values (Some journal) = IsJournal values journal

@@ -4,6 +4,7 @@ use Rattle.clap.specs.Words.{Row, Text, first_of}
 use Rattle.coap_arguments.specs.Values.{IsValue}
 use Rattle.coap_arguments.specs.declared.refusals.TogetherRefusal.{TogetherRefusal}
 use Rattle.coap_arguments.specs.declared.refusals.TogetherRefusal.TheVariants.{Count, Etag, Hex, Json, Trace, Chart}
+use Rattle.coap_arguments.specs.declared.refusals.TogetherRefusal.TheVariants.{Script}
 
 -- the flag is given
 abbrev pub IsSet : Text → List Row → Type 0
@@ -19,9 +20,16 @@ abbrev pub GoObserved : List Row → Type 0
 GoObserved values = (IsSet (codes "json") values → ⊥) ⊎ (IsSet (codes "hex") values → ⊥)
 
 -- of `serve`: what is told in JSON are changes, and nothing else is told beside them
-abbrev pub GoServed : List Row → Type 0
-GoServed values = (IsSet (codes "json") values → ⊥)
+abbrev pub GoTold : List Row → Type 0
+GoTold values = (IsSet (codes "json") values → ⊥)
     ⊎ (IsSet (codes "changes") values × (IsSet (codes "trace") values → ⊥))
+
+-- .. and one that goes on from a file is set up by no script
+abbrev pub GoKept : List Row → Type 0
+GoKept values = (first_of (codes "journal") values ≡ None) ⊎ (first_of (codes "script") values ≡ None)
+
+abbrev pub GoServed : List Row → Type 0
+GoServed values = GoTold values × GoKept values
 
 -- this is there which does not go with what else is there, or is not
 abbrev pub AreApart : TogetherRefusal → Text → List Row → Type 0
@@ -37,3 +45,5 @@ AreApart Trace subcommand values = (subcommand ≡ codes "serve") × IsSet (code
     × IsSet (codes "trace") values
 AreApart Chart subcommand values = (subcommand ≡ codes "dump") × IsSet (codes "chart") values
     × (first_of (codes "pcap") values ≡ None)
+AreApart Script subcommand values = (subcommand ≡ codes "serve") × (journal : Text) × (script : Text)
+    × IsValue (codes "journal") values journal × IsValue (codes "script") values script

@@ -12,7 +12,7 @@ use Rattle.coap_arguments.specs.Asking.{SendsBody}
 use Rattle.coap_arguments.specs.CommandLine.{coap_app}
 use Rattle.coap_arguments.specs.Ends.{AreNoEnds, HasEnds}
 use Rattle.coap_arguments.specs.Plains.{HasNoPlain, HasPlains, HasTooManyPlains}
-use Rattle.coap_arguments.specs.Serving.{HasNoSetting, HasServeOptions, serving_word}
+use Rattle.coap_arguments.specs.Serving.{HasJournal, HasNoSetting, HasServeOptions, serving_word}
 use Rattle.coap_arguments.specs.Sizes.{HasNoSize}
 use Rattle.coap_arguments.specs.Together.{AreApart, GoServed}
 use Rattle.coap_arguments.specs.Uris.{IsPlace, IsWrongUri}
@@ -67,10 +67,10 @@ AsksForIn subcommand values (Pair path body word limit remembered) =
     (subcommand ≡ codes "pair") × HasPath values path × HoldsAtMost max_segments max_segment_len path
     × IsValue (codes "BODY") values body.now × HasWord (Given default_word) values word × HasLimit values limit
     × HasRemembered values remembered
-AsksForIn subcommand values (Serve port count options script pcap) =
+AsksForIn subcommand values (Serve port count options script pcap journal) =
     (subcommand ≡ codes "serve") × HasNumber Port values port × HasCount values count × GoServed values
     × HasServeOptions (serving_word count) values options × HasFile (codes "script") values script
-    × HasFile (codes "pcap") values pcap
+    × HasFile (codes "pcap") values pcap × HasJournal values journal
 AsksForIn subcommand values (Ask server path what options pcap) =
     HasNumber ServerPort values server.port × (AsksByPort subcommand values server.host path what
     ⊎ AsksByUri subcommand values server path what) × HasOptions values options × HasFile (codes "pcap") values pcap

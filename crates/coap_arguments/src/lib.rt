@@ -31,8 +31,8 @@ pub use command_line::coap_command;
 pub use hosts::{Address, Host, Server};
 pub use laws::one_answer;
 pub use orders::{
-    AskOptions, Content, DEFAULT_PORT, DEFAULT_WORD, Delay, FOREVER, Hold, MAX_DELAYS, MAX_PLAINS,
-    Order, PingOptions, ServeOptions, StoreKind, What, WordChoice, Wrong,
+    AskOptions, Content, DEFAULT_PORT, DEFAULT_WORD, Delay, FOREVER, Hold, Journal, MAX_DELAYS,
+    MAX_PLAINS, Order, PingOptions, ServeOptions, StoreKind, What, WordChoice, Wrong,
 };
 pub use path_text::path_of_text;
 pub use refusals::{

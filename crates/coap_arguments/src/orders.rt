@@ -63,6 +63,8 @@ pub enum Order<'a> {
         script: Option<&'a str>,
         /// The file that takes each datagram, as a capture.
         pcap: Option<&'a str>,
+        /// The file that keeps what the server takes.
+        journal: Option<Journal<'a>>,
     },
     /// Ask something of a server.
     Ask {
@@ -217,6 +219,20 @@ pub struct ServeOptions {
     pub limit: BodyLimit,
     /// How many messages the server remembers.
     pub remembered: Remembered,
+}
+
+/// The file in which a server keeps what it takes, and what else the words say of how it begins. What they don't say
+/// is the file's where a server began in it.
+#[derive(Clone, Copy, Debug)]
+pub struct Journal<'a> {
+    /// The file of this name.
+    pub file: &'a str,
+    /// Whether the words say its word.
+    pub says_word: bool,
+    /// Whether they say its limit.
+    pub says_limit: bool,
+    /// Whether they say how many messages it remembers.
+    pub says_remembered: bool,
 }
 
 /// What a server holds at a path.

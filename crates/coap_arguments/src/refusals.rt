@@ -174,6 +174,9 @@ pub enum TogetherRefusal {
     /// A chart of datagrams that have no address.
     #[error("error: unexpected argument '--chart' found\n\n  tip: dump takes --chart where it takes --pcap")]
     Chart,
+    /// A server that is set up by a script, and one that goes on from a file.
+    #[error("--script does not go with --journal: give --hold, --delay and --plain")]
+    Script,
 }
 
 /// Why a URI says no resource that the program asks for (RFC 7252, sections 6.1 and 6.4).

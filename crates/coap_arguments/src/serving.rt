@@ -1,13 +1,13 @@
 //! How a server is set up, read from the words.
-ghost use Rattle.std.specs.Prelude.{◌≡◌, ◌<◌, ◌++◌, ◌∷◌, [], IfOk, MatchOption, MatchResult, length};
+ghost use Rattle.std.specs.Prelude.{◌≡◌, ◌<◌, ◌++◌, ◌∷◌, [], IfOk, MatchOption, MatchResult, is_some, length};
 ghost use Rattle.std.specs.List.{after_first, before_first, position_or_len};
-ghost use Rattle.clap.specs.Words.{found_of, rows_of};
+ghost use Rattle.clap.specs.Words.{first_of, found_of, rows_of};
 ghost use Rattle.coap_types.specs.Path.{HoldsAtMost};
 ghost use Rattle.coap_types.specs.declared.path.TheConstants.{MAX_SEGMENT_LEN as max_segment_len};
 ghost use Rattle.coap_types.specs.declared.path.TheConstants.{MAX_SEGMENTS as max_segments};
 ghost use Rattle.coap_arguments.specs.PathText.{IsNoPath, IsPathText};
-ghost use Rattle.coap_arguments.specs.Serving.{HasDelays, HasHolds, HasServeOptions, IsDelay, IsHold, is_equals};
-ghost use Rattle.coap_arguments.specs.Serving.{serving_word};
+ghost use Rattle.coap_arguments.specs.Serving.{HasDelays, HasHolds, HasJournal, HasServeOptions, IsDelay, IsHold};
+ghost use Rattle.coap_arguments.specs.Serving.{is_equals, serving_word};
 ghost use Rattle.coap_arguments.specs.WrongOptions.{IsWrongOption, IsWrongServing};
 ghost use Rattle.coap_arguments.specs.declared.orders.Delay.{Delay as DelaySpec};
 ghost use Rattle.coap_arguments.specs.declared.orders.Hold.{Hold as HoldSpec};
@@ -15,12 +15,12 @@ ghost use Rattle.coap_arguments.specs.declared.orders.Hold.{Hold as HoldSpec};
 use crate::asking::is_set;
 use crate::hosts::address_of;
 use crate::orders::{
-    DEFAULT_WORD, Delay, FOREVER, Hold, MAX_DELAYS, ServeOptions, WordChoice, Wrong,
+    DEFAULT_WORD, Delay, FOREVER, Hold, Journal, MAX_DELAYS, ServeOptions, WordChoice, Wrong,
 };
 use crate::path_text::path_of_text;
 use crate::plains::plains_of;
 use crate::refusals::{NumberRefusal, SettingRefusal};
-use crate::words::{limit, number, remembered, word};
+use crate::words::{limit, number, optional, remembered, word};
 use clap::ArgMatches;
 use coap_types::{Path, PathRefusal};
 use std::alloc::{AllocError, Global};
@@ -72,6 +72,26 @@ pub(crate) fn serve_options_of(
         word,
         limit,
         remembered,
+    })
+}
+
+// Whether an argument has a value.
+fn is_said(given: &ArgMatches<'_>, name: &str) -> bool
+    ensures { result ≡ is_some (first_of name.now (rows_of (found_of given.now))) }
+{
+    optional(given, name).is_some()
+}
+
+/// The journal that `--journal` names, and what the words say beside it.
+pub(crate) fn journal_of<'a>(given: &ArgMatches<'a>) -> Option<Journal<'a>>
+    ensures { HasJournal (rows_of (found_of given.now)) result }
+{
+    let file = optional(given, "journal")?;
+    Some(Journal {
+        file,
+        says_word: is_said(given, "word"),
+        says_limit: is_said(given, "limit"),
+        says_remembered: is_said(given, "remember"),
     })
 }
 

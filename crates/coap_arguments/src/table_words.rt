@@ -282,6 +282,15 @@ pub(crate) const READ_CHART: Argument = Argument {
     help: "with --pcap, draws the datagrams for reading, in place of lines",
 };
 
+// --journal of a server.
+pub(crate) const JOURNAL: Argument = Argument {
+    form: Form::Single { value_name: "FILE" },
+    name: "journal",
+    help: "keeps in this file what the server takes, before it answers, and goes on from there: what was done stays, \
+        and a copy of a request is not applied twice, wherever the server was ended. The file has its word and \
+        configuration; --hold is for a path that holds nothing. With an address of IPv4",
+};
+
 // --script of a server.
 pub(crate) const SCRIPT: Argument = Argument {
     form: Form::Single { value_name: "FILE" },

@@ -1,7 +1,7 @@
 //! Options that don't go together.
 ghost use Rattle.std.specs.Prelude.{MatchOption, MatchResult, codes};
 ghost use Rattle.clap.specs.Words.{found_of, rows_of};
-ghost use Rattle.coap_arguments.specs.Together.{AreApart, GoObserved, GoServed};
+ghost use Rattle.coap_arguments.specs.Together.{AreApart, GoKept, GoObserved, GoServed, GoTold};
 ghost use Rattle.coap_arguments.specs.Words.{AsksForIn, IsWrongIn};
 
 use crate::asking::is_set;
@@ -21,9 +21,31 @@ pub(crate) fn observed_apart(given: &ArgMatches<'_>) -> Option<TogetherRefusal>
     }
 }
 
-/// Which options of `serve` don't go together, if any: changes are what is told in JSON, and nothing is told beside.
+/// Which options of `serve` don't go together, if any.
 pub(crate) fn served_apart(given: &ArgMatches<'_>) -> Option<TogetherRefusal>
     ensures { MatchOption result (GoServed (rows_of (found_of given.now)))
+        (λ refusal. AreApart refusal (codes "serve") (rows_of (found_of given.now))) }
+{
+    match kept_apart(given) {
+        Some(refusal) => Some(refusal),
+        None => told_apart(given),
+    }
+}
+
+// A server that goes on from a file is set up by no script.
+fn kept_apart(given: &ArgMatches<'_>) -> Option<TogetherRefusal>
+    ensures { MatchOption result (GoKept (rows_of (found_of given.now)))
+        (λ refusal. AreApart refusal (codes "serve") (rows_of (found_of given.now))) }
+{
+    match (optional(given, "journal"), optional(given, "script")) {
+        (Some(_), Some(_)) => Some(TogetherRefusal::Script),
+        _ => None,
+    }
+}
+
+// Changes are what is told in JSON, and nothing is told beside.
+fn told_apart(given: &ArgMatches<'_>) -> Option<TogetherRefusal>
+    ensures { MatchOption result (GoTold (rows_of (found_of given.now)))
         (λ refusal. AreApart refusal (codes "serve") (rows_of (found_of given.now))) }
 {
     if !is_set(given, "json") {

@@ -5,6 +5,7 @@ pub mod ObservedCalls
 pub mod PairCalls
 pub mod PolledCalls
 pub mod ScriptCalls
+pub mod KeptCalls
 pub mod ServedCalls
 pub mod SettingUpCalls
 pub mod Statuses

@@ -2,7 +2,7 @@
 -- taken; of its tally, no more is fed than these calls feed.
 use Rattle.std.proofs.Common.{◌≡◌, ◌≤◌, ◌+◌, ℕ, Bool, true, false, List, [], ◌∷◌, ◌++◌, Option, Some, None, Result, Ok}
 use Rattle.std.proofs.Common.{Err, IfErr, IfOk}
-use Rattle.std.proofs.Common.{inl, inr, refl, sym, subst, arith, if◌then◌else◌, nat_lt, ◌^◌, ◌-◌, ◌≢◌, length}
+use Rattle.std.proofs.Common.{ap, inl, inr, refl, sym, subst, arith, if◌then◌else◌, nat_lt, ◌^◌, ◌-◌, ◌≢◌, length}
 use Rattle.std.specs.Borrow.{Bor}
 use Rattle.std.specs.Option.{IsSome}
 use Rattle.coap_types.specs.declared.endpoint.Endpoint.{Endpoint}
@@ -62,13 +62,13 @@ fed_on a b old mid new h k =
       leads_join old mid new k.0 h.0 h.3 k.3,
     )
 
-fed_here : (old new : State) → new ≡ old → FedFrom 0 old new
+pub fed_here : (old new : State) → new ≡ old → FedFrom 0 old new
 fed_here old new is = ([], tt, omega arith, is)
 
-fed_less : (a b : ℕ) (old new : State) → a ≤ b → FedFrom b old new → FedFrom a old new
+pub fed_less : (a b : ℕ) (old new : State) → a ≤ b → FedFrom b old new → FedFrom a old new
 fed_less a b old new le h = let most = h.2 in (h.0, h.1, omega (arith, le, most), h.3)
 
-fed_call : (n : ℕ) (old new : State) (c : Call) → IsTurning c → n ≤ fed_by c → Step old c new → FedFrom n old new
+pub fed_call : (n : ℕ) (old new : State) (c : Call) → IsTurning c → n ≤ fed_by c → Step old c new → FedFrom n old new
 fed_call n old new c is le step = (c ∷ [], (is, tt), omega (arith, le), (old, refl, step))
 
 -- ---- the tally
@@ -81,32 +81,35 @@ raised_most : (n : ℕ) → raised n ≤ n + 1
 raised_most n = raised_by (nat_lt n (2 ^ 64 - 1)) n
 
 -- the tally counts no more than is fed
-abbrev FedMost : ℕ → ℕ → State → State → Type 0
+abbrev pub FedMost : ℕ → ℕ → State → State → Type 0
 FedMost before after old new = (n : ℕ) × (after ≤ before + n) × FedFrom n old new
 
-most_on : (a b c : ℕ) (old mid new : State) → FedMost a b old mid → FedMost b c mid new → FedMost a c old new
+pub most_on : (a b c : ℕ) (old mid new : State) → FedMost a b old mid → FedMost b c mid new → FedMost a c old new
 most_on a b c old mid new h k =
     let first = h.1 in
     let second = k.1 in
     (h.0 + k.0, omega (arith, first, second), fed_on h.0 k.0 old mid new h.2 k.2)
 
-most_same : (a b : ℕ) (old new : State) → b ≡ a → FedFrom 0 old new → FedMost a b old new
+pub most_same : (a b : ℕ) (old new : State) → b ≡ a → FedFrom 0 old new → FedMost a b old new
 most_same a b old new is h = (0, omega (arith, is), h)
 
-module _ {L : Type 0} (waiting : State → List layer.Packet) (gives : State → layer.Packet → State → Type 0)
+-- an end that has a server in it, or is one
+module _ {S L : Type 0} (at : S → State) (waiting : S → List layer.Packet) (gives : S → layer.Packet → S → Type 0)
     (sends : L → Endpoint → List ℕ → L → Type 0) (receives : L → Option Packet → L → Type 0) (faults : L → ℕ)
-    (quiet_feed : State → ℕ → Endpoint → List ℕ → Type 0)
-    (feeds : State → ℕ → Endpoint → List ℕ → ℕ → State → Type 0)
-    (quiet_tick : State → ℕ → Type 0) (ticks : State → ℕ → ℕ → Bool → State → Type 0)
-    (given : (old : State) (p : layer.Packet) (new : State) → gives old p new → FedFrom 0 old new)
-    (is_fed : (old : State) (now : ℕ) (from : Endpoint) (bytes : List ℕ) (word : ℕ) (new : State)
-    → feeds old now from bytes word new → FedFrom 1 old new)
-    (ticked : (old : State) (now word : ℕ) (did : Bool) (new : State) → ticks old now word did new → FedFrom 0 old new)
+    (quiet_feed : S → ℕ → Endpoint → List ℕ → Type 0)
+    (feeds : S → ℕ → Endpoint → List ℕ → ℕ → S → Type 0)
+    (quiet_tick : S → ℕ → Type 0) (ticks : S → ℕ → ℕ → Bool → S → Type 0)
+    (given : (old : S) (p : layer.Packet) (new : S) → gives old p new → FedFrom 0 (at old) (at new))
+    (is_fed : (old : S) (now : ℕ) (from : Endpoint) (bytes : List ℕ) (word : ℕ) (new : S)
+    → feeds old now from bytes word new → FedFrom 1 (at old) (at new))
+    (ticked : (old : S) (now word : ℕ) (did : Bool) (new : S) → ticks old now word did new
+    → FedFrom 0 (at old) (at new))
   where
-    pub sent_fed : (e : State) (l : L) (ps : List layer.Packet) (f : State) (m : L) → SendsAll gives sends e l ps f m
-        → FedFrom 0 e f
-    sent_fed e l [] f m h = fed_here e f h.0
-    sent_fed e l (p ∷ ps) f m h = fed_on 0 0 e h.0 f (given e p h.0 h.2) (sent_fed h.0 h.1 ps f m h.4)
+    pub sent_fed : (e : S) (l : L) (ps : List layer.Packet) (f : S) (m : L) → SendsAll gives sends e l ps f m
+        → FedFrom 0 (at e) (at f)
+    sent_fed e l [] f m h = fed_here (at e) (at f) (ap at h.0)
+    sent_fed e l (p ∷ ps) f m h =
+        fed_on 0 0 (at e) (at h.0) (at f) (given e p h.0 h.2) (sent_fed h.0 h.1 ps f m h.4)
 
     pumped_by : (b : Bool) (t : Tally) → (if b then fed t else t).fed ≤ t.fed + 1
     pumped_by true t = raised_most t.fed
@@ -116,78 +119,82 @@ module _ {L : Type 0} (waiting : State → List layer.Packet) (gives : State →
     none_fed true t is = cc is
     none_fed false t is = refl
 
-    came_fed : {X : Type 0} (e : State) (now : ℕ) (came : Option Packet) (word : ℕ) (f : State) (r : Result Pumped X)
-        (t : Tally) → IsFedOrLost quiet_feed feeds e now came word f r → FedMost t.fed (pumped r t).fed e f
-    came_fed e now None word f (Ok p) t h = most_same t.fed _ e f (none_fed p.fed t h.1) (fed_here e f h.0)
+    came_fed : {X : Type 0} (e : S) (now : ℕ) (came : Option Packet) (word : ℕ) (f : S) (r : Result Pumped X)
+        (t : Tally) → IsFedOrLost quiet_feed feeds e now came word f r → FedMost t.fed (pumped r t).fed (at e) (at f)
+    came_fed e now None word f (Ok p) t h =
+        most_same t.fed _ (at e) (at f) (none_fed p.fed t h.1) (fed_here (at e) (at f) (ap at h.0))
     came_fed e now (Some q) word f (Ok p) t h = (1, pumped_by p.fed t, is_fed e now q.0 q.1 word f h.0)
     came_fed e now None word f (Err x) t h = absurd h
-    came_fed e now (Some q) word f (Err x) t h = most_same t.fed t.fed e f refl (fed_here e f h.1)
+    came_fed e now (Some q) word f (Err x) t h =
+        most_same t.fed t.fed (at e) (at f) refl (fed_here (at e) (at f) (ap at h.1))
 
-    stepped : (e : State) (now : ℕ) (t : Tally) {g : State} {v : Tally} → Steps ticks e now t g v
-        → FedMost t.fed v.fed e g
-    stepped e now t none = most_same t.fed t.fed e e refl (fed_here e e refl)
+    stepped : (e : S) (now : ℕ) (t : Tally) {g : S} {v : Tally} → Steps ticks e now t g v
+        → FedMost t.fed v.fed (at e) (at g)
+    stepped e now t none = most_same t.fed t.fed (at e) (at e) refl (fed_here (at e) (at e) refl)
     stepped e now t (further g v f steps tick) =
-        most_on t.fed v.fed v.fed e g f (stepped e now t steps)
-        (most_same v.fed v.fed g f refl (ticked g now (next_word v) true f tick))
+        most_on t.fed v.fed v.fed (at e) (at g) (at f) (stepped e now t steps)
+        (most_same v.fed v.fed (at g) (at f) refl (ticked g now (next_word v) true f tick))
 
-    rested : (e : State) (now : ℕ) (t : Tally) (f : State) (u : Tally) → Rests quiet_tick ticks e now t f u
-        → FedMost t.fed u.fed e f
+    rested : (e : S) (now : ℕ) (t : Tally) (f : S) (u : Tally) → Rests quiet_tick ticks e now t f u
+        → FedMost t.fed u.fed (at e) (at f)
     rested e now t f u h = elim h [
-      | inl last ↦ most_same t.fed u.fed e f (subst (λ (v : Tally). v.fed ≡ t.fed) (sym last.1) refl)
+      | inl last ↦ most_same t.fed u.fed (at e) (at f) (subst (λ (v : Tally). v.fed ≡ t.fed) (sym last.1) refl)
           (ticked e now (next_word t) false f last.0)
-      | inr lost ↦ most_same t.fed u.fed e f (subst (λ (v : Tally). v.fed ≡ t.fed) (sym lost.2) refl)
-          (fed_here e f lost.1)
+      | inr lost ↦ most_same t.fed u.fed (at e) (at f) (subst (λ (v : Tally). v.fed ≡ t.fed) (sym lost.2) refl)
+          (fed_here (at e) (at f) (ap at lost.1))
     ]
 
     -- a turn
-    turn_fed : (e : State) (l : L) (now : ℕ) (t : Tally) (f : State) (m : L) (u : Tally)
+    pub turn_fed : (e : S) (l : L) (now : ℕ) (t : Tally) (f : S) (m : L) (u : Tally)
         → Turns waiting gives sends receives faults quiet_feed feeds quiet_tick ticks e l now t f m u
-        → FedMost t.fed u.fed e f
+        → FedMost t.fed u.fed (at e) (at f)
     unfolding Turns
     turn_fed e l now t f m u h =
         let g = h.0 in
         let pump = h.2 in
         let out = h.3 in
         let v : Tally = pumped h.1 t in
-        let came : FedMost t.fed v.fed pump.0 g = came_fed pump.0 now pump.2 (next_word t) g h.1 t pump.6 in
-        let sent : FedMost t.fed t.fed e pump.0 = most_same t.fed t.fed e pump.0 refl
+        let came : FedMost t.fed v.fed (at pump.0) (at g) = came_fed pump.0 now pump.2 (next_word t) g h.1 t pump.6 in
+        let sent : FedMost t.fed t.fed (at e) (at pump.0) = most_same t.fed t.fed (at e) (at pump.0) refl
         (sent_fed e l (waiting e) pump.0 pump.1 pump.3) in
-        let did : FedMost v.fed out.1.fed g out.0 = stepped g now v out.2 in
-        most_on t.fed v.fed u.fed e g f (most_on t.fed t.fed v.fed e pump.0 g sent came)
-        (most_on v.fed out.1.fed u.fed g out.0 f did (rested out.0 now out.1 f u out.3))
+        let did : FedMost v.fed out.1.fed (at g) (at out.0) = stepped g now v out.2 in
+        most_on t.fed v.fed u.fed (at e) (at g) (at f)
+        (most_on t.fed t.fed v.fed (at e) (at pump.0) (at g) sent came)
+        (most_on v.fed out.1.fed u.fed (at g) (at out.0) (at f) did (rested out.0 now out.1 f u out.3))
 
     -- turn after turn
-    turning_fed : (count : ℕ) (e : State) (l : L) (t : Tally) {f : State} {m : L} {u : Tally}
+    pub turning_fed : (count : ℕ) (e : S) (l : L) (t : Tally) {f : S} {m : L} {u : Tally}
         → Turning (Turns waiting gives sends receives faults quiet_feed feeds quiet_tick ticks) count e l t f m u
-        → FedMost t.fed u.fed e f
-    turning_fed count e l t no_turn = most_same t.fed t.fed e e refl (fed_here e e refl)
+        → FedMost t.fed u.fed (at e) (at f)
+    turning_fed count e l t no_turn = most_same t.fed t.fed (at e) (at e) refl (fed_here (at e) (at e) refl)
     turning_fed count e l t (more g k v now f m u turns few turn) =
-        most_on t.fed v.fed u.fed e g f (turning_fed count e l t turns) (turn_fed g k now v f m u turn)
+        most_on t.fed v.fed u.fed (at e) (at g) (at f) (turning_fed count e l t turns) (turn_fed g k now v f m u turn)
 
     -- .. until so many were fed, and then what is out is sent
-    pub serves_fed : (count word : ℕ) (e : State) (l : L) (f : State) (m : L)
+    pub serves_fed : (count word : ℕ) (e : S) (l : L) (f : S) (m : L)
         → Serves (Turns waiting gives sends receives faults quiet_feed feeds quiet_tick ticks)
-        (λ g k f m. SendsAll gives sends g k (waiting g) f m) count word e l f m → FedFrom count e f
+        (λ g k f m. SendsAll gives sends g k (waiting g) f m) count word e l f m
+        → FedFrom count (at e) (at f)
     serves_fed count word e l f m h =
-        let g : State = h.0 in
+        let g : S = h.0 in
         let turns = h.2 in
         let k = turning_fed count e l (nothing_fed word) turns.1 in
         let enough = turns.2 in
         let most = k.1 in
-        fed_less count (k.0 + 0) e f (omega (arith, enough, most))
-        (fed_on k.0 0 e g f k.2 (sent_fed g h.1 (waiting g) f m h.3))
+        fed_less count (k.0 + 0) (at e) (at f) (omega (arith, enough, most))
+        (fed_on k.0 0 (at e) (at g) (at f) k.2 (sent_fed g h.1 (waiting g) f m h.3))
 
 -- ---- a server: the relations that it has as an end
 
-abbrev server_gives : State → layer.Packet → State → Type 0
+abbrev pub server_gives : State → layer.Packet → State → Type 0
 server_gives s packet n = Step s (NextOut (Some packet)) n
 
-abbrev server_feeds : State → ℕ → Endpoint → List ℕ → ℕ → State → Type 0
+abbrev pub server_feeds : State → ℕ → Endpoint → List ℕ → ℕ → State → Type 0
 server_feeds s now from bytes word n =
     (up : Answer) × (came : Option (Asked × Message)) × (h : Handling) × (sent : Answer)
     × Step s (FedIn now from bytes word up came h sent) n
 
-abbrev server_ticks : State → ℕ → ℕ → Bool → State → Type 0
+abbrev pub server_ticks : State → ℕ → ℕ → Bool → State → Type 0
 server_ticks s now word did n =
     (below : Answer) × (room : Bool) × (due : Due) × (passed : ℕ) × (h : Handling) × (id : ℕ)
     × Step s (Ticks now word below room due passed h id did) n
@@ -200,7 +207,7 @@ module _ {L : Type 0} (waiting : State → List layer.Packet) (sends : L → End
         → Serves (Turns waiting server_gives sends receives faults quiet_feed server_feeds quiet_tick server_ticks)
         (λ g k f m. SendsAll server_gives sends g k (waiting g) f m) count word e l f m → FedFrom count e f
     server_fed count word e l f m h =
-        serves_fed waiting server_gives sends receives faults quiet_feed server_feeds quiet_tick server_ticks
+        serves_fed (λ s. s) waiting server_gives sends receives faults quiet_feed server_feeds quiet_tick server_ticks
         (λ old p new k. fed_call 0 old new (NextOut (Some p)) tt (omega arith) k)
         (λ old now from bytes word new k. fed_call 1 old new (FedIn now from bytes word k.0 k.1 k.2 k.3) tt
         (omega arith) k.4)

@@ -15,6 +15,8 @@ use Rattle.coap_commands.specs.Hosts.{IsServer}
 use Rattle.coap_commands.specs.Observes.{observed_report, observed_status}
 use Rattle.coap_commands.specs.Pairs.{IsPaired}
 use Rattle.coap_commands.specs.Polls.{Reading, read_status}
+use Rattle.coap_server.specs.Led.{State}
+use Rattle.coap_commands.specs.Kept.{IsGoneOn, IsServedAsSaid, IsServedOn}
 use Rattle.coap_commands.specs.Served.{IsServed, IsServedBy}
 use Rattle.coap_commands.specs.ScriptSettings.{AreOfScript}
 use Rattle.coap_scripts.specs.Settings.{Setting as SettingSpec}
@@ -37,6 +39,7 @@ use Rattle.coap_scripts.specs.declared.status.Status.{Status}
 use Rattle.coap_scripts.specs.declared.status.Status.TheVariants as status
 use Rattle.coap_scripts.specs.declared.status.Stop.{Stop}
 use Rattle.coap_scripts.specs.declared.status.Stop.TheVariants as stop
+use Rattle.coap_arguments.specs.declared.orders.Journal.{Journal}
 use Rattle.coap_arguments.specs.declared.orders.Order.{Order}
 use Rattle.coap_arguments.specs.declared.orders.Order.TheVariants.{Version, Show, Dump, Answer, Pair, Serve, Ask}
 use Rattle.coap_arguments.specs.declared.orders.Order.TheVariants.{Discover, DumpCapture, Ping, Sim}
@@ -325,6 +328,29 @@ served_done (Ok s) count options script c h = served_ends s count options script
 served_done (Err stop.Failed) count options script c h = absurd (let n : 3 ≡ 2 = h in omega (arith, n))
 served_done (Err stop.Memory) count options script c h = absurd (let n : 4 ≡ 2 = h in omega (arith, n))
 
+-- a server that goes on from a journal comes to no status of wrong words
+gone_ends : (s : Status) (count : ℕ) (options : ServeOptions) (at : ℕ) (start : State)
+    → IsGoneOn count options at start s → IsCarriedOut s
+gone_ends s count options at start (inl refused) = inr refused
+gone_ends s count options at start (inr done) = inl done.0
+
+kept_ends : (s : Status) (count : ℕ) (options : ServeOptions) (journal : Journal)
+    → IsServedOn count options journal s → IsCarriedOut s
+kept_ends s count options journal (inl refused) = inr refused
+kept_ends s count options journal (inr served) = gone_ends s count options served.2 served.4 served.6
+
+kept_carried : (ended : Result Status Stop) (count : ℕ) (options : ServeOptions) (journal : Journal)
+    → IfOk ended (IsServedOn count options journal) → IfOk ended IsCarriedOut
+kept_carried (Ok s) count options journal c = kept_ends s count options journal c
+kept_carried (Err stop) count options journal c = tt
+
+as_said : (ended : Result Status Stop) (count : ℕ) (options : ServeOptions) (script : Option (Bor (List ℕ)))
+    (journal : Option Journal) → IfOk ended (IsServedAsSaid count options script journal) → number ended ≡ 2
+    → IsSome script
+as_said ended count options script None c h = served_done ended count options script c h
+as_said ended count options script (Some journal) c h =
+    absurd (carried_out ended (kept_carried ended count options journal c) h)
+
 version_done : (ended : Result Status Stop) → IfOk ended (λ s. s ≡ status.Done) → IfOk ended IsCarriedOut
 version_done (Ok s) is = inl is
 version_done (Err stop) is = tt
@@ -339,7 +365,7 @@ text_only (DumpCapture file chart) ended c h = tt
 text_only (Answer path body datagram) ended c h = absurd (carried_out ended c h)
 text_only (Pair path body word limit remembered) ended c h =
     absurd (carried_out ended (paired_done ended path body.now word limit remembered c) h)
-text_only (Serve port count options script pcap) ended c h = served_done ended count options script c h
+text_only (Serve port count options script pcap journal) ended c h = as_said ended count options script journal c h
 text_only (Ask server path what options pcap) ended c h =
     absurd (carried_out ended (asked_carried ended server path what options c) h)
 text_only (Discover server options pcap) ended c h =

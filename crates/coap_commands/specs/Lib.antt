@@ -10,6 +10,7 @@ pub mod Ends
 pub mod Hosts
 pub mod JsonLines
 pub mod JsonValues
+pub mod Kept
 pub mod Observes
 pub mod Pairs
 pub mod Pinged

@@ -5,7 +5,7 @@ use Rattle.coap_arguments.specs.Words.{AsksFor, IsWrong}
 use Rattle.coap_record.specs.Events.{Event}
 use Rattle.coap_commands.specs.Captured.{IsCaptureStatus}
 use Rattle.coap_commands.specs.Pairs.{IsPaired}
-use Rattle.coap_commands.specs.Served.{IsServed}
+use Rattle.coap_commands.specs.Kept.{IsServedAsSaid}
 use Rattle.coap_commands.specs.Tasks.{IsAsked, IsDiscovered}
 use Rattle.coap_scripts.specs.StatusNumbers.{status_number}
 use Rattle.coap_scripts.specs.Sims.{IsSim, sim_config}
@@ -40,7 +40,7 @@ abbrev pub ReadsText : Order → Type 0
 ReadsText (Sim file store plains remembered chart client server pcap) = ⊤
 ReadsText Dump = ⊤
 ReadsText (DumpCapture file chart) = ⊤
-ReadsText (Serve port count options script pcap) = IsSome script
+ReadsText (Serve port count options script pcap journal) = IsSome script
 ReadsText _ = ⊥
 
 -- what this order comes to, carried out to its end
@@ -51,7 +51,7 @@ CarriesOut Dump s = IsOfScript s
 CarriesOut (DumpCapture file chart) s = (bytes : List ℕ) × IsCaptureStatus bytes s
 CarriesOut Version s = s ≡ status.Done
 CarriesOut (Pair path body word limit remembered) s = IsPaired path body.now word limit remembered s
-CarriesOut (Serve port count options script pcap) s = IsServed count options script s
+CarriesOut (Serve port count options script pcap journal) s = IsServedAsSaid count options script journal s
 CarriesOut (Ask server path what options pcap) s = IsAsked server path what options s
 CarriesOut (Discover server options pcap) s = IsDiscovered server options s
 CarriesOut _ s = IsCarriedOut s

@@ -3,7 +3,9 @@ use Rattle.std.specs.Prelude.{ℕ, Bool, List, [], ◌∷◌, Option, Some, None
 use Rattle.coap_types.specs.declared.request.Method.{Method}
 use Rattle.coap_resource.specs.Content.{Held}
 use Rattle.coap_links.specs.Faults.{raised}
+use Rattle.coap_server.specs.Led.{State}
 use Rattle.coap_server.specs.Trace.{Applied}
+use Rattle.coap_journaled.specs.Journal.{Journal, is_open}
 
 -- it is told of, or one more could not be (`t` and `u` are the teller before and after, `n` and `m` the counts)
 abbrev pub IsToldOnce : {T : Type 0} → (T → Bool → T → Type 0) → T → ℕ → T → ℕ → Type 0
@@ -13,6 +15,10 @@ IsToldOnce tells t n u m = (told : Bool) × tells t told u × (m ≡ if told the
 abbrev pub body_of : Option Held → List ℕ
 body_of None = []
 body_of (Some held) = held.body
+
+-- what a server applied last whose inputs are all in its journal; nothing where one isn't
+abbrev pub applied_if_kept : {F : Type 0} → Journal State F → List Applied
+applied_if_kept j = if is_open j then j.end.own.applied else []
 
 -- where there is a teller, it tells of what was applied at this moment, if anything, with the body that its path holds;
 -- where there is none, nothing is told of, and nothing is missed

@@ -9,7 +9,9 @@ ghost use Rattle.coap_commands.specs.ToldChanges.{IsToldOnce, IsToldWhere};
 
 use crate::tracing::SharedWriter;
 use coap_ends::{Applied, End, Server};
+use coap_journaled::JournalFile;
 use coap_json::applied_line;
+use coap_kept::Kept;
 use coap_layer::Datagram;
 use coap_print::{PathWords, code_name};
 use coap_resource::Store;
@@ -225,6 +227,28 @@ impl<S: Store<A>, A: Allocator + Copy, H: BuildHasher> Applies<A> for Server<S, 
 
     fn body_at(&self, path: &Path<A>) -> &[u8] {
         match Server::get(self, path) {
+            Some(held) => held.body.as_slice(),
+            None => &[],
+        }
+    }
+}
+
+impl<S: Store<A>, F: JournalFile, A: Allocator + Copy, H: BuildHasher> Applies<A>
+    for Kept<Server<S, A, H>, F, A> {
+    ghost use Rattle.coap_server.specs.Object.Shown.{state_of};
+    ghost use Rattle.coap_journaled.specs.Journal.{shown};
+    ghost use Rattle.coap_commands.specs.ToldChanges.{applied_if_kept, body_of};
+
+    ghost applies = { λ k. applied_if_kept (shown (state_of S.content) k.journaled) };
+
+    ghost bodies = { λ k path. body_of ((state_of S.content k.journaled.end).own.store.holds path) };
+
+    fn last_applied(&self) -> Option<&Applied<A>> {
+        self.journaled().applied()
+    }
+
+    fn body_at(&self, path: &Path<A>) -> &[u8] {
+        match self.journaled().end().get(path) {
             Some(held) => held.body.as_slice(),
             None => &[],
         }

@@ -23,6 +23,7 @@ use coap_arguments::{Order, Wrong, order};
 use coap_print::Printing;
 use coap_run::Addresses;
 use coap_scripts::{Status, Stop, sim_file};
+use std::fs::File;
 use std::io;
 use std::io::{ErrorKind, Write};
 use std::net::Net;
@@ -30,7 +31,7 @@ use std::random::RandomSource;
 use std::rt::{Clock, Files};
 
 // Carries an order out. Standard output and standard error may be terminals.
-fn perform<R: AllocGlobal + Files + Net + Clock + RandomSource, O: Write, E: Write>(
+fn perform<R: AllocGlobal + Files<File = File> + Net + Clock + RandomSource, O: Write, E: Write>(
     rt: &R,
     order: &Order<'_>,
     terminals: Terminals,
@@ -66,12 +67,14 @@ fn perform<R: AllocGlobal + Files + Net + Clock + RandomSource, O: Write, E: Wri
             options,
             script,
             pcap,
+            journal,
         } => serve(
             rt,
             *port,
             *count,
             options,
             *script,
+            *journal,
             terminals.err.showing(*pcap),
             out,
             err,
@@ -161,7 +164,7 @@ pub fn refuse<O: Write, E: Write>(wrong: Wrong, out: &mut O, err: &mut E) -> Res
 }
 
 // Runs the words. Standard output and standard error may be terminals.
-fn run<R: AllocGlobal + Files + Net + Clock + RandomSource, O: Write, E: Write>(
+fn run<R: AllocGlobal + Files<File = File> + Net + Clock + RandomSource, O: Write, E: Write>(
     rt: &R,
     words: &[String],
     terminals: Terminals,
@@ -200,12 +203,11 @@ pub fn close<E: Write>(ended: Result<Status, Stop>, err: &mut E) -> Status
 
 /// Runs the words of one run, the program's own name first, and answers the exit status. What a
 /// subcommand prints goes to `out`; help, usage, `failed` and `no memory` go to `err`.
-pub fn command<R: AllocGlobal + Files + Net + Clock + RandomSource, O: Write, E: Write>(
-    rt: &R,
-    words: &[String],
-    out: &mut O,
-    err: &mut E,
-) -> u8
+pub fn command<
+    R: AllocGlobal + Files<File = File> + Net + Clock + RandomSource,
+    O: Write,
+    E: Write,
+>(rt: &R, words: &[String], out: &mut O, err: &mut E) -> u8
     // No status is over 4.
     ensures most { result ≤ 4 }
     // What is wrong in the words is answered with 2, unless that can't be told ..
@@ -223,13 +225,11 @@ pub fn command<R: AllocGlobal + Files + Net + Clock + RandomSource, O: Write, E:
 /// The same where standard output and standard error may be terminals, on which a person reads at once: there standard
 /// error says, too, where nothing comes for long, and a chart may be in colours. Nothing else that is printed changes,
 /// nor the exit status.
-pub fn command_on<R: AllocGlobal + Files + Net + Clock + RandomSource, O: Write, E: Write>(
-    rt: &R,
-    words: &[String],
-    terminals: Terminals,
-    out: &mut O,
-    err: &mut E,
-) -> u8
+pub fn command_on<
+    R: AllocGlobal + Files<File = File> + Net + Clock + RandomSource,
+    O: Write,
+    E: Write,
+>(rt: &R, words: &[String], terminals: Terminals, out: &mut O, err: &mut E) -> u8
     // On terminals, too, no status is over 4.
     ensures most { result ≤ 4 }
     // On a terminal, too, wrong words are answered with 2, unless that can't be told ..

@@ -8,6 +8,7 @@ ghost use Rattle.coap_server.specs.Object.Shown.{state_of};
 ghost use Rattle.coap_commands.specs.Serves.{Feeds, Serves};
 ghost use Rattle.coap_scripts.specs.Settings.{setting_of};
 ghost use Rattle.coap_commands.specs.Asked.{IsOrigin};
+ghost use Rattle.coap_commands.specs.Kept.{IsServedAsSaid, IsServedOn};
 ghost use Rattle.coap_commands.specs.Served.{FedFrom, IsServed, IsServedBy, not_set_up_status};
 ghost use Rattle.coap_scripts.specs.declared.status.Status.TheVariants.{Done};
 
@@ -16,6 +17,7 @@ use crate::capturing::{FourStanding, SixStanding, Standing, begin_of, capture_in
 use crate::changes::{ChangeTeller, TellingEnd, changes_on};
 use crate::ends::tell_refusal;
 use crate::hosts::{Peer, peer_at};
+use crate::keeping::{keep_four, refuse_six};
 use crate::peers::{FourPeers, Peers, SixPeers};
 use crate::put_away::put_away;
 use crate::serve_script::{script_of, tell_bad_line};
@@ -25,7 +27,7 @@ use crate::terminal::Showing;
 use crate::timekeeper::{ProgramTime, Timekeeper};
 use crate::tracing::{Tracing, teller_on};
 use crate::word::{Origin, origin_of};
-use coap_arguments::{Address, ServeOptions};
+use coap_arguments::{Address, Journal, ServeOptions};
 use coap_ends::{End, Server};
 use coap_links::{Link, Trace, Udp6Link, UdpLink, fresh_tally, send_all, serve_turn};
 use coap_resource::MapStore;
@@ -33,6 +35,7 @@ use coap_scripts::{Setting, Status, Stop};
 use coap_types::Endpoint;
 use std::alloc::{Allocator, Global};
 use std::cell::RefCell;
+use std::fs::File;
 use std::hash::{BuildHasher, RandomState};
 use std::io::Write;
 use std::net::{Net, SocketAddrV6};
@@ -101,7 +104,7 @@ fn is_loopback(address: Address) -> bool {
 }
 
 // Says what a server that others reach lets them do.
-fn warn<E: Write>(options: &ServeOptions, port: u16, err: &mut E) {
+pub(crate) fn warn<E: Write>(options: &ServeOptions, port: u16, err: &mut E) {
     if !is_loopback(options.address) {
         let _ = writeln!(
             err,
@@ -260,7 +263,11 @@ fn serve_six<R: AllocGlobal + Files + Net + Clock + RandomSource, O: Write, E: W
 }
 
 // Serves at a port, as the words and the settings of a script say.
-fn serve_settings<R: AllocGlobal + Files + Net + Clock + RandomSource, O: Write, E: Write>(
+fn serve_settings<
+    R: AllocGlobal + Files<File = File> + Net + Clock + RandomSource,
+    O: Write,
+    E: Write,
+>(
     rt: &R,
     port: u16,
     count: u64,
@@ -280,9 +287,37 @@ fn serve_settings<R: AllocGlobal + Files + Net + Clock + RandomSource, O: Write,
     }
 }
 
-/// Serves at a port, as the words and the script in a file say, until so many datagrams came. With a wrong line in the
-/// script nothing is served.
-pub fn serve<R: AllocGlobal + Files + Net + Clock + RandomSource, O: Write, E: Write>(
+// Serves at a port and goes on from a journal, as the words say.
+fn serve_on_journal<
+    R: AllocGlobal + Files<File = File> + Net + Clock + RandomSource,
+    O: Write,
+    E: Write,
+>(
+    rt: &R,
+    port: u16,
+    count: u64,
+    options: &ServeOptions,
+    journal: Journal<'_>,
+    showing: Showing<'_>,
+    out: &mut O,
+    err: &mut E,
+) -> Result<Status, Stop>
+    ensures { IfOk result (IsServedOn count options.now journal) }
+{
+    match peer_at(options.address, port) {
+        Peer::Four(address) => {
+            keep_four(rt, address, count, options, journal, showing, out, err)
+        }
+        Peer::Six(_) => refuse_six(err),
+    }
+}
+
+// Serves at a port, as the words and the script in a file say.
+fn serve_script<
+    R: AllocGlobal + Files<File = File> + Net + Clock + RandomSource,
+    O: Write,
+    E: Write,
+>(
     rt: &R,
     port: u16,
     count: u64,
@@ -306,5 +341,26 @@ pub fn serve<R: AllocGlobal + Files + Net + Clock + RandomSource, O: Write, E: W
             err,
         ),
         Err(bad) => tell_bad_line(bad, out),
+    }
+}
+
+/// Serves at a port, as the words and the script in a file say, until so many datagrams came; with a journal, as the
+/// words say, and goes on from it. With a wrong line in the script nothing is served.
+pub fn serve<R: AllocGlobal + Files<File = File> + Net + Clock + RandomSource, O: Write, E: Write>(
+    rt: &R,
+    port: u16,
+    count: u64,
+    options: &ServeOptions,
+    script: Option<&str>,
+    journal: Option<Journal<'_>>,
+    showing: Showing<'_>,
+    out: &mut O,
+    err: &mut E,
+) -> Result<Status, Stop>
+    ensures { IfOk result (IsServedAsSaid count options.now script.entry journal) }
+{
+    match journal {
+        Some(journal) => serve_on_journal(rt, port, count, options, journal, showing, out, err),
+        None => serve_script(rt, port, count, options, script, showing, out, err),
     }
 }

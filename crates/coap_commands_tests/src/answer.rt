@@ -1,6 +1,7 @@
 //! Tests of `answer`.
 use crate::rows::{Row, check_row, repeated};
 use std::alloc::AllocError;
+use std::fs::File;
 use std::net::Net;
 use std::process::Abort;
 use std::random::RandomSource;
@@ -10,7 +11,7 @@ use std::test::Fail;
 // A datagram to a server that holds `hi` at `t`, and what is printed.
 type Reply<'a> = (&'a str, &'a str);
 
-fn check_replies<R: Abort + AllocGlobal + Files + Net + Clock + RandomSource>(
+fn check_replies<R: Abort + AllocGlobal + Files<File = File> + Net + Clock + RandomSource>(
     rt: &R,
     replies: &[Reply<'_>],
 ) -> Result<(), AllocError> {

@@ -1,6 +1,7 @@
 //! Tests of bodies that come from words, from a file and from standard input.
 use crate::rows::{check_row, repeated};
 use std::alloc::AllocError;
+use std::fs::File;
 use std::net::Net;
 use std::process::Abort;
 use std::random::RandomSource;
@@ -8,7 +9,7 @@ use std::rt::{Clock, Files};
 use std::test::Fail;
 
 // The answer of a server that holds so many letters `a` at `t`: a head, and so many of them.
-fn check_body<R: Abort + AllocGlobal + Files + Net + Clock + RandomSource>(
+fn check_body<R: Abort + AllocGlobal + Files<File = File> + Net + Clock + RandomSource>(
     rt: &R,
     len: usize,
     datagram: &str,
@@ -89,7 +90,7 @@ fn bodies_go_in_blocks(rt: HostRuntime) -> Result<(), Fail> {
 }
 
 // The answer of a server that is to hold 65,537 bytes.
-fn check_too_large<R: Abort + AllocGlobal + Files + Net + Clock + RandomSource>(
+fn check_too_large<R: Abort + AllocGlobal + Files<File = File> + Net + Clock + RandomSource>(
     rt: &R,
     datagram: &str,
     status: u8,

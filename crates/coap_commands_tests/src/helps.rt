@@ -3,6 +3,7 @@ use crate::rows::words_of;
 use coap_arguments::order;
 use coap_commands::command;
 use std::alloc::AllocError;
+use std::fs::File;
 use std::net::Net;
 use std::process::Abort;
 use std::random::RandomSource;
@@ -10,7 +11,7 @@ use std::rt::{Clock, Files};
 use std::test::Fail;
 
 // What a run with these words prints on standard error, which ends with status 2.
-fn said<R: Abort + AllocGlobal + Files + Net + Clock + RandomSource>(
+fn said<R: Abort + AllocGlobal + Files<File = File> + Net + Clock + RandomSource>(
     rt: &R,
     words: &[&str],
 ) -> Result<Vec<u8>, AllocError> {
@@ -32,7 +33,7 @@ fn example_in(help: &str) -> &str {
 }
 
 // Help of this subcommand ends with an example of it, which is an order.
-fn check_example<R: Abort + AllocGlobal + Files + Net + Clock + RandomSource>(
+fn check_example<R: Abort + AllocGlobal + Files<File = File> + Net + Clock + RandomSource>(
     rt: &R,
     name: &str,
 ) -> Result<(), AllocError> {

@@ -11,6 +11,7 @@ use coap_layer::Setup;
 use coap_links::{ANY_PORT, LOOPBACK, Link, MemoryLink, UdpLink};
 use coap_types::{BodyLimit, Endpoint, Path};
 use std::alloc::{AllocError, Global};
+use std::fs::File;
 use std::hash::{BuildHasherDefault, FoldHasher};
 use std::net::Net;
 use std::process::Abort;
@@ -29,7 +30,7 @@ const FAR: Endpoint = Endpoint {
 };
 
 // A body of so many bytes is put and got back over two sockets.
-fn check_pair<R: Abort + AllocGlobal + Files + Net + HasClock + RandomSource>(
+fn check_pair<R: Abort + AllocGlobal + Files<File = File> + Net + HasClock + RandomSource>(
     rt: &R,
     path: &str,
     len: usize,
@@ -111,7 +112,7 @@ fn calls_that_a_client_does_not_take(rt: HostRuntime) -> Result<(), Fail> {
 }
 
 // One run ends so at a port that is taken.
-fn check_taken<R: Abort + AllocGlobal + Files + Net + HasClock + RandomSource>(
+fn check_taken<R: Abort + AllocGlobal + Files<File = File> + Net + HasClock + RandomSource>(
     rt: &R,
     port: u16,
 ) -> Result<(), AllocError> {

@@ -3,6 +3,7 @@ use coap_arguments::Wrong;
 use coap_commands::{Stop, Terms, command, largest_szx, refuse, without_words};
 use coap_types::{BodyLimit, Remembered};
 use std::alloc::{AllocError, Global};
+use std::fs::File;
 use std::io;
 use std::io::{ErrorKind, Write};
 use std::net::Net;
@@ -45,7 +46,7 @@ pub(super) fn repeated(alloc: Global, part: &str, count: usize) -> Result<String
 pub(super) type Row<'a> = (&'a [&'a str], u8, &'a str);
 
 /// One run prints this, and nothing else.
-pub(super) fn check_row<R: Abort + AllocGlobal + Files + Net + Clock + RandomSource>(
+pub(super) fn check_row<R: Abort + AllocGlobal + Files<File = File> + Net + Clock + RandomSource>(
     rt: &R,
     words: &[&str],
     status: u8,
@@ -114,7 +115,7 @@ fn shown_datagrams(rt: HostRuntime) -> Result<(), Fail> {
 }
 
 // The words are wrong: only standard error says so.
-fn check_wrong<R: Abort + AllocGlobal + Files + Net + Clock + RandomSource>(
+fn check_wrong<R: Abort + AllocGlobal + Files<File = File> + Net + Clock + RandomSource>(
     rt: &R,
     words: &[&str],
 ) -> Result<(), AllocError> {

@@ -2,6 +2,7 @@
 
 use coap_commands::command;
 use std::alloc::{AllocError, Global};
+use std::fs::File;
 use std::net::Net;
 use std::process::Abort;
 use std::random::RandomSource;
@@ -26,7 +27,7 @@ pub(super) fn repeated(alloc: Global, part: &str, count: usize) -> Result<String
 }
 
 /// One run prints this, and nothing else.
-pub(super) fn check_row<R: Abort + AllocGlobal + Files + Net + Clock + RandomSource>(
+pub(super) fn check_row<R: Abort + AllocGlobal + Files<File = File> + Net + Clock + RandomSource>(
     rt: &R,
     words: &[&str],
     status: u8,

@@ -10,6 +10,7 @@ mod crossing;
 mod handle;
 mod held;
 mod journal;
+mod load;
 mod numbers;
 mod outgoing;
 mod path_text;

@@ -82,26 +82,26 @@ module _ (words : List Text) (name : Text) (v : List Row) (e : Enters words name
       left_out (Pair path body word limit remembered) h Again refl
   has_number (Pair path body word limit remembered) h ServerPort =
       left_out (Pair path body word limit remembered) h ServerPort refl
-  has_number (Serve port count options script pcap) h Port = inr (port, h.1)
-  has_number (Serve port count options script pcap) h Count = of_count v count h.2
-  has_number (Serve port count options script pcap) h Limit = of_limit v options.limit h.4.limit
-  has_number (Serve port count options script pcap) h Remember = of_remembered v options.remembered h.4.remembered
-  has_number (Serve port count options script pcap) h Format =
-      left_out (Serve port count options script pcap) h Format refl
-  has_number (Serve port count options script pcap) h Accept =
-      left_out (Serve port count options script pcap) h Accept refl
-  has_number (Serve port count options script pcap) h Times =
-      left_out (Serve port count options script pcap) h Times refl
-  has_number (Serve port count options script pcap) h Seconds =
-      left_out (Serve port count options script pcap) h Seconds refl
-  has_number (Serve port count options script pcap) h GiveUp =
-      left_out (Serve port count options script pcap) h GiveUp refl
-  has_number (Serve port count options script pcap) h Every =
-      left_out (Serve port count options script pcap) h Every refl
-  has_number (Serve port count options script pcap) h Again =
-      left_out (Serve port count options script pcap) h Again refl
-  has_number (Serve port count options script pcap) h ServerPort =
-      left_out (Serve port count options script pcap) h ServerPort refl
+  has_number (Serve port count options script pcap journal) h Port = inr (port, h.1)
+  has_number (Serve port count options script pcap journal) h Count = of_count v count h.2
+  has_number (Serve port count options script pcap journal) h Limit = of_limit v options.limit h.4.limit
+  has_number (Serve port count options script pcap journal) h Remember = of_remembered v options.remembered h.4.remembered
+  has_number (Serve port count options script pcap journal) h Format =
+      left_out (Serve port count options script pcap journal) h Format refl
+  has_number (Serve port count options script pcap journal) h Accept =
+      left_out (Serve port count options script pcap journal) h Accept refl
+  has_number (Serve port count options script pcap journal) h Times =
+      left_out (Serve port count options script pcap journal) h Times refl
+  has_number (Serve port count options script pcap journal) h Seconds =
+      left_out (Serve port count options script pcap journal) h Seconds refl
+  has_number (Serve port count options script pcap journal) h GiveUp =
+      left_out (Serve port count options script pcap journal) h GiveUp refl
+  has_number (Serve port count options script pcap journal) h Every =
+      left_out (Serve port count options script pcap journal) h Every refl
+  has_number (Serve port count options script pcap journal) h Again =
+      left_out (Serve port count options script pcap journal) h Again refl
+  has_number (Serve port count options script pcap journal) h ServerPort =
+      left_out (Serve port count options script pcap journal) h ServerPort refl
   has_number (Ask server path what options pcap) h Port = left_out (Ask server path what options pcap) h Port refl
   has_number (Ask server path what options pcap) h Count = left_out (Ask server path what options pcap) h Count refl
   has_number (Ask server path what options pcap) h Limit = of_limit v options.limit h.2.limit

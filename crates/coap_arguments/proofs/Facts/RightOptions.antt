@@ -57,7 +57,7 @@ module _ (words : List Text) (name : Text) (v : List Row) (e : Enters words name
   has_plains (DumpCapture file chart) h = plainless (DumpCapture file chart) h refl
   has_plains (Answer path body datagram) h = plainless (Answer path body datagram) h refl
   has_plains (Pair path body word limit remembered) h = plainless (Pair path body word limit remembered) h refl
-  has_plains (Serve port count options script pcap) h = (options.plains.items, h.4.plains)
+  has_plains (Serve port count options script pcap journal) h = (options.plains.items, h.4.plains)
   has_plains (Ask server path what options pcap) h = plainless (Ask server path what options pcap) h refl
   has_plains (Discover server options pcap) h = plainless (Discover server options pcap) h refl
   has_plains (Ping server options pcap) h = plainless (Ping server options pcap) h refl
@@ -87,7 +87,7 @@ module _ (words : List Text) (name : Text) (v : List Row) (e : Enters words name
   not_word (Answer path body datagram) h none =
       valueless (Answer path body datagram) h (codes "word") refl none.0 none.1
   not_word (Pair path body word limit remembered) h none = word_or_not v _ word h.4 none
-  not_word (Serve port count options script pcap) h none = word_or_not v _ options.word h.4.word none
+  not_word (Serve port count options script pcap journal) h none = word_or_not v _ options.word h.4.word none
   not_word (Ask server path what options pcap) h none = word_or_not v _ options.word h.2.word none
   not_word (Discover server options pcap) h none = word_or_not v _ options.word h.2.word none
   not_word (Ping server options pcap) h none = valueless (Ping server options pcap) h (codes "word") refl none.0 none.1
@@ -104,8 +104,8 @@ module _ (words : List Text) (name : Text) (v : List Row) (e : Enters words name
       valueless (Answer path body datagram) h (codes "size") refl none.0 none.1
   not_size (Pair path body word limit remembered) h none =
       valueless (Pair path body word limit remembered) h (codes "size") refl none.0 none.1
-  not_size (Serve port count options script pcap) h none =
-      valueless (Serve port count options script pcap) h (codes "size") refl none.0 none.1
+  not_size (Serve port count options script pcap journal) h none =
+      valueless (Serve port count options script pcap journal) h (codes "size") refl none.0 none.1
   not_size (Ask server path what options pcap) h none = size_or_not v options.size h.2.size none
   not_size (Discover server options pcap) h none = size_or_not v options.size h.2.size none
   not_size (Ping server options pcap) h none = valueless (Ping server options pcap) h (codes "size") refl none.0 none.1
@@ -123,8 +123,8 @@ module _ (words : List Text) (name : Text) (v : List Row) (e : Enters words name
       no_bad_tags v Etag (textless (Answer path body datagram) h (codes "etag") refl) none
   not_tags (Pair path body word limit remembered) Etag h none =
       no_bad_tags v Etag (textless (Pair path body word limit remembered) h (codes "etag") refl) none
-  not_tags (Serve port count options script pcap) Etag h none =
-      no_bad_tags v Etag (textless (Serve port count options script pcap) h (codes "etag") refl) none
+  not_tags (Serve port count options script pcap journal) Etag h none =
+      no_bad_tags v Etag (textless (Serve port count options script pcap journal) h (codes "etag") refl) none
   not_tags (Ask server path what options pcap) Etag h none = tags_or_not v Etag options.etags h.2.etags none
   not_tags (Discover server options pcap) Etag h none = tags_or_not v Etag options.etags h.2.etags none
   not_tags (Ping server options pcap) Etag h none =
@@ -142,8 +142,8 @@ module _ (words : List Text) (name : Text) (v : List Row) (e : Enters words name
       no_bad_tags v IfMatch (textless (Answer path body datagram) h (codes "if-match") refl) none
   not_tags (Pair path body word limit remembered) IfMatch h none =
       no_bad_tags v IfMatch (textless (Pair path body word limit remembered) h (codes "if-match") refl) none
-  not_tags (Serve port count options script pcap) IfMatch h none =
-      no_bad_tags v IfMatch (textless (Serve port count options script pcap) h (codes "if-match") refl) none
+  not_tags (Serve port count options script pcap journal) IfMatch h none =
+      no_bad_tags v IfMatch (textless (Serve port count options script pcap journal) h (codes "if-match") refl) none
   not_tags (Ask server path what options pcap) IfMatch h none = tags_or_not v IfMatch options.if_match h.2.if_match none
   not_tags (Discover server options pcap) IfMatch h none = tags_or_not v IfMatch options.if_match h.2.if_match none
   not_tags (Ping server options pcap) IfMatch h none =
@@ -166,7 +166,7 @@ module _ (words : List Text) (name : Text) (v : List Row) (e : Enters words name
       valueless (Answer path body datagram) h (codes "address") refl none.0 none.1
   not_address (Pair path body word limit remembered) address.Address h none =
       valueless (Pair path body word limit remembered) h (codes "address") refl none.0 none.1
-  not_address (Serve port count options script pcap) address.Address h none =
+  not_address (Serve port count options script pcap journal) address.Address h none =
       address_or_not v options.address h.4.address none
   not_address (Ask server path what options pcap) address.Address h none =
       valueless (Ask server path what options pcap) h (codes "address") refl none.0 none.1
@@ -189,7 +189,7 @@ module _ (words : List Text) (name : Text) (v : List Row) (e : Enters words name
       no_bad_setting v setting.Hold (textless (Answer path body datagram) h (codes "hold") refl) none
   not_setting (Pair path body word limit remembered) setting.Hold h none =
       no_bad_setting v setting.Hold (textless (Pair path body word limit remembered) h (codes "hold") refl) none
-  not_setting (Serve port count options script pcap) setting.Hold h none =
+  not_setting (Serve port count options script pcap journal) setting.Hold h none =
       setting_or_not _ v setting.Hold options h.4 none
   not_setting (Ask server path what options pcap) setting.Hold h none =
       no_bad_setting v setting.Hold (textless (Ask server path what options pcap) h (codes "hold") refl) none
@@ -210,7 +210,7 @@ module _ (words : List Text) (name : Text) (v : List Row) (e : Enters words name
       no_bad_setting v setting.Delay (textless (Answer path body datagram) h (codes "delay") refl) none
   not_setting (Pair path body word limit remembered) setting.Delay h none =
       no_bad_setting v setting.Delay (textless (Pair path body word limit remembered) h (codes "delay") refl) none
-  not_setting (Serve port count options script pcap) setting.Delay h none =
+  not_setting (Serve port count options script pcap journal) setting.Delay h none =
       setting_or_not _ v setting.Delay options h.4 none
   not_setting (Ask server path what options pcap) setting.Delay h none =
       no_bad_setting v setting.Delay (textless (Ask server path what options pcap) h (codes "delay") refl) none
@@ -234,8 +234,8 @@ module _ (words : List Text) (name : Text) (v : List Row) (e : Enters words name
       valueless (Answer path body datagram) h (codes "store") refl none.0 none.1
   not_store (Pair path body word limit remembered) h none =
       valueless (Pair path body word limit remembered) h (codes "store") refl none.0 none.1
-  not_store (Serve port count options script pcap) h none =
-      valueless (Serve port count options script pcap) h (codes "store") refl none.0 none.1
+  not_store (Serve port count options script pcap journal) h none =
+      valueless (Serve port count options script pcap journal) h (codes "store") refl none.0 none.1
   not_store (Ask server path what options pcap) h none =
       valueless (Ask server path what options pcap) h (codes "store") refl none.0 none.1
   not_store (Discover server options pcap) h none =

@@ -76,8 +76,8 @@ has_path (DumpCapture file chart) name v h takes =
     absurd (another with_path (DumpCapture file chart) name v h refl (on_path_list name v takes))
 has_path (Answer path body datagram) name v h takes = (path, h.1, h.2)
 has_path (Pair path body word limit remembered) name v h takes = (path, h.1, h.2)
-has_path (Serve port count options script pcap) name v h takes =
-    absurd (another with_path (Serve port count options script pcap) name v h refl (on_path_list name v takes))
+has_path (Serve port count options script pcap journal) name v h takes =
+    absurd (another with_path (Serve port count options script pcap journal) name v h refl (on_path_list name v takes))
 has_path (Ask server path what options pcap) name v h takes = place_path name v server path what h.1 takes
 has_path (Discover server options pcap) name v h takes =
     absurd (another with_path (Discover server options pcap) name v h refl (on_path_list name v takes))
@@ -128,8 +128,8 @@ not_body (Answer path body datagram) name v h (sends, word, is, none) =
     another senders (Answer path body datagram) name v h refl (is_sender name sends)
 not_body (Pair path body own limit remembered) name v h (sends, word, is, none) =
     another senders (Pair path body own limit remembered) name v h refl (is_sender name sends)
-not_body (Serve port count options script pcap) name v h (sends, word, is, none) =
-    another senders (Serve port count options script pcap) name v h refl (is_sender name sends)
+not_body (Serve port count options script pcap journal) name v h (sends, word, is, none) =
+    another senders (Serve port count options script pcap journal) name v h refl (is_sender name sends)
 not_body (Ask server path what options pcap) name v h (sends, word, is, none) =
     body_at name v server path what h.1 sends word is none
 not_body (Discover server options pcap) name v h (sends, word, is, none) =
@@ -155,8 +155,8 @@ not_ends (Answer path body datagram) why name v h (takes, none) =
 not_ends (Pair path body word limit remembered) why name v h (takes, none) =
     another (alone (codes "sim")) (Pair path body word limit remembered) name v h
     refl (is_alone (codes "sim") name takes)
-not_ends (Serve port count options script pcap) why name v h (takes, none) =
-    another (alone (codes "sim")) (Serve port count options script pcap) name v h
+not_ends (Serve port count options script pcap journal) why name v h (takes, none) =
+    another (alone (codes "sim")) (Serve port count options script pcap journal) name v h
     refl (is_alone (codes "sim") name takes)
 not_ends (Ask server path what options pcap) why name v h (takes, none) =
     another (alone (codes "sim")) (Ask server path what options pcap) name v h refl (is_alone (codes "sim") name takes)
@@ -177,8 +177,8 @@ has_bytes (DumpCapture file chart) name v h fine =
 has_bytes (Answer path body datagram) name v h fine = (datagram.items, h.4)
 has_bytes (Pair path body word limit remembered) name v h fine =
     absurd (another with_hex (Pair path body word limit remembered) name v h refl (has_hex name v fine))
-has_bytes (Serve port count options script pcap) name v h fine =
-    absurd (another with_hex (Serve port count options script pcap) name v h refl (has_hex name v fine))
+has_bytes (Serve port count options script pcap journal) name v h fine =
+    absurd (another with_hex (Serve port count options script pcap journal) name v h refl (has_hex name v fine))
 has_bytes (Ask server path what options pcap) name v h fine =
     absurd (another with_hex (Ask server path what options pcap) name v h refl (has_hex name v fine))
 has_bytes (Discover server options pcap) name v h fine =

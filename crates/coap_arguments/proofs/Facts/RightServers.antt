@@ -71,8 +71,8 @@ not_no_path (Answer path body datagram) name v h wrong =
     another askers (Answer path body datagram) name v h refl (is_asker name wrong.0)
 not_no_path (Pair path body word limit remembered) name v h wrong =
     another askers (Pair path body word limit remembered) name v h refl (is_asker name wrong.0)
-not_no_path (Serve port count options script pcap) name v h wrong =
-    another askers (Serve port count options script pcap) name v h refl (is_asker name wrong.0)
+not_no_path (Serve port count options script pcap journal) name v h wrong =
+    another askers (Serve port count options script pcap journal) name v h refl (is_asker name wrong.0)
 not_no_path (Ask server path what options pcap) name v h wrong = no_path_at name v server path what h.1 wrong
 not_no_path (Discover server options pcap) name v h wrong =
     another askers (Discover server options pcap) name v h refl (is_asker name wrong.0)
@@ -124,8 +124,8 @@ module _ (words : List Text) (name : Text) (v : List Row) (e : Enters words name
       absurd (without (Answer path body datagram) h refl text rest uri)
   place_of (Pair path body word limit remembered) h text rest uri =
       absurd (without (Pair path body word limit remembered) h refl text rest uri)
-  place_of (Serve port count options script pcap) h text rest uri =
-      absurd (without (Serve port count options script pcap) h refl text rest uri)
+  place_of (Serve port count options script pcap journal) h text rest uri =
+      absurd (without (Serve port count options script pcap journal) h refl text rest uri)
   place_of (Ask server path what options pcap) h text rest uri = asked_place name v server path what h.0 h.1
   place_of (Discover server options pcap) h text rest uri = own_place name v server h.1
   place_of (Ping server options pcap) h text rest uri = own_place name v server h.1
@@ -156,7 +156,7 @@ module _ (words : List Text) (name : Text) (v : List Row) (e : Enters words name
   not_host (DumpCapture file chart) h wrong = hostless (DumpCapture file chart) h refl wrong
   not_host (Answer path body datagram) h wrong = hostless (Answer path body datagram) h refl wrong
   not_host (Pair path body word limit remembered) h wrong = hostless (Pair path body word limit remembered) h refl wrong
-  not_host (Serve port count options script pcap) h wrong = hostless (Serve port count options script pcap) h refl wrong
+  not_host (Serve port count options script pcap journal) h wrong = hostless (Serve port count options script pcap journal) h refl wrong
   not_host (Ask server path what options pcap) h wrong =
       host_at name v (asked_place name v server path what h.0 h.1) wrong
   not_host (Discover server options pcap) h wrong = host_at name v (own_place name v server h.1) wrong

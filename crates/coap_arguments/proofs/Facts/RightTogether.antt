@@ -13,6 +13,7 @@ use Rattle.coap_arguments.specs.declared.orders.What.TheVariants.{Get, Put, Post
 use Rattle.coap_arguments.specs.declared.orders.Wrong.TheVariants.{Together}
 use Rattle.coap_arguments.specs.declared.refusals.TogetherRefusal.{TogetherRefusal}
 use Rattle.coap_arguments.specs.declared.refusals.TogetherRefusal.TheVariants.{Count, Etag, Hex, Json, Trace, Chart}
+use Rattle.coap_arguments.specs.declared.refusals.TogetherRefusal.TheVariants.{Script}
 
 -- ---- what is asked for
 
@@ -54,8 +55,8 @@ of_get (Answer path body datagram) name v h get =
 of_get (Pair path body word limit remembered) name v h get =
     absurd (another (alone (codes "get")) (Pair path body word limit remembered) name v h
     refl (is_alone (codes "get") name get))
-of_get (Serve port count options script pcap) name v h get =
-    absurd (another (alone (codes "get")) (Serve port count options script pcap) name v h
+of_get (Serve port count options script pcap journal) name v h get =
+    absurd (another (alone (codes "get")) (Serve port count options script pcap journal) name v h
     refl (is_alone (codes "get") name get))
 of_get (Ask server path what options pcap) name v h get =
     elim h.1 [
@@ -87,8 +88,8 @@ of_observe (Answer path body datagram) name v h is =
 of_observe (Pair path body word limit remembered) name v h is =
     absurd (another (alone (codes "observe")) (Pair path body word limit remembered) name v h
     refl (is_alone (codes "observe") name is))
-of_observe (Serve port count options script pcap) name v h is =
-    absurd (another (alone (codes "observe")) (Serve port count options script pcap) name v h
+of_observe (Serve port count options script pcap journal) name v h is =
+    absurd (another (alone (codes "observe")) (Serve port count options script pcap journal) name v h
     refl (is_alone (codes "observe") name is))
 of_observe (Ask server path what options pcap) name v h is =
     elim h.1 [
@@ -120,7 +121,7 @@ of_serve (Answer path body datagram) name v h serves =
 of_serve (Pair path body word limit remembered) name v h serves =
     absurd (another (alone (codes "serve")) (Pair path body word limit remembered) name v h
     refl (is_alone (codes "serve") name serves))
-of_serve (Serve port count options script pcap) name v h serves = h.3
+of_serve (Serve port count options script pcap journal) name v h serves = h.3
 of_serve (Ask server path what options pcap) name v h serves =
     absurd (another (alone (codes "serve")) (Ask server path what options pcap) name v h
     refl (is_alone (codes "serve") name serves))
@@ -146,8 +147,8 @@ of_dump (Answer path body datagram) name v h apart =
 of_dump (Pair path body word limit remembered) name v h apart =
     absurd (another (alone (codes "dump")) (Pair path body word limit remembered) name v h
     refl (is_alone (codes "dump") name apart.0))
-of_dump (Serve port count options script pcap) name v h apart =
-    absurd (another (alone (codes "dump")) (Serve port count options script pcap) name v h
+of_dump (Serve port count options script pcap journal) name v h apart =
+    absurd (another (alone (codes "dump")) (Serve port count options script pcap journal) name v h
     refl (is_alone (codes "dump") name apart.0))
 of_dump (Ask server path what options pcap) name v h apart =
     absurd (another (alone (codes "dump")) (Ask server path what options pcap) name v h
@@ -178,12 +179,16 @@ not_together order Hex name v h (observes, json, hex) = elim (of_observe order n
   | inl no_json ↦ no_json json
   | inr no_hex ↦ no_hex hex
 ]
-not_together order Json name v h (serves, json, no_changes) = elim (of_serve order name v h serves) [
+not_together order Json name v h (serves, json, no_changes) = elim (of_serve order name v h serves).0 [
   | inl no_json ↦ no_json json
   | inr both ↦ no_changes both.0
 ]
-not_together order Trace name v h (serves, json, trace) = elim (of_serve order name v h serves) [
+not_together order Trace name v h (serves, json, trace) = elim (of_serve order name v h serves).0 [
   | inl no_json ↦ no_json json
   | inr both ↦ both.1 trace
 ]
 not_together order Chart name v h apart = of_dump order name v h apart
+not_together order Script name v h (serves, journal, script, kept, said) = elim (of_serve order name v h serves).1 [
+  | inl none ↦ absurd (cc (sym none ∙ kept))
+  | inr none ↦ absurd (cc (sym none ∙ said))
+]

@@ -5,6 +5,7 @@ use coap_commands::{Addresses, Printing, Status, command, sim_with};
 use coap_types::{Endpoint, Path, Remembered};
 use std::alloc::AllocError;
 use std::fs;
+use std::fs::File;
 use std::net::Net;
 use std::process::Abort;
 use std::random::RandomSource;
@@ -109,7 +110,7 @@ fn a_chart_of_ends_at_chosen_addresses(rt: HostRuntime) -> Result<(), Fail> {
 }
 
 // The first line of what is said of these words, which are wrong.
-fn check_said<R: Abort + AllocGlobal + Files + Net + Clock + RandomSource>(
+fn check_said<R: Abort + AllocGlobal + Files<File = File> + Net + Clock + RandomSource>(
     rt: &R,
     words: &[&str],
     said: &str,

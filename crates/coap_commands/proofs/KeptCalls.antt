@@ -1,0 +1,110 @@
+-- A server that commits each input to its journal is turned as one without: by what it is handed, and what is taken.
+use Rattle.std.proofs.Common.{◌≡◌, ◌≢◌, ◌⊎◌, ◌≤◌, ◌+◌, ◌^◌, ℕ, Bool, false, true, List, [], ◌∷◌, Option, Some, arith, if◌then◌else◌}
+use Rattle.std.proofs.Common.{ap, inl, inr, refl, subst, sym, ◌∙◌, ◌++◌, ◌<◌, Err, IfOk, Ok, Result, get_or, length, take}
+use Rattle.std.proofs.lemmas.List.{take_more}
+use Rattle.coap_types.specs.declared.endpoint.Endpoint.{Endpoint}
+use Rattle.coap_layer.specs.Trace as layer
+use Rattle.coap_journal.specs.Input.{Feed, Tick}
+use Rattle.coap_journaled.specs.Journal.{IsNoted, IsTaken, Journal, Rests, is_open}
+use Rattle.coap_journaled.specs.Runs.{end_gives}
+use Rattle.coap_kept.specs.Keeping.{IsCommitted}
+use Rattle.coap_kept.proofs.GoingOn.{same_end}
+use Rattle.coap_links.specs.Carried.{Packet}
+use Rattle.coap_links.specs.Turning.{Turns}
+use Rattle.coap_links.specs.declared.tally.Tally.{Tally}
+use Rattle.coap_server.specs.Led.{State, Step}
+use Rattle.coap_server.specs.Trace.{NextOut, Ticks}
+use Rattle.coap_server.specs.Trace.{Feeds as FedIn}
+use Rattle.coap_arguments.specs.declared.orders.Hold.{Hold}
+use Rattle.coap_commands.specs.Kept.{HoldsEach, HoldsMissing}
+use Rattle.coap_commands.specs.Served.{FedFrom}
+use Rattle.coap_commands.proofs.ServedCalls.{FedMost, fed_call, fed_here, fed_less, most_on, most_same, server_feeds}
+use Rattle.coap_commands.proofs.ServedCalls.{server_gives, server_ticks, turn_fed}
+
+abbrev queue : State → List layer.Packet
+queue s = s.layer.queue
+
+module _ {F : Type 0} (appends : F → List ℕ → Bool → F → Type 0) (syncs : F → Bool → F → Type 0) where
+  abbrev waiting : Journal State F → List layer.Packet
+  waiting j = if is_open j then queue j.end else []
+
+  abbrev gives : Journal State F → layer.Packet → Journal State F → Type 0
+  gives j p n = IsTaken j n × end_gives queue server_gives j.end p n.end
+
+  abbrev quiet_feed : Journal State F → ℕ → Endpoint → List ℕ → Type 0
+  quiet_feed j now from bytes = ⊥
+
+  abbrev quiet_tick : Journal State F → ℕ → Type 0
+  quiet_tick j now = Rests j now
+
+  abbrev feeds : Journal State F → ℕ → Endpoint → List ℕ → ℕ → Journal State F → Type 0
+  feeds j now from bytes word n = (m : Journal State F)
+      × (IsNoted j (Feed now from bytes word) m × server_feeds j.end now from bytes word m.end)
+      × IsCommitted appends syncs m n
+
+  abbrev ticks : Journal State F → ℕ → ℕ → Bool → Journal State F → Type 0
+  ticks j now word did n = (m : Journal State F)
+      × ((Rests j now × (did ≡ false) × (m ≡ j))
+      ⊎ (IsNoted j (Tick now word) m × server_ticks j.end now word did m.end))
+      × IsCommitted appends syncs m n
+
+  given : (old : Journal State F) (p : layer.Packet) (new : Journal State F) → gives old p new
+      → FedFrom 0 old.end new.end
+  given old p new is = fed_call 0 old.end new.end (NextOut (Some p)) tt (omega arith) is.1.1
+
+  is_fed : (old : Journal State F) (now : ℕ) (from : Endpoint) (bytes : List ℕ) (word : ℕ) (new : Journal State F)
+      → feeds old now from bytes word new → FedFrom 1 old.end new.end
+  is_fed old now from bytes word new is =
+      let k = is.1.1 in
+      subst (λ (s : State). FedFrom 1 old.end s) (sym (same_end appends syncs is.0 new (is.2, is.3, is.4)))
+      (fed_call 1 old.end is.0.end (FedIn now from bytes word k.0 k.1 k.2 k.3) tt (omega arith) k.4)
+
+  ticked : (old : Journal State F) (now word : ℕ) (did : Bool) (new : Journal State F) → ticks old now word did new
+      → FedFrom 0 old.end new.end
+  ticked old now word did new is =
+      subst (λ (s : State). FedFrom 0 old.end s) (sym (same_end appends syncs is.0 new (is.2, is.3, is.4)))
+      (elim is.1 [
+        | inl rests ↦ fed_here old.end is.0.end (ap (λ (j : Journal State F). j.end) rests.2)
+        | inr noted ↦
+            let k = noted.1 in
+            fed_call 0 old.end is.0.end (Ticks now word k.0 k.1 k.2 k.3 k.4 k.5 did) tt (omega arith) k.6
+      ])
+
+  module _ {L : Type 0} (sends : L → Endpoint → List ℕ → L → Type 0) (receives : L → Option Packet → L → Type 0)
+      (faults : L → ℕ) where
+    -- a turn
+    pub kept_turn : (e : Journal State F) (l : L) (now : ℕ) (t : Tally) (f : Journal State F) (m : L) (u : Tally)
+        → Turns waiting gives sends receives faults quiet_feed feeds quiet_tick ticks e l now t f m u
+        → FedMost t.fed u.fed e.end f.end
+    kept_turn e l now t f m u turn =
+        turn_fed (λ (j : Journal State F). j.end) waiting gives sends receives faults quiet_feed feeds quiet_tick ticks
+        given is_fed ticked e l now t f m u turn
+
+-- so many were fed
+pub enough_fed : (count fed : ℕ) (old new : State) → count ≤ fed → FedMost 0 fed old new → FedFrom count old new
+enough_fed count fed old new most h =
+    let n = h.1 in
+    fed_less count h.0 old new (omega (arith, most, n)) h.2
+
+-- ---- what is held
+
+pub each_more : (at : ℕ) (holds : List Hold) (hold : Hold) (old between new : State) → HoldsEach at holds old between
+    → HoldsMissing at hold.path hold.body.items between new → HoldsEach at (holds ++ hold ∷ []) old new
+each_more at [] hold old between new so one =
+    (new, subst (λ (s : State). HoldsMissing at hold.path hold.body.items s new) so one, refl)
+each_more at (h ∷ holds) hold old between new so one =
+    (so.0, so.1, each_more at holds hold so.0 between new so.2 one)
+
+pub one_each : (at : ℕ) (holds : List Hold) (i : ℕ) (x : Hold) → x ≡ get_or holds i x → i < length holds
+    → (old between new : State) → HoldsEach at (take i holds) old between
+    → HoldsMissing at x.path x.body.items between new → HoldsEach at (take (i + 1) holds) old new
+one_each at holds i x is lt old between new so one =
+    subst (λ (hs : List Hold). HoldsEach at hs old new)
+    (sym (take_more holds i x lt ∙ ap (λ y. take i holds ++ y ∷ []) (sym is)))
+    (each_more at (take i holds) x old between new so one)
+
+-- ---- what an answer comes to
+
+pub if_ok : {X E : Type 0} {P Q : X → Type 0} (r : Result X E) → ((x : X) → P x → Q x) → IfOk r P → IfOk r Q
+if_ok (Ok x) on h = on x h
+if_ok (Err e) on h = tt

@@ -1,0 +1,7 @@
+use Rattle.std.proofs.Common.{◌≡◌, drop, fold}
+use Rattle.coap_commands.specs.Kept.{with_delay_bytes}
+use Rattle.coap_commands.proofs.keeping.add_delays.Given as goal
+
+abbrev pub invariant-loop-delay : goal.invariant-loop-delay
+invariant-loop-delay l =
+    fold with_delay_bytes l.inputs.items (drop l.delay-index l.delays) ≡ fold with_delay_bytes l.fn.inputs.items l.delays

@@ -1,0 +1,60 @@
+//! The file of a journal on a disk.
+
+use coap_journaled::JournalFile;
+use coap_links::Timekeeper;
+use std::fs::OpenFile;
+use std::io;
+use std::io::Write;
+
+/// A sync that takes longer is told of: what waited for it counts against the 100 s within which a datagram arrives.
+pub const SLOW_SYNC_MS: u64 = 10_000;
+
+const _: () = prove!(SLOW_SYNC_MS == 10_000);
+
+/// The file of a journal, of which a slow sync is told on a writer.
+#[derive(Drop)]
+pub struct DiskFile<F, T, W> {
+    file: F,
+    time: T,
+    told: W,
+}
+
+impl<F: Write + OpenFile + Drop, T: Timekeeper + Drop, W: Write + Drop> DiskFile<F, T, W> {
+    /// A file that stands at its end.
+    pub fn new(file: F, time: T, told: W) -> DiskFile<F, T, W> {
+        DiskFile { file, time, told }
+    }
+}
+
+// Tells of a sync that took so many milliseconds, where that is long.
+fn tell_slow<W: Write>(told: &mut W, ms: u64) {
+    if ms > SLOW_SYNC_MS {
+        let _ = writeln!(told, "a sync of the journal took {ms} ms");
+    }
+}
+
+// Syncs a file, and answers how many milliseconds that took.
+fn sync_timed<F: OpenFile, T: Timekeeper>(file: &F, time: &mut T) -> io::Result<u64> {
+    let begin = time.now()?;
+    file.sync_all()?;
+    Ok(time.now()?.since(begin))
+}
+
+impl<F: Write + OpenFile + Drop, T: Timekeeper + Drop, W: Write + Drop> JournalFile
+    for DiskFile<F, T, W> {
+    ghost use Rattle.std.specs.Prelude.{⊤};
+
+    ghost appends = { λ _ _ _ _. ⊤ };
+
+    ghost syncs = { λ _ _ _. ⊤ };
+
+    fn append(&mut self, bytes: &[u8]) -> io::Result<()> {
+        self.file.write_all(bytes)
+    }
+
+    fn sync(&mut self) -> io::Result<()> {
+        let ms = sync_timed(&self.file, &mut self.time)?;
+        tell_slow(&mut self.told, ms);
+        Ok(())
+    }
+}

@@ -1,0 +1,24 @@
+//! A server whose journal is in a file: it goes on from there, and keeps each input before anything goes out.
+//!
+//! [`keep`] opens the file, replays it and begins a further life. What it answers is put into a [`Kept`], which is an
+//! end: what is handed to it is in the file, and the file is synced, before a datagram that comes of it is given out.
+#![tactic(auto)]
+
+mod disk_file;
+mod keeping;
+mod kept;
+mod kept_time;
+mod laws;
+mod machine;
+mod put_away;
+mod revival;
+mod silence;
+
+pub use disk_file::{DiskFile, SLOW_SYNC_MS};
+pub use keeping::{KeepError, Keeping, KeptServer, keep};
+pub use kept::Kept;
+pub use kept_time::KeptTime;
+pub use laws::kept_law;
+pub use machine::{Machine, machine_now};
+pub use revival::{RevivalError, revive};
+pub use silence::be_silent;

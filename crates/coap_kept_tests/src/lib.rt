@@ -1,0 +1,5 @@
+//! Tests of `serve --journal`, by the public calls of `coap_commands`.
+#![tactic(auto)]
+
+#[cfg(test)]
+mod journals;
