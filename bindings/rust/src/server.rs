@@ -102,7 +102,7 @@ impl Server {
     // A server that was replayed, and whose milliseconds at this moment are so many.
     pub(crate) fn replayed(raw: raw::Server, config: &Config, now: Instant, moment: u64) -> Server {
         let around = Surroundings::from(config, now, moment);
-        Server { raw, around, applied: VecDeque::new(), room: vec![0; raw::KS_PATH_ROOM] }
+        Server { raw, around, applied: VecDeque::new(), ended: Vec::new(), room: vec![0; raw::KS_PATH_ROOM] }
     }
 
     // What it took since this was asked last, in the room, which grows to hold it.
