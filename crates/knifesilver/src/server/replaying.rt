@@ -57,12 +57,8 @@ fn begun_server(alloc: Global, beginning: &Beginning) -> Option<MapServer>
     let Some(base) = VersionBase::new(beginning.base) else {
         return None;
     };
-    let Some(store) = MapStore::new_after(
-        alloc,
-        configuration.changes,
-        configuration.limit,
-        base,
-    ) else {
+    let Some(store) = MapStore::new_after(alloc, configuration.changes, configuration.limit, base)
+    else {
         return None;
     };
     let setup = Setup {

@@ -33,6 +33,6 @@ returns-clause-noted c =
     (to_z-of_z {w = w32} {z = done.result} (record { sfits = done.type_inv }))
     c.in-Some.ensures.taken c.as_mut.ensures.value c.put.ensures
     (subst (λ path. IsAnswered done.result → IsNoted (Set given.now path (format_in given.format) given.body.now) given.now
-    (Some c.as_mut.result.now) (Some done.new.held)) c.in-Ok.ensures.spelled 
+    (Some c.as_mut.result.now) (Some done.new.held)) c.in-Ok.ensures.spelled
     (subst (λ format. IsAnswered done.result → IsNoted (Set given.now c.in-Ok.path format given.body.now) given.now
     (Some c.as_mut.result.now) (Some done.new.held)) (c.format_of.ensures ∙ ap format_in (to_z-of_z {w = w32} {z = given.format} c.ranges.format)) done.ensures.noted))

@@ -14,7 +14,7 @@ returns-in-Ok-true-clause-led c = λ _.
     (λ rest. inl (did ∙ ap told rest.0, ap (λ s. Some (Server s)) rest.1, rest.2, rest.3))
     (λ made. inr (
       (λ limits szx setup t led.
-      (_, (made.1, made.2, made.3, made.4, made.5, made.6, _, did, refl), led_further limits szx setup t _ _ _ led made.7)),
+          (_, (made.1, made.2, made.3, made.4, made.5, made.6, _, did, refl), led_further limits szx setup t _ _ _ led made.7)),
       made.0,
     ))
     c.in-Ok-true.ensures.ticked)
@@ -27,7 +27,7 @@ returns-in-Ok-false-clause-led c = λ _.
     (λ rest. inl (did ∙ ap told rest.0, ap (λ s. Some (Server s)) rest.1, rest.2, rest.3))
     (λ made. inr (
       (λ limits szx setup t led.
-      (_, (made.1, made.2, made.3, made.4, made.5, made.6, _, did, refl), led_further limits szx setup t _ _ _ led made.7)),
+          (_, (made.1, made.2, made.3, made.4, made.5, made.6, _, did, refl), led_further limits szx setup t _ _ _ led made.7)),
       made.0,
     ))
     c.in-Ok-false.ensures.ticked)
