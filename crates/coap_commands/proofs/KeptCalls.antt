@@ -56,13 +56,13 @@ module _ {F : Type 0} (appends : F → List ℕ → Bool → F → Type 0) (sync
       → feeds old now from bytes word new → FedFrom 1 old.end new.end
   is_fed old now from bytes word new is =
       let k = is.1.1 in
-      subst (λ (s : State). FedFrom 1 old.end s) (sym (same_end appends syncs is.0 new (is.2, is.3, is.4)))
+      subst (λ (s : State). FedFrom 1 old.end s) (sym (same_end appends syncs is.0 new is.2))
       (fed_call 1 old.end is.0.end (FedIn now from bytes word k.0 k.1 k.2 k.3) tt (omega arith) k.4)
 
   ticked : (old : Journal State F) (now word : ℕ) (did : Bool) (new : Journal State F) → ticks old now word did new
       → FedFrom 0 old.end new.end
   ticked old now word did new is =
-      subst (λ (s : State). FedFrom 0 old.end s) (sym (same_end appends syncs is.0 new (is.2, is.3, is.4)))
+      subst (λ (s : State). FedFrom 0 old.end s) (sym (same_end appends syncs is.0 new is.2))
       (elim is.1 [
         | inl rests ↦ fed_here old.end is.0.end (ap (λ (j : Journal State F). j.end) rests.2)
         | inr noted ↦

@@ -110,7 +110,7 @@ fn said_setup(setup: &[u8]) -> Option<&[u8]>
 
 // What the words say of how a server began.
 fn wishes_of<'a>(options: &ServeOptions, journal: Journal<'_>, setup: &'a [u8]) -> Wishes<'a>
-    ensures { AreWishes options.now journal setup.now result }
+    ensures { AreWishes options.now journal.entry setup.now result }
 {
     Wishes {
         word: said_word(journal.says_word, options.word),
@@ -343,7 +343,110 @@ fn tell_why<E: Write>(name: &str, why: KeepError, err: &mut E) -> Result<Status,
     }
 }
 
+// What the program says of the journal of its server.
+fn keeping_of<'a, R: RandomSource>(
+    rt: &R,
+    options: &ServeOptions,
+    journal: Journal<'_>,
+    name: &'a str,
+    setup: &'a [u8],
+) -> Result<Keeping<'a>, Stop>
+    ensures { IfOk result (λ keeping. AreWishes options.now journal.entry setup.now keeping.wishes) }
+{
+    let drawn = drawn_of(rt, options, journal)?;
+    let wishes = wishes_of(options, journal, setup);
+    Ok(Keeping {
+        name,
+        wishes,
+        drawn,
+        setup,
+    })
+}
+
+// Serves with a server that goes on, by the clock of the program.
+fn go_on_kept<H: BuildHasher + Drop, S, V, C, L, T, W, E>(
+    alloc: Global,
+    kept: KeptServer<H, S, V>,
+    serving: (u16, u64),
+    options: &ServeOptions,
+    changes: Option<C>,
+    link: &mut L,
+    time: T,
+    word: u64,
+    name: &str,
+    out: &mut W,
+    err: &mut E,
+) -> Result<Status, Stop>
+where
+    S: Timekeeper + Drop,
+    V: Write + Drop,
+    C: ChangeTeller<Global> + Drop,
+    L: Link,
+    T: Timekeeper + Drop,
+    W: Write,
+    E: Write,
+    ensures { IfOk result (IsGoneOn serving.1 options.now kept.first.0 (state_of content_of kept.journaled.end)) }
+{
+    let (port, count) = serving;
+    warn(options, port, err);
+    let mut clock = time;
+    let begin = clock.now()?;
+    let first = kept.first;
+    let mut time = KeptTime::new(clock, begin, first);
+    let turns = (count, word);
+    go_on_with(
+        alloc,
+        kept.journaled,
+        first,
+        options,
+        changes,
+        link,
+        &mut time,
+        turns,
+        name,
+        out,
+        err,
+    )
+}
+
 // Serves over a link and goes on from a journal, as the words say, until so many datagrams came.
+fn keep_over<R, L, C, O, E>(
+    rt: &R,
+    link: &mut L,
+    changes: Option<C>,
+    serving: (u16, u64),
+    options: &ServeOptions,
+    journal: Journal<'_>,
+    out: &mut O,
+    err: &RefCell<E>,
+) -> Result<Status, Stop>
+where
+    R: AllocGlobal + Files<File = File> + Clock + RandomSource,
+    L: Link,
+    C: ChangeTeller<Global> + Drop,
+    O: Write,
+    E: Write,
+    ensures { IfOk result (IsServedOn serving.1 options.now journal.entry) }
+{
+    let alloc = rt.alloc();
+    let mut time = ProgramTime::begin(rt)?;
+    let syncs = time.again();
+    let setup = setup_of(alloc, options)?;
+    let name = journal.file;
+    let keeping = keeping_of(rt, options, journal, name, setup.as_slice())?;
+    let word = word_of(rt, WordChoice::Random)?;
+    let hasher = RandomState::new(rt)?;
+    let told = SharedWriter::new(err);
+    let mut said = SharedWriter::new(err);
+    match keep(rt, &keeping, link, &mut time, syncs, told, hasher) {
+        Ok(kept) => go_on_kept(
+            alloc, kept, serving, options, changes, link, time, word, name, out, &mut said,
+        ),
+        Err(why) => tell_why(name, why, &mut said),
+    }
+}
+
+// The same over links of which it is told what passes.
 fn keep_on<R, L, P, F, O, E>(
     rt: &R,
     link: L,
@@ -362,52 +465,18 @@ where
     F: Write + Drop,
     O: Write,
     E: Write,
-    ensures { IfOk result (IsServedOn serving.1 options.now journal) }
+    ensures { IfOk result (IsServedOn serving.1 options.now journal.entry) }
 {
-    let alloc = rt.alloc();
-    let (port, count) = serving;
     let mut time = ProgramTime::begin(rt)?;
     let (standing, file) = capture;
     let began = begin_of(rt, time.now()?)?;
-    let capture = capture_on(standing, alloc, time.again(), began, file);
+    let capture = capture_on(standing, rt.alloc(), time.again(), began, file);
     let link = Trace::new(link, capture);
     let err = RefCell::new(&mut *err);
-    let mut told = SharedWriter(&err);
-    let slow = SharedWriter(&err);
-    let teller = teller_on(alloc, time.again(), &err, FourPeers, tracing);
+    let teller = teller_on(rt.alloc(), time.again(), &err, FourPeers, tracing);
     let mut link = Trace::new(link, teller);
-    let changes = changes_on(alloc, &err, options.changes, options.json);
-    let setup = setup_of(alloc, options)?;
-    let keeping = Keeping {
-        name: journal.file,
-        wishes: wishes_of(options, journal, setup.as_slice()),
-        drawn: drawn_of(rt, options, journal)?,
-        setup: setup.as_slice(),
-    };
-    let word = word_of(rt, WordChoice::Random)?;
-    let hasher = RandomState::new(rt)?;
-    let syncs = time.again();
-    match keep(rt, &keeping, &mut link, &mut time, syncs, slow, hasher) {
-        Ok(KeptServer { journaled, first }) => {
-            warn(options, port, &mut told);
-            let begin = time.now()?;
-            let mut time = KeptTime::new(time, begin, first);
-            go_on_with(
-                alloc,
-                journaled,
-                first,
-                options,
-                changes,
-                &mut link,
-                &mut time,
-                (count, word),
-                journal.file,
-                out,
-                &mut told,
-            )
-        }
-        Err(why) => tell_why(journal.file, why, &mut told),
-    }
+    let changes = changes_on(rt.alloc(), &err, options.changes, options.json);
+    keep_over(rt, &mut link, changes, serving, options, journal, out, &err)
 }
 
 /// Serves at an endpoint of IPv4 and goes on from a journal, as the words say.
@@ -425,7 +494,7 @@ where
     R: AllocGlobal + Files<File = File> + Net + Clock + RandomSource,
     O: Write,
     E: Write,
-    ensures { IfOk result (IsServedOn count options.now journal) }
+    ensures { IfOk result (IsServedOn count options.now journal.entry) }
 {
     let link = UdpLink::bind(rt, address)?;
     let file = capture_in(rt, showing.pcap)?;

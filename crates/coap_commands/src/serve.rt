@@ -302,7 +302,7 @@ fn serve_on_journal<
     out: &mut O,
     err: &mut E,
 ) -> Result<Status, Stop>
-    ensures { IfOk result (IsServedOn count options.now journal) }
+    ensures { IfOk result (IsServedOn count options.now journal.entry) }
 {
     match peer_at(options.address, port) {
         Peer::Four(address) => {
@@ -357,7 +357,7 @@ pub fn serve<R: AllocGlobal + Files<File = File> + Net + Clock + RandomSource, O
     out: &mut O,
     err: &mut E,
 ) -> Result<Status, Stop>
-    ensures { IfOk result (IsServedAsSaid count options.now script.entry journal) }
+    ensures { IfOk result (IsServedAsSaid count options.now script.entry journal.entry) }
 {
     match journal {
         Some(journal) => serve_on_journal(rt, port, count, options, journal, showing, out, err),

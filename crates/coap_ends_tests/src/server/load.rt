@@ -33,7 +33,7 @@ load 247000 remembered=3 partial=1
 load 247001 remembered=0 partial=0
 # The separate response.
 tick 1000
-out D 48450000 02
+out D 41450000 02 480000000000000002 80 ff686f
 load 1000 deferred=0 outstanding=1 ids=65535
 feed 1000 D 60000000
 load 1000 outstanding=0

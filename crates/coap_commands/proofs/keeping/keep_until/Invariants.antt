@@ -4,7 +4,7 @@ use Rattle.coap_commands.proofs.ServedCalls.{FedMost}
 use Rattle.coap_commands.proofs.keeping.keep_until.Given as goal
 
 -- so far the tally counts no more than was fed
-abbrev pub invariant-loop-_turn : goal.invariant-loop-_turn
-invariant-loop-_turn g l =
+abbrev pub invariant-loop-turn : goal.invariant-loop-turn
+invariant-loop-turn g l =
     FedMost 0 l.tally.fed (state_of content_of l.fn.server.end.journaled.end)
     (state_of content_of l.server.end.journaled.end)
