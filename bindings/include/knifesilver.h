@@ -206,7 +206,7 @@ int32_t ks_server_applied(ks_server *handle, ks_applied *done, char *room, size_
  * bodies, observers stay. The file is one frame after the other: how the server began, then its further lives and its
  * turns. You write and sync the file; the library has the format.
  *
- *     read the file; where it is empty (or KS_JOURNAL_NOT_BEGUN): cut it to 0 bytes, append ks_journal_begin, sync, read it
+ *     read the file; where it is empty: append ks_journal_begin, sync, read it
  *     ks_server_replay(&server, file, file_len, &replayed);  cut the file to replayed.end bytes; sync
  *     take each ks_server_next_out, and throw it away
  *     silence = ks_journal_go_on(&replayed, &life, &life.moment);  wait for so long, with the socket unread
@@ -257,7 +257,7 @@ typedef struct {
 /* Why a journal is not replayed. (Want of memory is KS_NO_MEMORY.) */
 enum ks_journal_refusal {
     KS_JOURNAL_DAMAGED = 145,   /* whole frames stand behind one that isn't, which begins at told->end */
-    KS_JOURNAL_NOT_BEGUN = 146, /* no frame is whole: nothing was ever sent */
+    KS_JOURNAL_NOT_BEGUN = 146, /* no frame is whole: no journal, or one of which nothing was ever sent */
     KS_JOURNAL_OTHER_FORMAT = 147, /* another library wrote it */
     KS_JOURNAL_OTHER_LAW = 148, /* .. whose server does otherwise with the same inputs */
     KS_JOURNAL_UNREADABLE = 149, /* a whole frame that holds no record, or a first one that holds no beginning */

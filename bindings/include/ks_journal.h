@@ -110,8 +110,10 @@ static inline int32_t ks_file_replay(ks_file *file, ks_server *server) {
     return answer;
 }
 
-/* Opens the file, with mode 0600 where it is made, and makes the server of it. Where no frame of it is whole it is begun
- * with this configuration and this seed; else these are the file's. errno is EWOULDBLOCK where another program has it. */
+/* Opens the file, with mode 0600 where it is made, and makes the server of it. An empty one is begun with this
+ * configuration and this seed; else these are the file's. One that isn't empty and has no whole frame is refused, and left as
+ * it is (KS_JOURNAL_NOT_BEGUN): no journal, or one that was cut off in its first frame, which can be deleted. errno is
+ * EWOULDBLOCK where another program has the file. */
 static inline int32_t ks_file_open(ks_file *file, ks_server *server, const char *name, const ks_config *config,
                                    const ks_seed *seed) {
     uint8_t begun[KS_FILE_ROOM];
@@ -120,10 +122,10 @@ static inline int32_t ks_file_open(ks_file *file, ks_server *server, const char 
     file->fd = open(name, O_RDWR | O_CREAT | O_CLOEXEC, 0600);
     if (file->fd < 0 || flock(file->fd, LOCK_EX | LOCK_NB) != 0 || !ks_file_boot(&file->life)) return KS_FILE_FAILED;
     int32_t answer = ks_file_replay(file, server);
-    if (answer == KS_JOURNAL_NOT_BEGUN) {
+    if (answer == KS_JOURNAL_NOT_BEGUN && lseek(file->fd, 0, SEEK_END) == 0) {
         answer = ks_journal_begin(config, seed, &file->life, begun, sizeof begun, &len);
         if (answer != KS_DONE) return answer;
-        if (ftruncate(file->fd, 0) != 0 || ks_file_append(file, begun, len) != KS_OK) return KS_FILE_FAILED;
+        if (ks_file_append(file, begun, len) != KS_OK) return KS_FILE_FAILED;
         answer = ks_file_replay(file, server);
     }
     if (answer != KS_OK) return answer;

@@ -59,6 +59,8 @@ pub enum JournalError {
     Memory,
     /// Whole frames stand behind one that isn't, which begins there. The file isn't touched.
     Damaged(u64),
+    /// No frame is whole: no journal, or one that was cut off in its first frame. The file isn't touched.
+    NotBegun,
     /// Another library wrote it.
     OtherFormat,
     /// It is of a server that does otherwise with the same inputs.
@@ -78,6 +80,7 @@ impl fmt::Display for JournalError {
             JournalError::New(error) => error.fmt(f),
             JournalError::Memory => f.write_str("out of memory"),
             JournalError::Damaged(at) => write!(f, "the journal is damaged at byte {at}, and further frames follow"),
+            JournalError::NotBegun => f.write_str("no frame of the journal is whole"),
             JournalError::OtherFormat => f.write_str("a journal of another format"),
             JournalError::OtherLaw => f.write_str("a journal of a server by another law"),
             JournalError::Unreadable => f.write_str("a whole frame of the journal that holds no record"),
@@ -99,6 +102,7 @@ impl From<io::Error> for JournalError {
 fn refused(answer: i32, at: u64) -> JournalError {
     match answer {
         raw::KS_JOURNAL_DAMAGED => JournalError::Damaged(at),
+        raw::KS_JOURNAL_NOT_BEGUN => JournalError::NotBegun,
         raw::KS_JOURNAL_OTHER_FORMAT => JournalError::OtherFormat,
         raw::KS_JOURNAL_OTHER_LAW => JournalError::OtherLaw,
         raw::KS_JOURNAL_UNREADABLE => JournalError::Unreadable,
@@ -120,17 +124,15 @@ pub struct Replayed {
 
 impl Replayed {
     /// Replays the journal in this file, which is open for reading and writing, and locked (`File::try_lock`): no other
-    /// program writes to it. Where no frame of it is whole it is begun with this configuration; else the configuration is
-    /// the file's. A torn frame at its end is cut off.
+    /// program writes to it. An empty one is begun with this configuration; else the configuration is the file's. A torn
+    /// frame at its end is cut off.
     pub fn open(mut file: File, config: &Config, boot: Boot) -> Result<Replayed, JournalError> {
         let (mut raw, mut told, mut bytes) = (raw::Server::empty(), raw::ks_replayed::default(), Vec::new());
         file.seek(SeekFrom::Start(0))?;
         file.read_to_end(&mut bytes)?;
         let mut answer = raw.replay(&bytes, &mut told);
-        if answer == raw::KS_JOURNAL_NOT_BEGUN {
+        if bytes.is_empty() {
             bytes = beginning(config, boot)?;
-            file.set_len(0)?;
-            file.seek(SeekFrom::Start(0))?;
             file.write_all(&bytes)?;
             answer = raw.replay(&bytes, &mut told);
         }

@@ -72,20 +72,32 @@ fn fresh<R: Abort + AllocGlobal>(rt: &R) -> Server<MapStore, Global> {
 }
 
 fn refusal(file: &[u8]) -> Option<OpenError> {
-    open(file).err()
+    match open(file) {
+        Ok(_) => None,
+        Err(why) => Some(why),
+    }
+}
+
+// It is opened, and ends there, before so many torn bytes.
+fn opens<R: Abort>(rt: &R, file: &[u8], end: u64, torn: u64) {
+    match open(file) {
+        Ok(opened) => {
+            assert!(rt; opened.first == LIFE && opened.place == PLACE);
+            assert!(rt; opened.beginning.seed.key1 == 2);
+            assert!(rt; opened.end == end && opened.torn == torn);
+        }
+        Err(_) => assert!(rt; false),
+    }
 }
 
 #[test]
 fn a_file_is_opened(rt: HostRuntime) {
     let mut file = file_of(&rt);
     let whole = file.len() as u64;
-    let opened = open(file.as_slice()).expect(&rt, "a journal");
-    assert!(rt; opened.first == LIFE && opened.place == PLACE && opened.end == whole);
-    assert!(rt; opened.beginning.seed.key1 == 2 && opened.torn == 0);
+    opens(&rt, file.as_slice(), whole, 0);
     // A torn frame is none.
     file.extend_from_slice(b"torn").expect(&rt, "memory");
-    let opened = open(file.as_slice()).expect(&rt, "a journal");
-    assert!(rt; opened.end == whole && opened.torn == 4);
+    opens(&rt, file.as_slice(), whole, 4);
 }
 
 #[test]
@@ -109,13 +121,15 @@ fn a_file_is_refused_by_name(rt: HostRuntime) {
 }
 
 fn replayed<R: Abort + AllocGlobal>(rt: &R, file: &[u8]) -> Result<OurNoted, ReplayError> {
-    let opened = open(file).expect(rt, "a journal");
-    match replay(rt.alloc(), fresh(rt), &opened) {
-        Ok((server, done)) => {
-            assert!(rt; done.latest == Moment(100) && done.life == LIFE);
-            Ok(server)
-        }
-        Err(why) => Err(why),
+    match open(file) {
+        Ok(opened) => match replay(rt.alloc(), fresh(rt), &opened) {
+            Ok((server, done)) => {
+                assert!(rt; done.latest == Moment(100) && done.life == LIFE);
+                Ok(server)
+            }
+            Err(why) => Err(why),
+        },
+        Err(_) => Err(ReplayError::Unreadable),
     }
 }
 
