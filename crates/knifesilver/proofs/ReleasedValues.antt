@@ -1,7 +1,8 @@
 -- How the machine stores a `Released`: the pointer, then the allocator. Assumes `Logic`.
 use Rattle.knifesilver.proofs.Walking.{◌≡◌, ℕ, List, [], ◌∷◌, ◌++◌, refl, subst, true, ◌&&◌, Good}
 use Rattle.knifesilver.proofs.Walking.{Val, vptr, vstruct, vcons, vnil, of_list}
-use Rattle.knifesilver.proofs.Walking.{Item, Goal, Seq, Step, step, ‵, ◌$◌, move, drop, fsplit, fjoin, fpick, fpack, feq_i, feq_l}
+use Rattle.knifesilver.proofs.Walking.{Item, Goal, Seq, Step, step, ‵, ◌$◌, move, drop, fsplit, fjoin, fpick, fpack}
+use Rattle.knifesilver.proofs.Walking.{feq_i, feq_l}
 use Rattle.knifesilver.proofs.Walking.{RattleType, Ptr, block_ptr, null_ptr, ptr_val, in_a_block, nothing, layout}
 use lib.Dec.{T}
 use seplogic.Ra.Ura.{Ura}

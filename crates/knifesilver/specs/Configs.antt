@@ -7,7 +7,8 @@ use Rattle.coap_resource.specs.Base.{IsBase}
 use Rattle.coap_resource.specs.declared.tally.TheConstants.{MAX_CHANGES_PER_WINDOW as max_changes}
 use Rattle.knifesilver.specs.declared.answers.TheConstants.{BAD_BASE as bad_base, BAD_BLOCK_SIZE as bad_block_size}
 use Rattle.knifesilver.specs.declared.answers.TheConstants.{BAD_SIZE as bad_size}
-use Rattle.knifesilver.specs.declared.answers.TheConstants.{BAD_BODY_LIMIT as bad_body_limit, BAD_CHANGES as bad_changes}
+use Rattle.knifesilver.specs.declared.answers.TheConstants.{BAD_BODY_LIMIT as bad_body_limit}
+use Rattle.knifesilver.specs.declared.answers.TheConstants.{BAD_CHANGES as bad_changes}
 use Rattle.knifesilver.specs.declared.answers.TheConstants.{BAD_REMEMBERED as bad_remembered}
 use Rattle.knifesilver.specs.declared.config.KsConfig.{KsConfig}
 use Rattle.knifesilver.specs.declared.config.TheConstants.{CONFIG_LEN as config_len, USUAL_BLOCK as usual_block}

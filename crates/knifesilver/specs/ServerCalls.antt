@@ -1,5 +1,6 @@
 -- Which call of a server an export makes, by what the export was handed and answered.
-use Rattle.std.specs.Prelude.{◌≡◌, ◌≢◌, ◌<◌, ◌⊎◌, ◌^◌, ◌+◌, max, nat_lt, ℕ, ℤ, pos, negsuc, Bool, true, false, List, length, take}
+use Rattle.std.specs.Prelude.{◌≡◌, ◌≢◌, ◌<◌, ◌⊎◌, ◌^◌, ◌+◌, max, nat_lt, ℕ, ℤ, pos, negsuc, Bool, true, false, List}
+use Rattle.std.specs.Prelude.{length, take}
 use Rattle.std.specs.Prelude.{Option, Some, None, Result, Ok, Err}
 use Rattle.coap_types.specs.declared.endpoint.Endpoint.{Endpoint}
 use Rattle.coap_codec.specs.Message.{Message}
@@ -10,7 +11,8 @@ use Rattle.coap_resource.specs.declared.refusal.StoreRefusal.{StoreRefusal}
 use Rattle.coap_exchange.specs.declared.answerer.Asked.{Asked}
 use Rattle.coap_exchange.specs.declared.answerer.Due.{Due}
 use Rattle.coap_server.specs.Led.{State}
-use Rattle.coap_server.specs.Trace.{Applied, Call, Delays, Feeds, Handling, NextOut, Plains, Removes, Sets, TellsApplied, Ticks}
+use Rattle.coap_server.specs.Trace.{Applied, Call, Delays, Feeds, Handling, NextOut, Plains, Removes, Sets}
+use Rattle.coap_server.specs.Trace.{TellsApplied, Ticks}
 use Rattle.coap_server.specs.Turns.WhenDue.{TicksDo, latest}
 use Rattle.knifesilver.specs.declared.crossing.KsAddress.{KsAddress}
 use Rattle.knifesilver.specs.declared.held.Held.{Held}

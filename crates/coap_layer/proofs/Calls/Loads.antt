@@ -1,5 +1,6 @@
 -- How long the lists are that a layer keeps, by what it counts.
-use Rattle.std.proofs.Common.{◌≡◌, ◌≤◌, ◌<◌, ◌+◌, ℕ, suc, arith, Bool, true, false, Option, Some, None, List, [], ◌∷◌, ◌++◌}
+use Rattle.std.proofs.Common.{◌≡◌, ◌≤◌, ◌<◌, ◌+◌, ℕ, suc, arith, Bool, true, false, Option, Some, None, List, [], ◌∷◌}
+use Rattle.std.proofs.Common.{◌++◌}
 use Rattle.std.proofs.Common.{filter, length, refl, ap, sym, ◌∙◌, cond, is_some}
 use Rattle.std.specs.List.{cons_option}
 use Rattle.coap_types.specs.declared.endpoint.Moment.{Moment}

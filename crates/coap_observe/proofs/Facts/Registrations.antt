@@ -1,5 +1,6 @@
 -- The registration of one endpoint and token in the list after each change.
-use Rattle.std.proofs.Common.{◌≡◌, ◌∙◌, ℕ, Bool, true, false, not, ◌&&◌, ◌<◌, ◌≤◌, ◌++◌, List, [], ◌∷◌, length, filter, find}
+use Rattle.std.proofs.Common.{◌≡◌, ◌∙◌, ℕ, Bool, true, false, not, ◌&&◌, ◌<◌, ◌≤◌, ◌++◌, List, [], ◌∷◌, length}
+use Rattle.std.proofs.Common.{filter, find}
 use Rattle.std.proofs.Common.{map}
 use Rattle.std.proofs.Common.{Option, None, Some, option_map, if◌then◌else◌, Decides, refl, ap, sym, subst, arith}
 use Rattle.std.specs.Cmp.Lexicographic.{bytes_decides}

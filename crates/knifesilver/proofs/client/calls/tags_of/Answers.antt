@@ -1,4 +1,5 @@
-use Rattle.std.proofs.Common.{◌≡◌, ◌<◌, ◌+◌, true, Result, Ok, Err, OnOk, ap, arith, [], length, take, sym, length-take-le}
+use Rattle.std.proofs.Common.{◌≡◌, ◌<◌, ◌+◌, true, Result, Ok, Err, OnOk, ap, arith, [], length, take, sym}
+use Rattle.std.proofs.Common.{length-take-le}
 use Rattle.std.proofs.lemmas.Bool.{false≢true}
 use Rattle.core.specs.Result.{is_ok}
 use Rattle.std.proofs.lemmas.Grind.{common_steps}

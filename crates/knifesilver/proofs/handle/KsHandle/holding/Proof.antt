@@ -1,9 +1,12 @@
 -- `holding`: the pointer stays, and the flag is set, so that what was owned is owned by the handle.
-use Rattle.knifesilver.proofs.Walking.{◌≡◌, List, [], ◌∷◌, ◌++◌, refl, sym, subst, Bool, true, Val, vptr, vbool, SProp, ent, emp, id⊢}
-use Rattle.knifesilver.proofs.Walking.{WpFn, ‵, raw, ◌⊛◌, ◌$◌, ◌∵◌, !, qed, by, move, keep, split, fsplit, fjoin, feq_i, use0, suffices}
+use Rattle.knifesilver.proofs.Walking.{◌≡◌, List, [], ◌∷◌, ◌++◌, refl, sym, subst, Bool, true, Val, vptr, vbool}
+use Rattle.knifesilver.proofs.Walking.{SProp, ent, emp, id⊢}
+use Rattle.knifesilver.proofs.Walking.{WpFn, ‵, raw, ◌⊛◌, ◌$◌, ◌∵◌, !, qed, by, move, keep, split, fsplit, fjoin}
+use Rattle.knifesilver.proofs.Walking.{feq_i, use0, suffices}
 use Rattle.knifesilver.proofs.Walking.{stop, fld, of_opd, true_lit, no_more, and_then, returns, enter}
 use Rattle.knifesilver.proofs.Walking.{alloc_all, pass_all, free_all, look_at, get, get_in, sets, agg, sub, whole}
-use Rattle.knifesilver.proofs.Walking.{fact, fact_i, tables, yes, RattleType, owns, types_at, plain, block_ptr, nothing, alive}
+use Rattle.knifesilver.proofs.Walking.{fact, fact_i, tables, yes, RattleType, owns, types_at, plain, block_ptr}
+use Rattle.knifesilver.proofs.Walking.{nothing, alive}
 use Rattle.knifesilver.proofs.Walking.{Stays, stay_dropped, walk_of, Goes-dropped, proved_at, leaves}
 use Rattle.knifesilver.proofs.ReleasedValues.{pair, Row, opens_released}
 use Rattle.knifesilver.proofs.ReleasedValues as released

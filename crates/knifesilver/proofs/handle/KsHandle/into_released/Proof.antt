@@ -1,11 +1,15 @@
 -- `into_released`: by the flag, the pointer with what it owns, or nothing.
 use Rattle.knifesilver.proofs.Walking.{◌≡◌, List, [], ◌∷◌, ◌++◌, refl, sym, subst, ◌∙◌, lit<, true, false}
 use Rattle.knifesilver.proofs.Walking.{Val, vptr, vbool, vcons, vnil, SProp, ent, emp, id⊢, WpFn}
-use Rattle.knifesilver.proofs.Walking.{‵, raw, ◌⊛◌, at_ret, ◌$◌, ◌∵◌, !, qed, by, move, keep, split, fsplit, fjoin, suffices, use0, use1}
+use Rattle.knifesilver.proofs.Walking.{‵, raw, ◌⊛◌, at_ret, ◌$◌, ◌∵◌, !, qed, by, move, keep, split, fsplit, fjoin}
+use Rattle.knifesilver.proofs.Walking.{suffices, use0, use1}
 use Rattle.knifesilver.proofs.Walking.{stop, fld, lit, of_opd, no_more, and_then, first, branches, exec, returns, enter}
-use Rattle.knifesilver.proofs.Walking.{alloc_all, pass_all, free_all, look_at, get, get_in, sets, sets_last, env, agg, sub, whole}
-use Rattle.knifesilver.proofs.Walking.{fact, fact_i, tables, yes, RattleType, owns, types_at, type_at, plain, block_ptr, ptr_val, layout}
-use Rattle.knifesilver.proofs.Walking.{nothing, alive, Stays, stay_dropped, walk_of, Goes-dropped, proved_at, leaves, after, Good}
+use Rattle.knifesilver.proofs.Walking.{alloc_all, pass_all, free_all, look_at, get, get_in, sets, sets_last, env, agg}
+use Rattle.knifesilver.proofs.Walking.{sub, whole}
+use Rattle.knifesilver.proofs.Walking.{fact, fact_i, tables, yes, RattleType, owns, types_at, type_at, plain}
+use Rattle.knifesilver.proofs.Walking.{block_ptr, ptr_val, layout}
+use Rattle.knifesilver.proofs.Walking.{nothing, alive, Stays, stay_dropped, walk_of, Goes-dropped, proved_at, leaves}
+use Rattle.knifesilver.proofs.Walking.{after, Good}
 use Rattle.knifesilver.proofs.ReleasedValues.{pair, Row, closes_released}
 use Rattle.knifesilver.proofs.ReleasedValues as released
 use Rattle.knifesilver.proofs.HandleValues.{triple, End, Heap, Handle, fits, opens_handle, by_held}

@@ -1,8 +1,12 @@
 -- `vacant`: a null pointer and a flag that is not set, so that nothing is owned.
-use Rattle.knifesilver.proofs.Walking.{◌≡◌, List, [], ◌∷◌, ◌++◌, refl, sym, subst, Bool, false, one, Val, vbool, SProp, ent, emp, id⊢}
-use Rattle.knifesilver.proofs.Walking.{WpFn, ‵, raw, ◌⊛◌, ◌$◌, ◌∵◌, !, qed, by, move, keep, split, fsplit, fjoin, feq_i, use0, rewrite, suffices}
-use Rattle.knifesilver.proofs.Walking.{lit, false_lit, no_more, and_then, returns, enter, alloc_all, pass_all, free_all, look_at, get, sets, agg}
-use Rattle.knifesilver.proofs.Walking.{fact, fact_i, tables, yes, owns, types_at, plain, null_ptr, ptr_val, layout, nothing, alive}
+use Rattle.knifesilver.proofs.Walking.{◌≡◌, List, [], ◌∷◌, ◌++◌, refl, sym, subst, Bool, false, one, Val, vbool}
+use Rattle.knifesilver.proofs.Walking.{SProp, ent, emp, id⊢}
+use Rattle.knifesilver.proofs.Walking.{WpFn, ‵, raw, ◌⊛◌, ◌$◌, ◌∵◌, !, qed, by, move, keep, split, fsplit, fjoin}
+use Rattle.knifesilver.proofs.Walking.{feq_i, use0, rewrite, suffices}
+use Rattle.knifesilver.proofs.Walking.{lit, false_lit, no_more, and_then, returns, enter, alloc_all, pass_all}
+use Rattle.knifesilver.proofs.Walking.{free_all, look_at, get, sets, agg}
+use Rattle.knifesilver.proofs.Walking.{fact, fact_i, tables, yes, owns, types_at, plain, null_ptr, ptr_val, layout}
+use Rattle.knifesilver.proofs.Walking.{nothing, alive}
 use Rattle.knifesilver.proofs.Walking.{Stays, stay_dropped, walk_of, Goes-dropped, proved_at, leaves}
 use Rattle.knifesilver.proofs.HandleValues.{triple, End, Heap, fits, closes_handle}
 use Rattle.std.proofs.alloc.Global.TheLaws as heap_laws

@@ -1,10 +1,12 @@
 -- `claim`: what was owned with the pointer is owned by a box.
 use Rattle.knifesilver.proofs.Walking.{◌≡◌, List, [], ◌∷◌, ◌++◌, refl, sym, ap, subst, Good, after}
 use Rattle.knifesilver.proofs.Walking.{Val, vptr, SProp, ent, id⊢, WpFn}
-use Rattle.knifesilver.proofs.Walking.{‵, raw, ◌⊛◌, some, later, at_ret, ◌$◌, ◌∵◌, !, qed, by, move, keep, drop, split, split3, join, fsplit, fjoin}
+use Rattle.knifesilver.proofs.Walking.{‵, raw, ◌⊛◌, some, later, at_ret, ◌$◌, ◌∵◌, !, qed, by, move, keep, drop}
+use Rattle.knifesilver.proofs.Walking.{split, split3, join, fsplit, fjoin}
 use Rattle.knifesilver.proofs.Walking.{pick, suffices, use1, await, rewrite, feq_i}
 use Rattle.knifesilver.proofs.Walking.{stop, fld, of_opd, no_more, and_then, first, blocks, exec, returns, enter}
-use Rattle.knifesilver.proofs.Walking.{alloc_all, pass_all, free_all, look_at, get, get_in, sets, lands_last, env, sub, whole}
+use Rattle.knifesilver.proofs.Walking.{alloc_all, pass_all, free_all, look_at, get, get_in, sets, lands_last, env}
+use Rattle.knifesilver.proofs.Walking.{sub, whole}
 use Rattle.knifesilver.proofs.Walking.{fact, tables, no, RattleType, owns, types_at, plain, block_ptr, nothing, only}
 use Rattle.knifesilver.proofs.Walking.{param, layout, bounded, Stays, stay_dropped, walk_of, proved_at, leaves}
 use Rattle.knifesilver.proofs.ReleasedValues.{pair, Row, fits, opens_released}

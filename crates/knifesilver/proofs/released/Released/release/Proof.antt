@@ -1,12 +1,16 @@
 -- `release`: what the box owned is owned with its pointer.
 use Rattle.knifesilver.proofs.Walking.{◌≡◌, List, [], ◌∷◌, ◌++◌, refl, sym, ap, ◌∙◌, subst}
 use Rattle.knifesilver.proofs.Walking.{Val, vstruct, vptr, of_list, SProp, ent, emp, id⊢, WpFn}
-use Rattle.knifesilver.proofs.Walking.{‵, raw, ◌⊛◌, some, later, ◌$◌, ◌∵◌, !, qed, by, move, keep, drop, split, split3, join, fsplit, fjoin}
+use Rattle.knifesilver.proofs.Walking.{‵, raw, ◌⊛◌, some, later, ◌$◌, ◌∵◌, !, qed, by, move, keep, drop, split}
+use Rattle.knifesilver.proofs.Walking.{split3, join, fsplit, fjoin}
 use Rattle.knifesilver.proofs.Walking.{fpick, pick, suffices, use0, use1, await, rewrite, feq_l}
 use Rattle.knifesilver.proofs.Walking.{stop, fld, of_opd, no_more, and_then, returns, enter}
-use Rattle.knifesilver.proofs.Walking.{alloc_all, pass_all, free_all, look_at, get, get_in, sets, lands_as, agg, sub, whole}
-use Rattle.knifesilver.proofs.Walking.{fact, fact_i, tables, no, RattleType, owns, types_at, plain, Ptr, block_ptr, null_ptr, ptr_val, in_a_block}
-use Rattle.knifesilver.proofs.Walking.{nothing, only, heard, param, layout, bounded, Stays, stay_dropped, walk_of, proved_at, leaves}
+use Rattle.knifesilver.proofs.Walking.{alloc_all, pass_all, free_all, look_at, get, get_in, sets, lands_as, agg, sub}
+use Rattle.knifesilver.proofs.Walking.{whole}
+use Rattle.knifesilver.proofs.Walking.{fact, fact_i, tables, no, RattleType, owns, types_at, plain, Ptr, block_ptr}
+use Rattle.knifesilver.proofs.Walking.{null_ptr, ptr_val, in_a_block}
+use Rattle.knifesilver.proofs.Walking.{nothing, only, heard, param, layout, bounded, Stays, stay_dropped, walk_of}
+use Rattle.knifesilver.proofs.Walking.{proved_at, leaves}
 use Rattle.knifesilver.proofs.ReleasedValues.{pair, fits, closes_released}
 use mir.Syntax.{a_type, dcons, dnil}
 use mir.Raw.{raw as bare}
