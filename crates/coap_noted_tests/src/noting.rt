@@ -1,6 +1,6 @@
 //! What a server took is told as a turn, and nothing goes out before that.
 use coap_noted::{Noted, Notes, Untold};
-use coap_resource::{MAX_CHANGES_PER_WINDOW, MapStore, Store, StoreRefusal};
+use coap_resource::{MAX_CHANGES_PER_WINDOW, MapStore, Store};
 use coap_server::Server;
 use coap_types::{Endpoint, Moment, Path, Szx};
 use std::alloc::{AllocGlobal, Global};
@@ -135,23 +135,4 @@ fn local_changes_are_told(rt: HostRuntime) {
     assert!(rt; server.remove(Moment(6), &t).expect(&rt, "memory") == Ok(true));
     assert!(rt; server.remove(Moment(6), &t).expect(&rt, "memory") == Ok(false));
     tells(&rt, &mut server, LOCAL);
-}
-
-// A body that is too large for the store: it is refused, and noted, since its moment counts.
-const REFUSED: &str = "09 0000000000000007 0000000000000000
-    03 0000000000000007 000000 01 00000001 74 00000003 797979";
-
-#[test]
-fn what_is_refused_is_told(rt: HostRuntime) {
-    let mut server = noting(&rt);
-    let t = path(&rt, "t");
-    for number in 0..256 {
-        let name = [b'a' + (number / 16) as u8, b'a' + (number % 16) as u8];
-        let mut other = Path::new(rt.alloc());
-        other.push(&name).expect(&rt, "a segment");
-        assert!(rt; server.set(Moment(7), &other, None, b"").is_ok());
-    }
-    server.begin_anew();
-    assert!(rt; server.set(Moment(7), &t, None, b"yyy") == Err(StoreRefusal::TooManyPaths));
-    tells(&rt, &mut server, REFUSED);
 }
