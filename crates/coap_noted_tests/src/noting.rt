@@ -116,8 +116,8 @@ fn without_notes_nothing_is_told(rt: HostRuntime) {
     assert!(rt; code_out(&mut server) == CREATED);
 }
 
-// A change of /t to "y" in format 0 at 5 ms, a delay of 500 ms, a plain path, the removal at 6 ms; and a path that holds
-// nothing any more.
+// A change of /t to "y" in format 0 at 5 ms, a delay of 500 ms, a plain path, the removal at 6 ms; and a path that
+// holds nothing any more.
 const LOCAL: &str = "09 0000000000000006 0000000000000000
     03 0000000000000005 010000 01 00000001 74 00000001 79
     05 00000000000001f4 01 00000001 74
