@@ -8,6 +8,11 @@ from typing import Iterator, List, Set, Tuple
 from .tables import Argument, Problem, Program, Subcommand
 
 _HEAD = '.\\" Made by tools/words from the tables of the program; change those.'
+#: What the one variable of the environment says that is read.
+_NO_COLOR = (
+    "With a value of it nothing is in colours. Else the lines of --trace are, where standard error is a terminal, and "
+    "the rows of --chart, where standard output is one."
+)
 #: What Ctrl-C leaves behind, by subcommands.
 _INTERRUPTED = (
     (
@@ -114,6 +119,7 @@ def page(program: Program) -> str:
     lines += [".SH OPTIONS", *_of_options(program), ".SH EXIT STATUS"]
     for number, said in program.statuses:
         lines += _paragraph(f"\\fB{number}\\fR", _line(said))
+    lines += [".SH ENVIRONMENT", *_paragraph("\\fBNO_COLOR\\fR", _line(_NO_COLOR))]
     lines += [".SH WHEN IT IS INTERRUPTED", *_of_interrupts(program)]
     lines += [".SH SEE ALSO", "RFC 7252 (CoAP), RFC 7641 (observations), RFC 7959 (bodies in blocks)"]
     return "\n".join(lines) + "\n"

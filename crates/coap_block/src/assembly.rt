@@ -1,5 +1,5 @@
 //! The server's side of a Block1 transfer: it joins the blocks of an upload (RFC 7959, section 2.5).
-ghost use Rattle.std.specs.Prelude.{◌≡◌, ◌≤◌, ◌+◌, true, None, Some, IfOk, OnOk, OnErr, IsOk, IsSome, length, max};
+ghost use Rattle.std.specs.Prelude.{◌≡◌, ◌≤◌, ◌+◌, true, None, Some, IfOk, OnOk, OnErr, IsOk, IsSome, length};
 ghost use Rattle.std.specs.Prelude.{vec_len, vec_capacity};
 ghost use Rattle.coap_block.specs.Sizes.{usual_sizes};
 ghost use Rattle.coap_block.specs.AssemblyState.{body_with, forgotten, nothing_yet, with_payload};
@@ -104,7 +104,7 @@ impl<A: Allocator + Copy> Assembly<A> {
     {
         let num = block.num;
         let was = self.clock;
-        let at = later(was, now);
+        let at = was.later(now);
         let (reached, others) = counts(&self.partials, key, at);
         let verdict = judge(self.szx, self.limit, reached, others, block, payload.len());
         let arrival = Arrival {
@@ -134,13 +134,6 @@ impl<A: Allocator + Copy> Assembly<A> {
             restore(&mut self.partials, before.change);
         }
     }
-}
-
-// The later of two moments.
-fn later(a: Moment, b: Moment) -> Moment
-    ensures { result.0 ≡ max a.0 b.0 }
-{
-    Moment(a.0.max(b.0))
 }
 
 // Does what the verdict says: the answer, and what `undo` is to take back.

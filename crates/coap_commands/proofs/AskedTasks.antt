@@ -10,7 +10,7 @@ use Rattle.coap_commands.specs.Tasks.{Does, DoesAt, IsAsked, IsDiscovered, IsDis
 use Rattle.coap_commands.specs.Watches.{Again, IsNext, Watches, anew, first}
 use Rattle.coap_commands.specs.declared.asking.Task.{Task}
 use Rattle.coap_commands.specs.declared.asking.Task.TheVariants.{Discovery, Observation, Polling, Request, Watch}
-use Rattle.coap_commands.specs.declared.watching.Left.{Left}
+use Rattle.coap_commands.specs.declared.anew.Left.{Left}
 use Rattle.coap_scripts.specs.declared.status.Status.{Status}
 use Rattle.coap_scripts.specs.declared.status.Stop.{Stop}
 

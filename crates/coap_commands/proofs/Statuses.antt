@@ -22,8 +22,8 @@ use Rattle.coap_commands.specs.Tasks.{Does, IsAsked, IsDiscovered}
 use Rattle.coap_commands.specs.Watches.{reported, verdict}
 use Rattle.coap_commands.specs.declared.asking.Task.{Task}
 use Rattle.coap_commands.specs.declared.asking.Task.TheVariants as tasks
-use Rattle.coap_commands.specs.declared.watching.Left.{Left}
-use Rattle.coap_commands.specs.declared.watching.Left.TheVariants.{Ended, Silent}
+use Rattle.coap_commands.specs.declared.anew.Left.{Left}
+use Rattle.coap_commands.specs.declared.anew.Left.TheVariants.{Ended, Silent}
 use Rattle.coap_arguments.specs.declared.hosts.Server.{Server as ServerSpec}
 use Rattle.coap_types.specs.declared.endpoint.Endpoint.{Endpoint}
 use Rattle.coap_client.specs.Object.CallShown.{shown_request}

@@ -17,8 +17,8 @@ use Rattle.coap_commands.specs.Watches.{MayCancel, TakesReport, TurnsAt, Watches
 use Rattle.coap_commands.specs.Watches.{verdict}
 use Rattle.coap_commands.specs.declared.calling.Outcome.TheVariants.{GaveUp, Refused, Reported}
 use Rattle.coap_commands.specs.declared.watching.Heard.{Heard}
-use Rattle.coap_commands.specs.declared.watching.Left.{Left}
-use Rattle.coap_commands.specs.declared.watching.Left.TheVariants.{Ended, Silent}
+use Rattle.coap_commands.specs.declared.anew.Left.{Left}
+use Rattle.coap_commands.specs.declared.anew.Left.TheVariants.{Ended, Silent}
 use Rattle.coap_scripts.specs.declared.status.Status.{Status}
 use Rattle.coap_scripts.specs.declared.status.Stop.{Stop}
 

@@ -3,6 +3,7 @@ pub mod Asks
 pub mod Bearing
 pub mod Captured
 pub mod Capturing
+pub mod Colours
 pub mod Discovers
 pub mod Dumps
 pub mod Ends

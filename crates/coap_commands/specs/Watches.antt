@@ -22,8 +22,8 @@ use Rattle.coap_commands.specs.Terms.{asked_terms, setup_of, sizes_of}
 use Rattle.coap_commands.specs.Waiting.{HasPassed}
 use Rattle.coap_commands.specs.declared.calling.Outcome.{Outcome}
 use Rattle.coap_commands.specs.declared.calling.Outcome.TheVariants as outcome
-use Rattle.coap_commands.specs.declared.watching.Left.{Left}
-use Rattle.coap_commands.specs.declared.watching.Left.TheVariants as left
+use Rattle.coap_commands.specs.declared.anew.Left.{Left}
+use Rattle.coap_commands.specs.declared.anew.Left.TheVariants as left
 use Rattle.coap_scripts.specs.declared.status.Status.{Status}
 use Rattle.coap_scripts.specs.declared.status.Status.TheVariants as status
 

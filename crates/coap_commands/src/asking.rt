@@ -18,7 +18,8 @@ use crate::progress::progress_on;
 use crate::request::{body_of, request_of};
 use crate::screen::{BesideScreen, Screen, erase};
 use crate::silence::{Silence, SilentLink};
-use crate::sources::{Ends, FourSource, SixSource};
+use crate::sources::{Ends, FourSource, MAX_PEERS, SixSource, names_for};
+use crate::terminal::Showing;
 use crate::timekeeper::{ProgramTime, Timekeeper};
 use crate::told_source::{Telling, ToldSource};
 use crate::tracing::{SharedWriter, Tracing};
@@ -26,8 +27,7 @@ use crate::watching::{Watching, watch_over};
 use crate::word::word_of;
 use bytes::Bytes;
 use coap_arguments::{AskOptions, Server, What};
-use coap_links::{Link, PeerNames, Trace};
-use coap_names::Places;
+use coap_links::{Link, Trace};
 use coap_scripts::{Status, Stop};
 use coap_types::{Endpoint, Path, Request};
 use std::alloc::Global;
@@ -37,12 +37,6 @@ use std::io::Write;
 use std::net::{Net, SocketAddrV6};
 use std::random::RandomSource;
 use std::rt::{Clock, Files};
-
-/// How many peers over IPv6 have names at once: the server, and each endpoint at which a client of it was in the last
-/// 247 s.
-pub(crate) const MAX_PEERS: u32 = 1_024;
-
-const _: () = prove!(MAX_PEERS == 1_024);
 
 /// What a client is handed for what the words ask for.
 #[derive(Drop)]
@@ -172,8 +166,7 @@ fn do_once<L: Link, T: Timekeeper, H: BuildHasher + Drop, O: Write, E: Write>(
 }
 
 // The same, beside a screen, over a link of its own: how far a body is, a long wait, and that nothing is heard, are
-// told
-// of.
+// told of.
 fn ask_on<L: Link + Drop, R: Clock, H: BuildHasher + Drop, O: Write, W: Write>(
     alloc: Global,
     link: L,
@@ -252,17 +245,6 @@ fn ask_from<S: LinkSource, R: Clock, H: BuildHasher + Copy + Drop, O: Write, W: 
     )
 }
 
-/// How it is shown what is asked.
-#[derive(Clone, Copy)]
-pub(crate) struct Showing<'p> {
-    /// The file of a capture.
-    pub pcap: Option<&'p str>,
-    /// Whether standard error is a terminal.
-    pub is_terminal: bool,
-    /// Whether it is one in colour.
-    pub is_coloured: bool,
-}
-
 // The same, over links of which it is told what passes.
 fn ask_told<R: AllocGlobal + Files + Clock + RandomSource, S: Ends + Drop, O: Write, E: Write>(
     rt: &R,
@@ -306,17 +288,6 @@ fn ask_told<R: AllocGlobal + Files + Clock + RandomSource, S: Ends + Drop, O: Wr
     );
     erase(&screen);
     ended
-}
-
-/// Names for so many peers over IPv6 at once.
-pub(crate) fn names_for<R: AllocGlobal + RandomSource>(
-    rt: &R,
-    most: u32,
-) -> Result<PeerNames<RandomState, Global>, Stop> {
-    let Some(places) = Places::new(most) else {
-        return Err(Stop::Memory);
-    };
-    Ok(PeerNames::new(rt.alloc(), places, RandomState::new(rt)?)?)
 }
 
 // The same, over IPv6.

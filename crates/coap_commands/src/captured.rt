@@ -8,6 +8,7 @@ use crate::captured_chart::draw_packets;
 use crate::dump::dump_datagram;
 use coap_codec::decode;
 use coap_pcap::{Fault, LeftOut, Packet, ReadError, left_out, read};
+use coap_print::Printing;
 use coap_scripts::{Status, Stop, stop_of};
 use std::alloc::Global;
 use std::fs;
@@ -79,15 +80,14 @@ fn tell_left_out<W: Write>(left_out: LeftOut, out: &mut W) -> Result<(), Stop> {
 fn show_packets<W: Write>(
     alloc: Global,
     packets: &[Packet<'_>],
-    chart: bool,
+    printing: Printing,
     out: &mut W,
 ) -> Result<Status, Stop>
     ensures { IfOk result (IsPacketsStatus (map seen packets.now)) }
 {
-    if chart {
-        draw_packets(alloc, packets, out)?;
-    } else {
-        print_packets(alloc, packets, out)?;
+    match printing {
+        Printing::Lines => print_packets(alloc, packets, out)?,
+        Printing::Chart(ink) => draw_packets(alloc, ink, packets, out)?,
     }
     tell_left_out(left_out(packets), out)?;
     out.flush()?;
@@ -107,7 +107,7 @@ fn tell_fault<W: Write>(fault: Fault, out: &mut W) -> Result<Status, Stop>
 pub fn show_capture<W: Write>(
     alloc: Global,
     bytes: &[u8],
-    chart: bool,
+    printing: Printing,
     out: &mut W,
 ) -> Result<Status, Stop>
     // A capture is shown with status 0 where each datagram of it spells a message, with 1 where one is at fault, and
@@ -115,7 +115,7 @@ pub fn show_capture<W: Write>(
     ensures { IfOk result (IsCaptureStatus bytes.now) }
 {
     match read(alloc, bytes) {
-        Ok(packets) => show_packets(alloc, packets.as_slice(), chart, out),
+        Ok(packets) => show_packets(alloc, packets.as_slice(), printing, out),
         Err(ReadError::Fault(fault)) => tell_fault(fault, out),
         Err(ReadError::Memory) => Err(Stop::Memory),
     }
@@ -125,7 +125,7 @@ pub fn show_capture<W: Write>(
 pub(crate) fn dump_capture<R: AllocGlobal + Files, W: Write>(
     rt: &R,
     name: &str,
-    chart: bool,
+    printing: Printing,
     out: &mut W,
 ) -> Result<Status, Stop>
     ensures { IfOk result (λ status. (bytes : List ℕ) × IsCaptureStatus bytes status) }
@@ -133,7 +133,7 @@ pub(crate) fn dump_capture<R: AllocGlobal + Files, W: Write>(
     let mut bytes = Vec::new(rt.alloc());
     match fs::open(rt, name) {
         Ok(mut file) => match file.read_to_end(&mut bytes) {
-            Ok(_) => show_capture(rt.alloc(), bytes.as_slice(), chart, out),
+            Ok(_) => show_capture(rt.alloc(), bytes.as_slice(), printing, out),
             Err(error) => Err(stop_of(&error)),
         },
         Err(error) => Err(stop_of(&error)),

@@ -1,7 +1,10 @@
 //! The datagrams of a capture as a chart, for reading: the line of the sender of the first one on the left, that of its
 //! receiver on the right.
+ghost use Rattle.std.specs.Prelude.{◌≡◌};
+ghost use Rattle.coap_commands.specs.Colours.{course_colour};
+
 use coap_pcap::{Addresses, Datagram, Packet, SixEndpoint};
-use coap_print::{DatagramWords, EndpointWords};
+use coap_print::{Colour, DatagramWords, EndpointWords, Ink};
 use coap_scripts::Stop;
 use coap_types::Moment;
 use std::alloc::{AllocError, Global};
@@ -81,6 +84,17 @@ fn course_of(first: Addresses, addresses: Addresses) -> Course {
     }
 }
 
+// The colour of the row of a datagram that goes so.
+fn course_colour(ink: Ink, course: Course) -> Colour
+    ensures { result ≡ course_colour ink course }
+{
+    match (ink, course) {
+        (Ink::Plain, _) | (Ink::Coloured, Course::Elsewhere) => Colour::Usual,
+        (Ink::Coloured, Course::Right) => Colour::Cyan,
+        (Ink::Coloured, Course::Left) => Colour::Green,
+    }
+}
+
 // Words that take no more than so many columns.
 fn fitting(alloc: Global, words: String, room: usize) -> Result<String, AllocError> {
     if words.len() <= room {
@@ -110,6 +124,7 @@ fn text_of(alloc: Global, course: Course, datagram: &Datagram<'_>) -> Result<Str
 // The row of a datagram at this moment.
 fn row_of(
     alloc: Global,
+    ink: Ink,
     ms: u64,
     course: Course,
     datagram: &Datagram<'_>,
@@ -118,10 +133,14 @@ fn row_of(
     let text = text.as_str();
     let (moment, inner) = (MOMENT_WIDTH, INNER_WIDTH);
     let room = INNER_WIDTH - ARROW_WIDTH;
+    let colour = course_colour(ink, course);
+    let (begin, end) = (colour.sign_before(), colour.sign_behind());
     match course {
-        Course::Right => { format!(in alloc; "{ms:>moment$} |--- {text:<room$} --->|\n") }
-        Course::Left => format!(in alloc; "{ms:>moment$} |<--- {text:>room$} ---|\n"),
-        Course::Elsewhere => format!(in alloc; "{ms:>moment$} |{text:<inner$}|\n"),
+        Course::Right => {
+            format!(in alloc; "{begin}{ms:>moment$} |--- {text:<room$} --->|{end}\n")
+        }
+        Course::Left => format!(in alloc; "{begin}{ms:>moment$} |<--- {text:>room$} ---|{end}\n"),
+        Course::Elsewhere => format!(in alloc; "{begin}{ms:>moment$} |{text:<inner$}|{end}\n"),
     }
 }
 
@@ -149,6 +168,7 @@ fn first_of<'a>(packets: &[Packet<'a>]) -> Option<(Moment, Datagram<'a>)> {
 /// Draws the datagrams of these packets, a row each, between the two ends of the first one.
 pub(crate) fn draw_packets<W: Write>(
     alloc: Global,
+    ink: Ink,
     packets: &[Packet<'_>],
     out: &mut W,
 ) -> Result<(), Stop> {
@@ -159,7 +179,7 @@ pub(crate) fn draw_packets<W: Write>(
     for packet in packets {
         if let Ok(datagram) = packet.found {
             let course = course_of(first.addresses, datagram.addresses);
-            let row = row_of(alloc, packet.at.since(begin), course, &datagram)?;
+            let row = row_of(alloc, ink, packet.at.since(begin), course, &datagram)?;
             out.write_all(row.as_bytes())?;
         }
     }

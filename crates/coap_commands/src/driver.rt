@@ -9,7 +9,7 @@ ghost use Rattle.coap_arguments.specs.declared.orders.Wrong.{Wrong};
 ghost use Rattle.coap_arguments.specs.declared.orders.Wrong.TheVariants as wrongs;
 
 use crate::answer::answer;
-use crate::asking::{Showing, ask, discover};
+use crate::asking::{ask, discover};
 use crate::captured::dump_capture;
 use crate::dump::dump;
 use crate::pair::pair;
@@ -17,8 +17,10 @@ use crate::ping::ping;
 use crate::put_away::put_away;
 use crate::serve::serve;
 use crate::show::show;
+use crate::terminal::{NO_TERMINALS, Terminals};
 use crate::version::version;
 use coap_arguments::{Order, Wrong, order};
+use coap_print::Printing;
 use coap_run::Addresses;
 use coap_scripts::{Status, Stop, sim_file};
 use std::io;
@@ -27,33 +29,11 @@ use std::net::Net;
 use std::random::RandomSource;
 use std::rt::{Clock, Files};
 
-/// What standard error is.
-#[derive(Clone, Copy, Debug, PartialEq, Eq)]
-pub enum Terminal {
-    /// No terminal, as a file.
-    Absent,
-    /// A terminal on which nothing is to be in colour.
-    Plain,
-    /// A terminal on which colours may be.
-    Coloured,
-}
-
-impl Terminal {
-    // How it is shown there what is asked, and in this file what passes.
-    fn showing<'p>(self, pcap: Option<&'p str>) -> Showing<'p> {
-        Showing {
-            pcap,
-            is_terminal: self != Terminal::Absent,
-            is_coloured: self == Terminal::Coloured,
-        }
-    }
-}
-
-// Carries an order out. Standard error may be a terminal.
+// Carries an order out. Standard output and standard error may be terminals.
 fn perform<R: AllocGlobal + Files + Net + Clock + RandomSource, O: Write, E: Write>(
     rt: &R,
     order: &Order<'_>,
-    terminal: Terminal,
+    terminals: Terminals,
     out: &mut O,
     err: &mut E,
 ) -> Result<Status, Stop>
@@ -64,7 +44,10 @@ fn perform<R: AllocGlobal + Files + Net + Clock + RandomSource, O: Write, E: Wri
         Order::Version => version(out),
         Order::Show { datagram } => show(alloc, datagram.as_slice(), out),
         Order::Dump => dump(rt, out),
-        Order::DumpCapture { file, chart } => dump_capture(rt, file, *chart, out),
+        Order::DumpCapture { file, chart } => {
+            let printing = Printing::of(*chart, terminals.out.ink());
+            dump_capture(rt, file, printing, out)
+        }
         Order::Answer {
             path,
             body,
@@ -89,7 +72,7 @@ fn perform<R: AllocGlobal + Files + Net + Clock + RandomSource, O: Write, E: Wri
             *count,
             options,
             *script,
-            terminal.showing(*pcap),
+            terminals.err.showing(*pcap),
             out,
             err,
         ),
@@ -100,19 +83,19 @@ fn perform<R: AllocGlobal + Files + Net + Clock + RandomSource, O: Write, E: Wri
             options,
             pcap,
         } => {
-            let showing = terminal.showing(*pcap);
+            let showing = terminals.err.showing(*pcap);
             ask(rt, *server, path, *what, options, showing, out, err)
         }
         Order::Discover {
             server,
             options,
             pcap,
-        } => discover(rt, *server, options, terminal.showing(*pcap), out, err),
+        } => discover(rt, *server, options, terminals.err.showing(*pcap), out, err),
         Order::Ping {
             server,
             options,
             pcap,
-        } => ping(rt, *server, options, terminal.showing(*pcap), out, err),
+        } => ping(rt, *server, options, terminals.err.showing(*pcap), out, err),
         Order::Sim {
             file,
             store,
@@ -128,6 +111,7 @@ fn perform<R: AllocGlobal + Files + Net + Clock + RandomSource, O: Write, E: Wri
                 server: *server,
             };
             let plains = plains.as_slice();
+            let printing = Printing::of(*chart, terminals.out.ink());
             sim_file(
                 rt,
                 file,
@@ -135,7 +119,7 @@ fn perform<R: AllocGlobal + Files + Net + Clock + RandomSource, O: Write, E: Wri
                 plains,
                 *remembered,
                 ends,
-                *chart,
+                printing,
                 *pcap,
                 out,
             )
@@ -176,11 +160,11 @@ pub fn refuse<O: Write, E: Write>(wrong: Wrong, out: &mut O, err: &mut E) -> Res
     }
 }
 
-// Runs the words. Standard error may be a terminal.
+// Runs the words. Standard output and standard error may be terminals.
 fn run<R: AllocGlobal + Files + Net + Clock + RandomSource, O: Write, E: Write>(
     rt: &R,
     words: &[String],
-    terminal: Terminal,
+    terminals: Terminals,
     out: &mut O,
     err: &mut E,
 ) -> Result<Status, Stop>
@@ -188,7 +172,7 @@ fn run<R: AllocGlobal + Files + Net + Clock + RandomSource, O: Write, E: Write>(
 {
     match order(rt.alloc(), words) {
         Ok(order) => {
-            let ended = perform(rt, &order, terminal, out, err);
+            let ended = perform(rt, &order, terminals, out, err);
             put_away(order);
             ended
         }
@@ -233,31 +217,32 @@ pub fn command<R: AllocGlobal + Files + Net + Clock + RandomSource, O: Write, E:
     ensures done { result ≤ 1 → (order : Order) × AsksFor (map string_bytes words.now) order
         × IsCarriedTo order result }
 {
-    command_on(rt, words, Terminal::Absent, out, err)
+    command_on(rt, words, NO_TERMINALS, out, err)
 }
 
-/// The same where standard error may be a terminal, on which a person reads it at once: there it says, too, where
-/// nothing comes for long. That changes nothing of what is printed, nor the exit status.
+/// The same where standard output and standard error may be terminals, on which a person reads at once: there standard
+/// error says, too, where nothing comes for long, and a chart may be in colours. Nothing else that is printed changes,
+/// nor the exit status.
 pub fn command_on<R: AllocGlobal + Files + Net + Clock + RandomSource, O: Write, E: Write>(
     rt: &R,
     words: &[String],
-    terminal: Terminal,
+    terminals: Terminals,
     out: &mut O,
     err: &mut E,
 ) -> u8
-    // Where standard error may be a terminal, no status is over 4 either.
+    // On terminals, too, no status is over 4.
     ensures most { result ≤ 4 }
     // On a terminal, too, wrong words are answered with 2, unless that can't be told ..
     ensures wrong { (wrong : Wrong) → IsWrong (map string_bytes words.now) wrong → IsAnswered wrong result }
     // .. and on one, too, only these are, and a script that can't be read, or a line of standard input that is no hex.
     ensures words { result ≡ 2 → ((wrong : Wrong) × IsWrong (map string_bytes words.now) wrong
         × (wrong ≢ wrongs.Memory)) ⊎ ((order : Order) × AsksFor (map string_bytes words.now) order × ReadsText order) }
-    // Whether standard error is a terminal counts for no order: one is carried out only where the words ask for it, and
-    // to that end.
+    // Whether an output is a terminal counts for no order: one is carried out only where the words ask for it, and to
+    // that end.
     ensures done { result ≤ 1 → (order : Order) × AsksFor (map string_bytes words.now) order
         × IsCarriedTo order result }
 {
-    let ended = run(rt, words, terminal, out, err);
+    let ended = run(rt, words, terminals, out, err);
     close(ended, err).number()
 }
 

@@ -2,14 +2,14 @@
 ghost use Rattle.std.specs.Prelude.{IfOk};
 ghost use Rattle.coap_commands.specs.Statuses.{IsCarriedOut};
 
-use crate::asking::{MAX_PEERS, Showing, names_for};
 use crate::capturing::{begin_of, capture_in};
 use crate::hosts::{Peer, peer_of};
 use crate::link_source::LinkSource;
 use crate::pinging::{Pinging, ping_over};
 use crate::put_away::put_away;
 use crate::screen::Screen;
-use crate::sources::{Ends, FourSource, SixSource};
+use crate::sources::{Ends, FourSource, MAX_PEERS, SixSource, names_for};
+use crate::terminal::Showing;
 use crate::timekeeper::{ProgramTime, Timekeeper};
 use crate::told_source::{Telling, ToldSource};
 use crate::tracing::Tracing;

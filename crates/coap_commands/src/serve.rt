@@ -11,7 +11,6 @@ ghost use Rattle.coap_commands.specs.Asked.{IsOrigin};
 ghost use Rattle.coap_commands.specs.Served.{FedFrom, IsServed, IsServedBy, not_set_up_status};
 ghost use Rattle.coap_scripts.specs.declared.status.Status.TheVariants.{Done};
 
-use crate::asking::{Showing, names_for};
 use crate::bearing::bear_serving;
 use crate::capturing::{FourStanding, SixStanding, Standing, begin_of, capture_in, capture_on};
 use crate::changes::{ChangeTeller, TellingEnd, changes_on};
@@ -21,7 +20,8 @@ use crate::peers::{FourPeers, Peers, SixPeers};
 use crate::put_away::put_away;
 use crate::serve_script::{script_of, tell_bad_line};
 use crate::setting_up::{NotSetUp, server_after};
-use crate::sources::own_six;
+use crate::sources::{names_for, own_six};
+use crate::terminal::Showing;
 use crate::timekeeper::{ProgramTime, Timekeeper};
 use crate::tracing::{Tracing, teller_on};
 use crate::word::{Origin, origin_of};

@@ -7,13 +7,33 @@ use crate::link_source::LinkSource;
 use crate::peers::{FourPeers, PeerWords, Peers, SixPeers};
 use crate::timekeeper::ProgramTime;
 use coap_links::{PeerNames, SixPeer, Udp6Link, UdpLink};
+use coap_names::Places;
 use coap_pcap::SixEndpoint;
+use coap_scripts::Stop;
 use coap_types::Endpoint;
-use std::alloc::Allocator;
-use std::hash::BuildHasher;
+use std::alloc::{Allocator, Global};
+use std::hash::{BuildHasher, RandomState};
 use std::io;
 use std::net::{Net, SocketAddrV6};
+use std::random::RandomSource;
 use std::rt::Clock;
+
+/// How many peers over IPv6 have names at once: the server, and each endpoint at which a client of it was in the last
+/// 247 s.
+pub(crate) const MAX_PEERS: u32 = 1_024;
+
+const _: () = prove!(MAX_PEERS == 1_024);
+
+/// Names for so many peers over IPv6 at once.
+pub(crate) fn names_for<R: AllocGlobal + RandomSource>(
+    rt: &R,
+    most: u32,
+) -> Result<PeerNames<RandomState, Global>, Stop> {
+    let Some(places) = Places::new(most) else {
+        return Err(Stop::Memory);
+    };
+    Ok(PeerNames::new(rt.alloc(), places, RandomState::new(rt)?)?)
+}
 
 /// Who the ends of a source's links are.
 pub(crate) trait Ends: LinkSource {

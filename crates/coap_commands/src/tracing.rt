@@ -1,11 +1,12 @@
 //! What `--trace` prints: a line for each datagram.
 ghost use Rattle.std.specs.Prelude.{◌≡◌, is_some};
+ghost use Rattle.coap_commands.specs.Colours.{way_colour};
 ghost use Rattle.coap_commands.specs.Tracings.{is_traced};
 
 use crate::peers::{PeerWords, Peers};
 use crate::timekeeper::Timekeeper;
 use coap_links::{Teller, Way};
-use coap_print::DatagramWords;
+use coap_print::{Colour, DatagramWords};
 use coap_types::{Endpoint, Moment};
 use std::alloc::{AllocError, Allocator};
 use std::cell::RefCell;
@@ -46,20 +47,14 @@ pub struct LineTeller<A, T, W, P> {
     is_coloured: bool,
 }
 
-// What stands in front of a line in colour, and behind it (ECMA-48, section 8.3.117): what goes is cyan, what comes
-// green.
-const CYAN: &str = "\x1b[36m";
-
-const GREEN: &str = "\x1b[32m";
-
-const PLAIN: &str = "\x1b[0m";
-
-// What stands in front of a line and behind it.
-fn colours(way: Way, is_coloured: bool) -> (&'static str, &'static str) {
+// The colour of a line: what goes is cyan, what comes green.
+fn colour_of(way: Way, is_coloured: bool) -> Colour
+    ensures { result ≡ way_colour way is_coloured }
+{
     match (way, is_coloured) {
-        (_, false) => ("", ""),
-        (Way::Goes, true) => (CYAN, PLAIN),
-        (Way::Comes, true) => (GREEN, PLAIN),
+        (_, false) => Colour::Usual,
+        (Way::Goes, true) => Colour::Cyan,
+        (Way::Comes, true) => Colour::Green,
     }
 }
 
@@ -73,7 +68,8 @@ fn line_text<A: Allocator + Copy>(
     bytes: &[u8],
 ) -> Result<String<A>, AllocError> {
     let at = at.0;
-    let (begin, end) = colours(way, is_coloured);
+    let colour = colour_of(way, is_coloured);
+    let (begin, end) = (colour.sign_before(), colour.sign_behind());
     let way = match way {
         Way::Goes => ">",
         Way::Comes => "<",

@@ -9,17 +9,16 @@ ghost use Rattle.coap_commands.specs.Terms.{asked_terms, setup_of, sizes_of};
 ghost use Rattle.coap_commands.specs.Waiting.{HasPassed};
 ghost use Rattle.coap_commands.specs.Watches.{Follows, IsFollowed, IsLeft, IsLeftBy, IsNext, IsNoEnd, IsRegistered};
 ghost use Rattle.coap_commands.specs.Watches.{Leaves};
-ghost use Rattle.coap_commands.specs.Watches.{LeavesAt, MayCancel, TakesReport, Watches, heard_at, taken, verdict};
-ghost use Rattle.coap_commands.specs.Watches.{verdict_of};
-ghost use Rattle.coap_commands.specs.declared.watching.Left.{Left as LeftSpec};
+ghost use Rattle.coap_commands.specs.Watches.{LeavesAt, MayCancel, TakesReport, Watches, heard_at, taken};
+ghost use Rattle.coap_commands.specs.declared.anew.Left.{Left as LeftSpec};
 ghost use Rattle.coap_client.specs.declared.refusals.CallRefusal.{CallRefusal as CallRefusalSpec};
 
+use crate::anew::{Left, pause, say_anew, tell_last, verdict};
 use crate::ask::next_report_of;
-use crate::bearing::{bear_in_a_row, bear_in_all};
-use crate::calling::{Outcome, outcome_text};
+use crate::bearing::bear_in_a_row;
+use crate::calling::Outcome;
 use crate::connection::{Connection, Terms};
 use crate::ends::fresh_client;
-use crate::json_lines::write_outcome;
 use crate::link_source::LinkSource;
 use crate::observe::{Form, is_over, print_value, register};
 use crate::put_away::put_away;
@@ -27,7 +26,7 @@ use crate::timekeeper::Timekeeper;
 use crate::waiting::passed;
 use coap_arguments::AskOptions;
 use coap_ends::{CallId, Client, Report};
-use coap_links::{Link, MAX_DATAGRAM_LEN, Tally, fresh_tally, get_turn, send_all};
+use coap_links::{Link, Tally, fresh_tally, get_turn, send_all};
 use coap_scripts::{Status, Stop};
 use coap_types::{Endpoint, Moment, Path};
 use std::alloc::Global;
@@ -45,15 +44,6 @@ pub struct Watching<'p, 'o> {
     pub options: &'o AskOptions,
     /// The word that the first client begins with; that of each further one is one more.
     pub word: u64,
-}
-
-/// How a registration is left.
-#[derive(Drop)]
-pub(crate) enum Left {
-    /// No value came for so long.
-    Silent,
-    /// By what became of it.
-    Ended(Outcome),
 }
 
 // When the first registration was made; how many values came of all of them; and when the last one came of this one, or
@@ -268,85 +258,6 @@ fn observed_once<H: BuildHasher + Drop, L: Link, T: Timekeeper, E: Write, W: Wri
     let left = registered(alloc, &mut client, connection, watching, word, heard, out);
     put_away(client);
     left
-}
-
-// With which status the program ends where a registration is left so, and the observation is over or not; None: the
-// path is observed anew.
-fn verdict(left: &Left, is_over: bool) -> Option<Status>
-    ensures { result ≡ verdict left.now is_over }
-{
-    match left {
-        Left::Silent if is_over => Some(Status::Refused),
-        Left::Silent => None,
-        Left::Ended(outcome) => verdict_of(outcome, is_over),
-    }
-}
-
-// .. where it ended with this outcome.
-fn verdict_of(outcome: &Outcome, is_over: bool) -> Option<Status>
-    ensures { result ≡ verdict_of outcome.now is_over }
-{
-    match outcome {
-        Outcome::Refused(_) | Outcome::GaveUp(_) => Some(Status::Refused),
-        Outcome::Reported(Report::Cancelled) => Some(Status::Done),
-        Outcome::Reported(_) if is_over => Some(Status::Refused),
-        Outcome::Reported(_) => None,
-    }
-}
-
-// Says how a registration was left, and that the path is observed anew.
-fn say_anew<E: Write>(alloc: Global, left: &Left, again: u64, err: &mut E) -> Result<(), Stop> {
-    let text = match left {
-        Left::Silent => format!(in alloc; "no value in {again} s")?,
-        Left::Ended(outcome) => outcome_text(alloc, outcome)?,
-    };
-    let _ = writeln!(err, "{text}; observing anew");
-    Ok(())
-}
-
-// Tells how the last registration was left: in JSON where that is wanted.
-fn tell_last<T: Timekeeper, O: Write, E: Write>(
-    alloc: Global,
-    left: &Left,
-    is_json: bool,
-    time: &mut T,
-    out: &mut O,
-    err: &mut E,
-) -> Result<(), Stop> {
-    match left {
-        Left::Silent => {}
-        Left::Ended(outcome) if is_json => {
-            let at = time.now()?;
-            write_outcome(alloc, at, outcome, out)?;
-        }
-        Left::Ended(outcome) => {
-            let text = outcome_text(alloc, outcome)?;
-            let _ = writeln!(err, "{text}");
-        }
-    }
-    Ok(())
-}
-
-// Waits until so many seconds have passed since this moment, and drops what comes: the moment at which they have.
-fn pause<L: Link, T: Timekeeper>(
-    link: &mut L,
-    time: &mut T,
-    begin: Moment,
-    again: u64,
-) -> Result<Moment, Stop>
-    ensures { IfOk result (λ now. HasPassed again begin.0 now.0) }
-{
-    let mut buf = [0; MAX_DATAGRAM_LEN];
-    // More turns than a program lives.
-    for _turn in 0..u64::MAX {
-        let now = time.now()?;
-        if passed(Some(again), begin, now).is_some() {
-            return Ok(now);
-        }
-        let _dropped = link.receive(&mut buf);
-        bear_in_all(link, &fresh_tally(0))?;
-    }
-    Err(Stop::Failed)
 }
 
 // What follows a registration that began at this moment: the end of the program with this status; or, where there is

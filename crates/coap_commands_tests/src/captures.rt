@@ -1,7 +1,7 @@
 //! Tests of `--pcap` and of `dump --pcap`.
 use crate::clock::Clock;
 use crate::rows::check_row;
-use coap_commands::{CaptureTeller, FourStanding, close, show_capture, write_head};
+use coap_commands::{CaptureTeller, FourStanding, Ink, Printing, close, show_capture, write_head};
 use coap_links::{Teller, Way};
 use coap_types::{Endpoint, Moment};
 use std::alloc::{AllocError, Global};
@@ -62,9 +62,14 @@ fn what_a_capture_has(rt: HostRuntime) -> Result<(), Fail> {
 }
 
 // The exit status of a capture that is shown, and what is printed.
-fn shown(alloc: Global, bytes: &[u8], chart: bool, told: &mut Vec<u8>) -> Result<u8, AllocError> {
+fn shown(
+    alloc: Global,
+    bytes: &[u8],
+    printing: Printing,
+    told: &mut Vec<u8>,
+) -> Result<u8, AllocError> {
     let mut said = Vec::new(alloc);
-    let ended = show_capture(alloc, bytes, chart, told);
+    let ended = show_capture(alloc, bytes, printing, told);
     Ok(close(ended, &mut said).number())
 }
 
@@ -91,7 +96,10 @@ fn captures_that_are_shown(rt: HostRuntime) -> Result<(), Fail> {
     for (datagrams, status, printed) in rows {
         let bytes = capture_of(rt.alloc(), datagrams)?;
         let mut told = Vec::new(rt.alloc());
-        assert_eq!(rt; shown(rt.alloc(), &bytes, false, &mut told)?, status);
+        assert_eq!(rt;
+            shown(rt.alloc(), &bytes, Printing::Lines, &mut told)?,
+            status
+        );
         assert_eq!(rt; told.as_slice(), printed.as_bytes());
     }
     Ok(())
@@ -101,14 +109,25 @@ fn captures_that_are_shown(rt: HostRuntime) -> Result<(), Fail> {
 fn captures_that_are_drawn(rt: HostRuntime) -> Result<(), Fail> {
     let datagrams = [(Way::Goes, PING), (Way::Comes, RESET)];
     let bytes = capture_of(rt.alloc(), &datagrams)?;
-    let mut told = Vec::new(rt.alloc());
-    assert_eq!(rt; shown(rt.alloc(), &bytes, true, &mut told)?, 0);
-    let wanted = concat!(
+    let plain = concat!(
         "      ms 192.0.2.1:40001                                                           192.0.2.200:5683\n",
         "       0 |--- CON 0.00 0001 [] Empty                                                          --->|\n",
         "      10 |<---                                                          RST 0.00 0001 [] Empty ---|\n",
     );
-    assert_eq!(rt; told.as_slice(), wanted.as_bytes());
+    let coloured = concat!(
+        "      ms 192.0.2.1:40001                                                           192.0.2.200:5683\n",
+        "\x1b[36m",
+        "       0 |--- CON 0.00 0001 [] Empty                                                          --->|",
+        "\x1b[0m\n\x1b[32m",
+        "      10 |<---                                                          RST 0.00 0001 [] Empty ---|",
+        "\x1b[0m\n",
+    );
+    for (ink, wanted) in [(Ink::Plain, plain), (Ink::Coloured, coloured)] {
+        let mut told = Vec::new(rt.alloc());
+        let printing = Printing::Chart(ink);
+        assert_eq!(rt; shown(rt.alloc(), &bytes, printing, &mut told)?, 0);
+        assert_eq!(rt; told.as_slice(), wanted.as_bytes());
+    }
     Ok(())
 }
 

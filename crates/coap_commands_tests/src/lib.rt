@@ -17,6 +17,8 @@ mod changes;
 #[cfg(test)]
 mod clock;
 #[cfg(test)]
+mod discovering;
+#[cfg(test)]
 mod dumps;
 #[cfg(test)]
 mod failures;
@@ -57,6 +59,10 @@ mod serving;
 #[cfg(test)]
 mod sizes;
 #[cfg(test)]
+mod telling;
+#[cfg(test)]
 mod tracing;
 #[cfg(test)]
 mod uris;
+#[cfg(test)]
+mod watching;

@@ -32,14 +32,16 @@ pub struct Observers<A: Allocator = Global> {
 }
 
 impl<A: Allocator> Model for Observers<A> {
-    ghost use Rattle.coap_observe.specs.Observers.{AreRegistrations, Roll};
+    ghost use Rattle.std.specs.Vec.{vec_capacity};
+    ghost use Rattle.coap_observe.specs.Observers.{AreRegistrations, HasPlaces, Roll};
     ghost use Rattle.coap_observe.specs.Shown.{observers_of};
 
     ghost Value = { Roll };
 
     ghost view = { λ o. record { clock = o.clock.0; list = observers_of o.list.items } };
 
-    ghost invariant = { λ o. AreRegistrations (observers_of o.list.items) };
+    ghost invariant = { λ o. AreRegistrations (observers_of o.list.items)
+        × HasPlaces (observers_of o.list.items) (vec_capacity o.list) };
 }
 
 impl<A: Allocator + Copy> Observers<A> {
@@ -56,8 +58,8 @@ impl<A: Allocator + Copy> Observers<A> {
 
     /// Registers an observer last, with nothing due to it, in place of an earlier registration of
     /// the same endpoint and token (RFC 7641, section 4.1). False where `MAX_OBSERVERS` others are
-    /// there: then the moment alone counts. After an `Err` all is as before. Where that endpoint and
-    /// token are registered, it takes no memory.
+    /// there: then the moment alone counts. After an `Err` all is as before. The first registration takes
+    /// the memory of as many as there may be. Where somebody observes, it takes no memory.
     pub fn register(
         &mut self,
         now: Moment,
@@ -79,6 +81,8 @@ impl<A: Allocator + Copy> Observers<A> {
             })) }
         // A registration of a pair that is there takes no memory.
         ensures again { is_registered from token self.old.list ≡ true → IsOk result }
+        // Where somebody observes, a registration takes no memory.
+        ensures had { 0 < length self.old.list → IsOk result }
         // A registration that is refused memory changes nothing.
         ensures err { OnErr result (self.new ≡ self.old) }
     {
@@ -87,7 +91,7 @@ impl<A: Allocator + Copy> Observers<A> {
             self.clock = at;
             return Ok(false);
         }
-        make_room(&mut self.list, from, &token)?;
+        make_room(&mut self.list)?;
         self.clock = at;
         take_out(&mut self.list, from, &token);
         push_within(

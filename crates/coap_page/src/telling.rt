@@ -9,7 +9,7 @@ use crate::ended::Ended;
 use crate::into_room::Printing;
 use crate::played::play_run;
 use crate::room::{NoMemory, Told};
-use coap_print::{draw_run, tell_run};
+use coap_print::{Ink, draw_run, tell_run};
 use coap_run::{Event, Record, RunRefusal, WorldConfig, run};
 use coap_scripts::{ScriptRefusal, USUAL_ENDS, events_of};
 use std::alloc::Allocator;
@@ -25,7 +25,7 @@ fn print_run<A: Allocator + Copy>(
 ) -> io::Result<()> {
     match printing {
         Printing::Lines => tell_run(alloc, USUAL_ENDS, events, record, text),
-        Printing::Chart => draw_run(alloc, USUAL_ENDS, events, record, text),
+        Printing::Chart => draw_run(alloc, USUAL_ENDS, Ink::Plain, events, record, text),
         Printing::All => play_run(alloc, events, record, text),
     }
 }

@@ -1,4 +1,5 @@
 pub mod Charts
+pub mod Colours
 pub mod CodeNames
 pub mod OptionNames
 pub mod Printable

@@ -13,6 +13,7 @@ use crate::chart::happening::Happening;
 use crate::chart::sheet::{Form, Sheet};
 use crate::chart::traffic::{Arrival, Traffic};
 use crate::chart::traffic_words::{ArrivedWords, SentWords, StrangerWords};
+use crate::printing::Ink;
 use crate::run_lines::is_begin;
 use coap_run::{Addresses, Event, Given, Kind, Line, Record, Side, What};
 use coap_types::{Endpoint, Moment};
@@ -21,15 +22,17 @@ use std::io;
 use std::io::Write;
 
 /// Draws what came of a run between ends at these addresses: what is called, set and removed, which requests are
-/// applied, what is refused and reported, and each datagram, where it is given out and where it arrives.
+/// applied, what is refused and reported, and each datagram, where it is given out and where it arrives. In colour the
+/// rows of datagrams are cyan where these go, and green where they come.
 pub fn draw_run<A: Allocator + Copy, W: Write>(
     alloc: A,
     addresses: Addresses,
+    ink: Ink,
     events: &[Event<A>],
     record: &Record<A>,
     out: &mut W,
 ) -> io::Result<()> {
-    let sheet = Sheet::new(alloc, last_moment(events))?;
+    let sheet = Sheet::new(alloc, ink, last_moment(events))?;
     out.write_all(sheet.head()?.as_bytes())?;
     let traffic = Traffic {
         addresses,

@@ -5,14 +5,18 @@
 #![tactic(auto)]
 
 mod chart;
+mod colours;
 mod message_words;
 mod place_words;
+mod printing;
 mod report_words;
 mod run_lines;
 mod values;
 
 pub use chart::draw_run;
+pub use colours::Colour;
 pub use message_words::{DatagramWords, FaultWords, code_name, segment_law};
 pub use place_words::{EndpointWords, PathWords};
+pub use printing::{Ink, Printing};
 pub use run_lines::tell_run;
 pub use values::{hex_or_dash, report_text};

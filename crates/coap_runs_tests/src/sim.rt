@@ -16,7 +16,7 @@ mod uploads;
 
 use crate::rows::words_of;
 use coap_arguments::{StoreKind, path_of_text};
-use coap_commands::{USUAL_ENDS, close, command, sim_to, sim_with};
+use coap_commands::{Printing, USUAL_ENDS, close, command, sim_to, sim_with};
 use coap_types::{Path, Remembered};
 use std::alloc::Global;
 use std::io::{ErrorKind, Read};
@@ -61,7 +61,7 @@ fn ran_over(alloc: Global, script: &[u8], store: StoreKind, plains: &[Path]) -> 
         plains,
         Remembered::default(),
         USUAL_ENDS,
-        false,
+        Printing::Lines,
         &mut printed,
     );
     Ran {

@@ -13,7 +13,7 @@ use crate::status::{Status, Stop, stop_of};
 use crate::usual::largest_szx;
 use coap_arguments::StoreKind;
 use coap_ends::{MAX_PLAINS, PlainRefusal};
-use coap_print::{draw_run, tell_run};
+use coap_print::{Printing, draw_run, tell_run};
 use coap_resource::{ListStore, MAX_CHANGES_PER_WINDOW, MapStore};
 use coap_run::{
     Addresses, CLIENT_END, Event, Record, RunRefusal, SERVER_END, WorldConfig, run_with,
@@ -59,7 +59,7 @@ pub fn sim_to<A: Allocator + Copy, R: Read, W: Write>(
         &no_path,
         Remembered::default(),
         USUAL_ENDS,
-        false,
+        Printing::Lines,
         out,
     )
 }
@@ -75,7 +75,7 @@ pub fn sim_with<A: Allocator + Copy, R: Read, W: Write>(
     plains: &[Path<A>],
     remembered: Remembered,
     ends: Addresses,
-    chart: bool,
+    printing: Printing,
     out: &mut W,
 ) -> Result<Status, Stop>
     // Some list of events, which nothing here ties to the text, runs to its end with status 0, between ends at these
@@ -92,7 +92,7 @@ pub fn sim_with<A: Allocator + Copy, R: Read, W: Write>(
         plains,
         remembered,
         ends,
-        chart,
+        printing,
         &mut uncaptured,
         out,
     )
@@ -107,7 +107,7 @@ pub fn sim_captured<A: Allocator + Copy, R: Read, W: Write>(
     plains: &[Path<A>],
     remembered: Remembered,
     ends: Addresses,
-    chart: bool,
+    printing: Printing,
     capture: &mut Option<Vec<u8, A>>,
     out: &mut W,
 ) -> Result<Status, Stop>
@@ -128,7 +128,7 @@ pub fn sim_captured<A: Allocator + Copy, R: Read, W: Write>(
             plains,
             remembered,
             ends,
-            chart,
+            printing,
             capture,
             out,
         ),
@@ -217,17 +217,16 @@ fn print_run<A: Allocator + Copy, W: Write>(
     ends: Addresses,
     events: &[Event<A>],
     record: &Record<A>,
-    chart: bool,
+    printing: Printing,
     capture: &mut Option<Vec<u8, A>>,
     out: &mut W,
 ) -> Result<(), Stop> {
     if let Some(bytes) = capture {
         capture_run(alloc, ends, events, record, bytes).map_err(|error| stop_of(&error))?;
     }
-    let printed = if chart {
-        draw_run(alloc, ends, events, record, out)
-    } else {
-        tell_run(alloc, ends, events, record, out)
+    let printed = match printing {
+        Printing::Lines => tell_run(alloc, ends, events, record, out),
+        Printing::Chart(ink) => draw_run(alloc, ends, ink, events, record, out),
     };
     printed.map_err(|error| stop_of(&error))
 }
@@ -240,7 +239,7 @@ fn run_events<A: Allocator + Copy, W: Write>(
     plains: &[Path<A>],
     remembered: Remembered,
     ends: Addresses,
-    chart: bool,
+    printing: Printing,
     capture: &mut Option<Vec<u8, A>>,
     out: &mut W,
 ) -> Result<Status, Stop>
@@ -257,7 +256,7 @@ fn run_events<A: Allocator + Copy, W: Write>(
     };
     match ran {
         Ok(record) => {
-            print_run(alloc, ends, events, &record, chart, capture, out)?;
+            print_run(alloc, ends, events, &record, printing, capture, out)?;
             Ok(Status::Done)
         }
         Err(refusal) => tell_refusal(refusal, out),
@@ -272,7 +271,7 @@ fn sim_opened<R: AllocGlobal + Files, W: Write>(
     plains: &[Path],
     remembered: Remembered,
     ends: Addresses,
-    chart: bool,
+    printing: Printing,
     capture: &mut Option<Vec<u8>>,
     out: &mut W,
 ) -> Result<Status, Stop>
@@ -289,7 +288,7 @@ fn sim_opened<R: AllocGlobal + Files, W: Write>(
                 plains,
                 remembered,
                 ends,
-                chart,
+                printing,
                 capture,
                 out,
             )
@@ -308,7 +307,7 @@ pub fn sim_file<R: AllocGlobal + Files, W: Write>(
     plains: &[Path],
     remembered: Remembered,
     ends: Addresses,
-    chart: bool,
+    printing: Printing,
     pcap: Option<&str>,
     out: &mut W,
 ) -> Result<Status, Stop>
@@ -327,7 +326,7 @@ pub fn sim_file<R: AllocGlobal + Files, W: Write>(
         plains,
         remembered,
         ends,
-        chart,
+        printing,
         &mut capture,
         out,
     )?;

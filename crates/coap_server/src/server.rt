@@ -7,7 +7,6 @@ mod feed;
 mod full_response;
 mod handling;
 mod local;
-mod moments;
 mod notification;
 mod observation;
 mod observation_end;

@@ -166,8 +166,8 @@ fn hear_for_call<A: Allocator + Copy, H: BuildHasher>(
 {
     let Ongoing { number, mut call } = ongoing;
     match call.hear(m) {
-        Ok(Heard::Over(answered, report)) => {
-            end_call(&mut parts.held, number, &call, !answered, report);
+        Ok(Heard::Over { is_final, report }) => {
+            end_call(&mut parts.held, number, &call, !is_final, report);
             Ok(None)
         }
         Ok(Heard::Asks) => ask_next(parts, now, number, call),

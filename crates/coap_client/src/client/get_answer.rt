@@ -29,9 +29,15 @@ pub fn hear_get<A: Allocator + Copy>(
     match m.code() {
         Code::CONTENT => hear_content(fetch, m),
         Code::VALID if !request.etags.as_slice().is_empty() => {
-            Ok(Heard::Over(true, Report::Valid(tag_in(m))))
+            Ok(Heard::Over {
+                is_final: true,
+                report: Report::Valid(tag_in(m)),
+            })
         }
-        code => Ok(Heard::Over(true, Report::Failed(code))),
+        code => Ok(Heard::Over {
+            is_final: true,
+            report: Report::Failed(code),
+        }),
     }
 }
 
@@ -47,8 +53,14 @@ fn hear_content<A: Allocator + Copy>(
     match take_part(fetch, m)? {
         Step::Next(_) => Ok(Heard::Asks),
         Step::Restart => Ok(Heard::Asks),
-        Step::Whole(body) => Ok(Heard::Over(true, Report::Body(representation(m, body)))),
-        Step::Refused(why) => Ok(Heard::Over(true, refusal_report(why))),
+        Step::Whole(body) => Ok(Heard::Over {
+            is_final: true,
+            report: Report::Body(representation(m, body)),
+        }),
+        Step::Refused(why) => Ok(Heard::Over {
+            is_final: true,
+            report: refusal_report(why),
+        }),
     }
 }
 

@@ -7,8 +7,13 @@ use std::alloc::{Allocator, Global};
 pub enum Heard<A: Allocator = Global> {
     /// It sends its next request.
     Asks,
-    /// It is over, by a final response or not, with its last report.
-    Over(bool, Report<A>),
+    /// It is over.
+    Over {
+        /// Whether a final response ended it.
+        is_final: bool,
+        /// Its last report.
+        report: Report<A>,
+    },
 }
 
 /// What a fetch for a notification makes of a part that it takes.

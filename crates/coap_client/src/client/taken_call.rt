@@ -80,7 +80,10 @@ impl<A: Allocator + Copy> TakenCall<A> {
         match &mut self.transfer {
             Transfer::Fetches(fetch) => hear_get(fetch, &self.request, m),
             Transfer::Uploads(upload) => Ok(hear_upload(upload, self.request.method, m)),
-            Transfer::Single => Ok(Heard::Over(true, code_report(self.request.method, m.code()))),
+            Transfer::Single => Ok(Heard::Over {
+                is_final: true,
+                report: code_report(self.request.method, m.code()),
+            }),
         }
     }
 

@@ -36,9 +36,15 @@ pub fn hear_upload<A: Allocator + Copy>(
     }
     let (block, _) = upload.next();
     if block.more && m.code().0 < Code::BAD_REQUEST.0 {
-        return Heard::Over(true, Report::BadBlock);
+        return Heard::Over {
+            is_final: true,
+            report: Report::BadBlock,
+        };
     }
-    Heard::Over(true, code_report(method, m.code()))
+    Heard::Over {
+        is_final: true,
+        report: code_report(method, m.code()),
+    }
 }
 
 // What a POST or a PUT makes of a 2.31: the next block is sent where the answer lets it be.
@@ -46,11 +52,17 @@ fn hear_continue<A: Allocator + Copy>(upload: &mut Upload<A>, m: &View<'_>) -> H
     ensures { HearsUpload upload.old.state (continued upload.old.state (block_at block1 m.now)) result upload.new }
 {
     let Some(answer) = block_at(BLOCK1, m) else {
-        return Heard::Over(false, Report::BadBlock);
+        return Heard::Over {
+            is_final: false,
+            report: Report::BadBlock,
+        };
     };
     if upload.accepted(answer) {
         Heard::Asks
     } else {
-        Heard::Over(false, Report::BadBlock)
+        Heard::Over {
+            is_final: false,
+            report: Report::BadBlock,
+        }
     }
 }

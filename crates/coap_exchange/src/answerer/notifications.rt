@@ -46,6 +46,8 @@ impl<A: Allocator + Copy, S: BuildHasher> Answerer<A, S> {
         ensures before { self.new.before ≡ self.old.before }
         // A question that is refused memory leaves the answerer as it was.
         ensures err { OnErr result (self.new ≡ self.old) }
+        // The question takes no memory where there is room already.
+        ensures had { self.old.room ≡ true → IsOk result }
         // An answer that no notification may be sent takes no memory.
         ensures quiet { takes_con self.old.state now.0 to ≡ false → IsOk result }
     {

@@ -1,5 +1,5 @@
 -- The registration of one endpoint and token in the list after each change.
-use Rattle.std.proofs.Common.{◌≡◌, ◌∙◌, ℕ, Bool, true, false, not, ◌&&◌, ◌<◌, ◌++◌, List, [], ◌∷◌, length, filter, find}
+use Rattle.std.proofs.Common.{◌≡◌, ◌∙◌, ℕ, Bool, true, false, not, ◌&&◌, ◌<◌, ◌≤◌, ◌++◌, List, [], ◌∷◌, length, filter, find}
 use Rattle.std.proofs.Common.{map}
 use Rattle.std.proofs.Common.{Option, None, Some, option_map, if◌then◌else◌, Decides, refl, ap, sym, subst, arith}
 use Rattle.std.specs.Cmp.Lexicographic.{bytes_decides}
@@ -7,7 +7,8 @@ use Rattle.std.proofs.lemmas.Bool.Decides.{Decides-and}
 use Rattle.std.proofs.lemmas.List.{length-append, length-map}
 use Rattle.coap_types.specs.declared.endpoint.Endpoint.{Endpoint}
 use Rattle.coap_types.proofs.Facts.Endpoints.{same_endpoint-decides}
-use Rattle.coap_observe.specs.Observers.{Noted, Observer, AreDistinct, AreRegistrations, begun, changed_at, is_noted_at}
+use Rattle.coap_observe.specs.Observers.{HasPlaces, Noted, Observer, AreDistinct, AreRegistrations, begun, changed_at}
+use Rattle.coap_observe.specs.Observers.{is_noted_at, is_registered}
 use Rattle.coap_observe.specs.Observers.{is_of, marked_by, noted_by, noted_to, registered, registration, rejected}
 use Rattle.coap_observe.specs.Observers.{removed, reset_at, sent_to, unmarked_by, without}
 use Rattle.coap_observe.specs.Registrations.{IsOther, OthersStay, ResetTakes, told_by}
@@ -275,3 +276,26 @@ without_stay (Some o) os r = registrations-removed o.to o.token os r
 pub registrations-reset : (at : ℕ) (to : Endpoint) (id : ℕ) (os : List Observer) → AreRegistrations os
     → AreRegistrations (reset_at at to id os)
 registrations-reset at to id os r = without_stay (rejected at to id os) os r
+
+--- where there is one there is room for as many as may be, and no change gives room back
+pub places-fewer : (os ps : List Observer) (m n : ℕ) → length ps ≤ length os → n ≡ m → HasPlaces os m → HasPlaces ps n
+places-fewer os ps m n fewer same places = λ some. let there = places (omega (arith, some, fewer)) in
+    omega (arith, there, same)
+
+pub places-mapped : (f : Observer → Observer) (os ps : List Observer) (m n : ℕ) → ps ≡ map f os → n ≡ m
+    → HasPlaces os m → HasPlaces ps n
+places-mapped f os ps m n is same places = let long = ap (λ (l : List Observer). length l) is ∙ length-map os f in
+    places-fewer os ps m n (omega (arith, long)) same places
+
+pub places-removed : (to : Endpoint) (token : List ℕ) (os ps : List Observer) (m n : ℕ) → ps ≡ removed to token os
+    → n ≡ m → HasPlaces os m → HasPlaces ps n
+places-removed to token os ps m n is same places =
+    let long = ap (λ (l : List Observer). length l) is in
+    let fewer = length_filter (λ (o : Observer). not (is_of to token o)) os in
+    places-fewer os ps m n (omega (arith, long, fewer)) same places
+
+-- where a pair is registered, there is a registration
+pub some-registered : (to : Endpoint) (token : List ℕ) (os : List Observer) → is_registered to token os ≡ true
+    → 0 < length os
+some-registered to token [] there = absurd cc
+some-registered to token (o ∷ os) there = omega arith

@@ -1,7 +1,10 @@
 //! What a chart is drawn on: how wide it is, and its rows.
 ghost use Rattle.std.specs.Prelude.{◌≡◌};
 ghost use Rattle.coap_print.specs.Charts.{crossing, stroke_before, stroke_behind};
+ghost use Rattle.coap_print.specs.Colours.{row_colour};
 
+use crate::colours::Colour;
+use crate::printing::Ink;
 use coap_run::Side;
 use coap_types::Moment;
 use std::alloc::{AllocError, Allocator};
@@ -50,20 +53,22 @@ pub(super) enum Form {
 #[derive(Clone, Copy)]
 pub(super) struct Sheet<A> {
     alloc: A,
+    ink: Ink,
     moment_width: usize,
     // Between the lines.
     inner_width: usize,
 }
 
 impl<A: Allocator + Copy> Sheet<A> {
-    /// With room for this moment, the last of the run.
-    pub(super) fn new(alloc: A, last: Moment) -> Result<Sheet<A>, AllocError> {
+    /// In this ink, with room for this moment, the last of the run.
+    pub(super) fn new(alloc: A, ink: Ink, last: Moment) -> Result<Sheet<A>, AllocError> {
         let last = last.0;
         let digits = format!(in alloc; "{last}")?;
         let moment_width = digits.len().max(USUAL_MOMENT_WIDTH);
         let beside = moment_width.saturating_add(BESIDE_WIDTH);
         Ok(Sheet {
             alloc,
+            ink,
             moment_width,
             inner_width: MAX_WIDTH.saturating_sub(beside),
         })
@@ -96,12 +101,18 @@ impl<A: Allocator + Copy> Sheet<A> {
         let (at, moment) = (at.0, self.moment_width);
         let (inner, margin) = (self.inner_width, MARGIN_WIDTH);
         let (crossing, blank) = (crossing(side, form), "");
+        let colour = row_colour(self.ink, form);
+        let (begin, end) = (colour.sign_before(), colour.sign_behind());
         match side {
             Side::Client => {
-                format!(in self.alloc; "{at:>moment$} {crossing:>margin$}|{text:<inner$}|\n")
+                format!(in self.alloc;
+                    "{begin}{at:>moment$} {crossing:>margin$}|{text:<inner$}|{end}\n"
+                )
             }
             Side::Server => {
-                format!(in self.alloc; "{at:>moment$} {blank:>margin$}|{text:>inner$}|{crossing}\n")
+                format!(in self.alloc;
+                    "{begin}{at:>moment$} {blank:>margin$}|{text:>inner$}|{crossing}{end}\n"
+                )
             }
         }
     }
@@ -153,5 +164,16 @@ fn crossing(side: Side, form: Form) -> &'static str
         (Side::Client, Form::FromElsewhere) | (Side::Server, Form::ToElsewhere) => "-->",
         (Side::Server, Form::FromElsewhere) | (Side::Client, Form::ToElsewhere) => "<--",
         _ => "",
+    }
+}
+
+// The colour of a row.
+fn row_colour(ink: Ink, form: Form) -> Colour
+    ensures { result ≡ row_colour ink form }
+{
+    match (ink, form) {
+        (Ink::Plain, _) | (Ink::Coloured, Form::Note) => Colour::Usual,
+        (Ink::Coloured, Form::Sent | Form::Lost | Form::ToElsewhere) => Colour::Cyan,
+        (Ink::Coloured, Form::Arrives | Form::FromElsewhere) => Colour::Green,
     }
 }

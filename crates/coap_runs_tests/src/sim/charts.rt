@@ -1,21 +1,26 @@
 //! Runs that are drawn as charts: rows of what happens, and of datagrams that are sent and delivered, lost, sent again,
 //! delivered twice, late, and from and for elsewhere.
 use super::Case;
-use crate::rows::check_row;
+use crate::rows::{check_row, words_of};
 use coap_arguments::StoreKind;
-use coap_commands::{Status, Stop, USUAL_ENDS, sim_with};
+use coap_commands::{
+    Ink, Printing, Status, Stop, Terminal, Terminals, USUAL_ENDS, command_on, sim_with,
+};
 use coap_types::{Path, Remembered};
 use failing_allocator::Failing;
 use std::alloc::{Allocator, Global};
 use std::fs;
 use std::io::Write;
+use std::net::Net;
 use std::process::Abort;
+use std::random::RandomSource;
+use std::rt::{Clock, Files};
 use std::test::Fail;
 use test_scripts::{Script, Scripts, scripts_of};
 
 const SCRIPTS: Scripts<'static> = Scripts {
     module: module_path!(),
-    line: 19,
+    line: 24,
     text: "
 == a_get
 >     ms    client                                                                           server
@@ -156,11 +161,12 @@ const MAX_WIDTH: usize = 100;
 // No script takes so many growths.
 const MANY: u64 = 1_000_000;
 
-// Draws the run of a script over such a store, with memory from there.
+// Draws the run of a script over such a store in this ink, with memory from there.
 fn drawn<A: Allocator + Copy, W: Write>(
     memory: A,
     script: &str,
     store: StoreKind,
+    ink: Ink,
     out: &mut W,
 ) -> Result<Status, Stop> {
     let no_path: [Path<A>; 0] = [];
@@ -173,7 +179,7 @@ fn drawn<A: Allocator + Copy, W: Write>(
         &no_path,
         remembered,
         USUAL_ENDS,
-        true,
+        Printing::Chart(ink),
         out,
     )
 }
@@ -194,7 +200,7 @@ fn check_chart(rt: &impl Abort, alloc: Global, script: &Script<'_>) -> Result<()
         (StoreKind::List, "over a list"),
     ] {
         let mut out = Vec::new(alloc);
-        let ended = drawn(alloc, case.text.as_str(), store, &mut out);
+        let ended = drawn(alloc, case.text.as_str(), store, Ink::Plain, &mut out);
         assert!(rt; matches!(ended, Ok(Status::Done)), "at {name}");
         case.wanted.check(run, out.as_slice())?;
     }
@@ -215,11 +221,11 @@ fn a_chart_whose_growths_are_refused(rt: HostRuntime) -> Result<(), Fail> {
     let alloc = rt.alloc();
     let script = "0 call get t\n0 tick client\n5 deliver 0\n5 deliver 0\n9 deliver 1\n";
     let mut whole = Vec::new(alloc);
-    assert!(&rt; drawn(alloc, script, StoreKind::Map, &mut whole).is_ok());
+    assert!(&rt; drawn(alloc, script, StoreKind::Map, Ink::Plain, &mut whole).is_ok());
     for number in 1..MANY {
         let memory = Failing::new(alloc, number);
         let mut out = Vec::new(alloc);
-        let ended = drawn(&memory, script, StoreKind::Map, &mut out);
+        let ended = drawn(&memory, script, StoreKind::Map, Ink::Plain, &mut out);
         if memory.left() != 0 {
             return Ok(());
         }
@@ -251,5 +257,72 @@ fn charts_by_words(rt: HostRuntime) -> Result<(), Fail> {
     check_row(&rt, &["sim", "ping.sim"], 0, "0 out 0 server 70000001\n")?;
     fs::write(&rt, "bad.sim", "0 deliver 0\n")?;
     check_row(&rt, &["sim", "bad.sim", "--chart"], 1, "not legal 0\n")?;
+    Ok(())
+}
+
+// In colours the rows of datagrams that go are cyan, also of one that is lost or goes elsewhere, and those of datagrams
+// that come green, also from elsewhere.
+const IN_COLOURS: &str =
+    "    ms    client                                                                           server
+     0    |                                                               set t, 2 B: version 1 |
+     0    | call 0: GET t                                                                       |
+\x1b[36m     0    |--- 0: CON 0.01 0000 [0000000000000000] GET t --->                                   |\x1b[0m
+\x1b[32m     5    |                                                                --- 0 after 5 ms --->|\x1b[0m
+\x1b[36m     5    |    x--- 1: ACK 2.05 0000 [0000000000000000] Content, ETag 0000000000000001, Co.. ---|\x1b[0m
+\x1b[32m     6    |                                            from 127.0.0.1:9: CON 0.00 0001 [] Empty |<--\x1b[0m
+\x1b[36m     6    |                                            2 to 127.0.0.1:9: RST 0.00 0001 [] Empty |-->\x1b[0m
+";
+
+#[test]
+fn a_chart_in_colours(rt: HostRuntime) -> Result<(), Fail> {
+    let alloc = rt.alloc();
+    let script =
+        "0 set t hi\n0 call get t\n0 tick client\n5 deliver 0\n6 stranger server 9 40000001\n";
+    let mut out = Vec::new(alloc);
+    let ended = drawn(alloc, script, StoreKind::Map, Ink::Coloured, &mut out);
+    assert!(rt; matches!(ended, Ok(Status::Done)));
+    assert_eq!(rt; out.as_slice(), IN_COLOURS.as_bytes());
+    Ok(())
+}
+
+// A chart is in colours exactly where standard output is a terminal on which colours may be.
+#[test]
+fn colours_by_terminals(rt: HostRuntime) -> Result<(), Fail> {
+    fs::write(&rt, "tick.sim", "0 set t hi\n1 stranger client 9 80\n")?;
+    let plain =
+        "    ms    client                                                                           server
+     0    |                                                               set t, 2 B: version 1 |
+     1 -->| from 127.0.0.1:9: fault 1 Short at 1                                                |
+";
+    let coloured =
+        "    ms    client                                                                           server
+     0    |                                                               set t, 2 B: version 1 |
+\x1b[32m     1 -->| from 127.0.0.1:9: fault 1 Short at 1                                                |\x1b[0m
+";
+    let rows = [
+        (Terminal::Absent, Terminal::Coloured, plain),
+        (Terminal::Plain, Terminal::Coloured, plain),
+        (Terminal::Coloured, Terminal::Absent, coloured),
+        (Terminal::Coloured, Terminal::Plain, coloured),
+    ];
+    for (out, err, chart) in rows {
+        check_chart_on(&rt, Terminals { out, err }, chart)?;
+    }
+    Ok(())
+}
+
+// The chart of the script is this one on such terminals.
+fn check_chart_on<R: Abort + AllocGlobal + Files + Net + Clock + RandomSource>(
+    rt: &R,
+    terminals: Terminals,
+    chart: &str,
+) -> Result<(), Fail> {
+    let words = words_of(rt.alloc(), &["sim", "tick.sim", "--chart"])?;
+    let mut out = Vec::new(rt.alloc());
+    let mut err = Vec::new(rt.alloc());
+    let status = command_on(rt, words.as_slice(), terminals, &mut out, &mut err);
+    assert_eq!(rt; status, 0);
+    assert_eq!(rt; out.as_slice(), chart.as_bytes(), "at {terminals:?}");
+    assert!(rt; err.is_empty());
     Ok(())
 }

@@ -1,7 +1,7 @@
 //! Runs whose ends stand at chosen addresses.
 use crate::rows::{check_row, words_of};
 use coap_arguments::StoreKind;
-use coap_commands::{Addresses, Status, command, sim_with};
+use coap_commands::{Addresses, Printing, Status, command, sim_with};
 use coap_types::{Endpoint, Path, Remembered};
 use std::alloc::AllocError;
 use std::fs;
@@ -175,7 +175,7 @@ fn one_address_for_both_ends(rt: HostRuntime) {
         &no_path,
         Remembered::default(),
         ends,
-        false,
+        Printing::Lines,
         &mut out,
     );
     assert!(rt; matches!(ended, Ok(Status::Words)));

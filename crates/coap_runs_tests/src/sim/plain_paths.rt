@@ -1,7 +1,7 @@
 //! Observations of a path whose observers are told in Non-confirmable messages (RFC 7641, section 4.5).
 use crate::rows::{check_row, words_of};
 use coap_arguments::{StoreKind, path_of_text};
-use coap_commands::{Status, USUAL_ENDS, command, sim_with};
+use coap_commands::{Printing, Status, USUAL_ENDS, command, sim_with};
 use coap_types::Remembered;
 use std::alloc::{AllocError, Global};
 use std::fs;
@@ -150,7 +150,7 @@ fn too_many_plain_paths(rt: HostRuntime) -> Result<(), Fail> {
         paths.as_slice(),
         Remembered::default(),
         USUAL_ENDS,
-        false,
+        Printing::Lines,
         &mut out,
     );
     assert!(rt; matches!(ended, Ok(Status::Words)));

@@ -2,7 +2,7 @@
 //! elsewhere the script ends for want of memory.
 use super::{Case, calls, observations, plain_paths, strangers};
 use coap_arguments::StoreKind;
-use coap_commands::{Stop, USUAL_ENDS, close, sim_with};
+use coap_commands::{Printing, Stop, USUAL_ENDS, close, sim_with};
 use coap_types::{Path, Remembered};
 use failing_allocator::Failing;
 use std::alloc::{Allocator, Global};
@@ -120,7 +120,7 @@ fn ended_over<A: Allocator + Copy>(
             paths.as_slice(),
             Remembered::default(),
             USUAL_ENDS,
-            false,
+            Printing::Lines,
             &mut printed,
         ),
         Err(stop) => Err(stop),

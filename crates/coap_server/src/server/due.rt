@@ -5,7 +5,6 @@ ghost use Rattle.coap_server.specs.Object.Shown.{seen};
 ghost use Rattle.coap_server.specs.Turns.WhenDue.{has_work, latest};
 ghost use Rattle.coap_server.specs.Turns.Idle.{takes_notice};
 
-use crate::server::moments::later;
 use crate::server::parts::Parts;
 use coap_exchange::Answerer;
 use coap_observe::Observers;
@@ -62,7 +61,7 @@ pub(crate) fn due_parts<S: Store<A>, A: Allocator + Copy, H: BuildHasher>(
     ensures clocks { (seen S.content parts.now).layer.clock ≡ (seen S.content parts.now).own.exchanges.clock }
     ensures range { latest (seen S.content parts.now) < 2 ^ 64 }
 {
-    let from = later(parts.exchanges.clock(), parts.clock);
+    let from = parts.exchanges.clock().later(parts.clock);
     earlier(
         parts.exchanges.due(from),
         notices_from(&parts.exchanges, &parts.observers, from),

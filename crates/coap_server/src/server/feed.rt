@@ -9,7 +9,6 @@ ghost use Rattle.coap_server.specs.Led.{Step};
 ghost use Rattle.coap_server.specs.Trace.{Feeds, Handling};
 ghost use Rattle.coap_server.specs.Object.Shown.{kept_of, seen};
 
-use crate::server::moments::later;
 use crate::server::observation_end::{forget, reject};
 use crate::server::parts::Parts;
 use crate::server::request::handle;
@@ -36,7 +35,7 @@ pub(crate) fn feed_parts<S: Store<A>, A: Allocator + Copy, H: BuildHasher>(
         (below.Receive from bytes.now)) → IsOk result }
 {
     let was = parts.clock;
-    let at = later(was, now);
+    let at = was.later(now);
     let came = parts.exchanges.incoming(at, from, bytes)?;
     parts.clock = at;
     match came {

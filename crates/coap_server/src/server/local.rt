@@ -9,7 +9,6 @@ ghost use Rattle.coap_server.specs.Local.{RemovesBy, SetsBy};
 ghost use Rattle.coap_server.specs.Trace.{Removes, Sets};
 ghost use Rattle.coap_server.specs.Object.Shown.{kept_of, seen};
 
-use crate::server::moments::later;
 use crate::server::parts::Parts;
 use crate::server::served::mark;
 use coap_resource::{Store, StoreRefusal};
@@ -67,7 +66,7 @@ pub(crate) fn set_parts<S: Store<A>, A: Allocator + Copy, H: BuildHasher>(
     ensures refused { (why : StoreRefusalSpec) → put_refusal (S.content parts.old.store) (max parts.old.clock.0 now.0)
         path.now (length body.now) ≡ Some why → result ≡ Err why }
 {
-    let at = later(parts.clock, now);
+    let at = parts.clock.later(now);
     let before = parts.store.version();
     let done = put(&mut parts.store, at, path, format, body);
     if let Err(StoreRefusal::Memory) = done {
@@ -92,7 +91,7 @@ pub(crate) fn remove_parts<S: Store<A>, A: Allocator + Copy, H: BuildHasher>(
         (Removes now.0 path.now result (S.content parts.new.store)) (seen S.content parts.new) }
     ensures timed { parts.new.observers.clock ≤ parts.new.clock.0 }
 {
-    let at = later(parts.clock, now);
+    let at = parts.clock.later(now);
     let before = parts.store.version();
     let done = delete(&mut parts.store, at, path);
     parts.clock = at;

@@ -13,7 +13,6 @@ ghost use Rattle.coap_server.specs.Object.Shown.{kept_of, seen};
 ghost use Rattle.coap_server.specs.Turns.Idle.{IsIdle, moment, takes_notice};
 ghost use Rattle.coap_server.specs.Turns.Turned.{IsTurned};
 
-use crate::server::moments::later;
 use crate::server::notification::notify_next;
 use crate::server::observation_end::forget;
 use crate::server::parts::Parts;
@@ -83,7 +82,7 @@ pub(crate) fn tick_parts<S: Store<A>, A: Allocator + Copy, H: BuildHasher>(
         → IsOk result }
 {
     let was = parts.clock;
-    let at = later(was, now);
+    let at = was.later(now);
     let due = parts.exchanges.tick(at)?;
     parts.clock = at;
     forget(&mut parts.observers, parts.exchanges.ended());

@@ -1,5 +1,4 @@
 use Rattle.std.proofs.Common.{[]}
-use Rattle.coap_client.proofs.Facts.EachCall.{led_client}
 use Rattle.coap_client.specs.Led.{Led}
 use Rattle.coap_client.specs.Object.CallShown.{shown_request}
 use Rattle.coap_commands.proofs.WhatBecomes.{refused_becomes, taken_becomes}
@@ -9,9 +8,9 @@ pub returns-in-Ok : goal.returns-in-Ok
 returns-in-Ok g c =
     taken_becomes (λ server sizes w. Led server sizes w [] c.args.client.now) c.in_ok-begin.begin.0
     (shown_request c.args.request) c.args.terms.now.give_up _ c.in-Ok.id _ c.awaited.result c.in-Ok.is
-    (λ server sizes w led other. led_client server sizes w [] _ _ _ led (c.in_ok-id.ensures.step other)) c.awaited.ensures
+    (λ server sizes w led. c.in_ok-id.ensures.led server sizes w [] led) c.awaited.ensures
 
 pub returns-in-Err : goal.returns-in-Err
 returns-in-Err g c = λ server sizes w led.
     refused_becomes server sizes w _ _ c.args.terms.now.give_up _ _ _ c.in-Err.is
-    (λ other. led_client server sizes w [] _ _ _ led (c.in_ok-id.ensures.step other))
+    (c.in_ok-id.ensures.led server sizes w [] led)

@@ -1,5 +1,4 @@
 use Rattle.std.proofs.Common.{[]}
-use Rattle.coap_client.proofs.Facts.EachCall.{led_client}
 use Rattle.coap_client.specs.Led.{Led}
 use Rattle.coap_commands.proofs.ObservedCalls.{refused_observes, taken_observes}
 use Rattle.coap_commands.proofs.observe.outcome_of.Goals as goal
@@ -8,10 +7,11 @@ pub returns-in-Ok : goal.returns-in-Ok
 returns-in-Ok g c =
     taken_observes (λ server sizes w. Led server sizes w [] c.args.client.now) c.args.options.now c.in_ok-begin.begin.0
     c.args.path.now _ c.in-Ok.id _ c.awaited.result c.in-Ok.is
-    (λ server sizes w led other. led_client server sizes w [] _ _ _ led (c.in_ok-id.ensures.step other))
+    (λ server sizes w led. c.in_ok-id.ensures.led server sizes w
+    [] led)
     c.awaited.ensures
 
 pub returns-in-Err : goal.returns-in-Err
 returns-in-Err g c = λ server sizes w led.
     refused_observes server sizes w c.args.options.now c.in_ok-begin.begin.0 c.args.path.now _ _ _ c.in-Err.is
-    (λ other. led_client server sizes w [] _ _ _ led (c.in_ok-id.ensures.step other))
+    (c.in_ok-id.ensures.led server sizes w [] led)

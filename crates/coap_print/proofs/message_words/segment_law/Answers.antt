@@ -1,4 +1,4 @@
-use Rattle.coap_print.proofs.Printing.{printable}
+use Rattle.coap_print.proofs.WrittenSegments.{printable}
 use Rattle.coap_print.proofs.message_words.segment_law.Goals as goal
 
 pub returns : goal.returns

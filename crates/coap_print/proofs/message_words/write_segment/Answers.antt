@@ -1,6 +1,6 @@
 use Rattle.std.proofs.Common.{rules, arith}
 use Rattle.std.proofs.lemmas.Grind.{put_two}
-use Rattle.coap_print.proofs.Printing.{one_more}
+use Rattle.coap_print.proofs.WrittenSegments.{one_more}
 use Rattle.coap_print.proofs.message_words.write_segment.Goals as goal
 
 pub loop-byte-preserved : goal.loop-byte-preserved

@@ -13,7 +13,7 @@ returns-in-Client-clause-led c = λ answered server sizes setup t led.
     let same = to_z-of_z {w = w32} {z = c.taken.result} (record { sfits = c.taken.type_inv }) in
     let how = c.taken.ensures.answered (subst IsAnswered same answered) in
     let w = led_client server sizes setup t _ _ _ (subst (IsClientIn (Led server sizes setup t)) c.in-Client.is led)
-        (c.call.ensures.step how.0) in (
+    (c.call.ensures.step how.0) in (
       _,
       (
         number_of c.call.result,

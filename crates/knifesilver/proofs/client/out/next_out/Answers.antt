@@ -12,5 +12,5 @@ returns-else-room-lt-MAX_MESSAGE_LEN-clause-led c = λ _ server sizes setup t le
     let same = to_z-of_z {w = w32} {z = give.result} (record { sfits = give.type_inv }) in
     let told = subst (λ n. OutAnswers n give.new.to give.new.room give.new.len c.next_out.result) (sym same) give.ensures.told in
     let w = led_client server sizes setup t _ _ _ (subst (IsClientIn (Led server sizes setup t)) c.in-Client.is led)
-        c.next_out.ensures.step in
+    c.next_out.ensures.step in
     (_, (_, told, refl), w)

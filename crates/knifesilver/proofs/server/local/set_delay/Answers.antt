@@ -7,11 +7,11 @@ use Rattle.knifesilver.proofs.server.local.set_delay.Goals as goal
 pub returns-in-Ok-clause-led : goal.returns-in-Ok-clause-led
 returns-in-Ok-clause-led c = λ _ limits szx setup t led.
     let w = led_further limits szx setup t _ _ _ (subst (IsServerIn (Led limits szx setup t)) c.in-Server.is led)
-        (c.in-Ok.ensures.step (λ e. cc)) in
+    (c.in-Ok.ensures.step (λ e. cc)) in
     (_, (_, refl, refl), w)
 
 pub returns-in-Err-Full-clause-led : goal.returns-in-Err-Full-clause-led
 returns-in-Err-Full-clause-led c = λ _ limits szx setup t led.
     let w = led_further limits szx setup t _ _ _ (subst (IsServerIn (Led limits szx setup t)) c.in-Server.is led)
-        (c.in-Err-Full.ensures.step (λ e. cc)) in
+    (c.in-Err-Full.ensures.step (λ e. cc)) in
     (_, (_, refl, refl), w)

@@ -12,5 +12,5 @@ returns-else-room-lt-MAX_MESSAGE_LEN-clause-led c = λ _ limits szx setup t led.
     let same = to_z-of_z {w = w32} {z = give.result} (record { sfits = give.type_inv }) in
     let told = subst (λ n. OutAnswers n give.new.to give.new.room give.new.len c.next_out.result) (sym same) give.ensures.told in
     let w = led_further limits szx setup t _ _ _ (subst (IsServerIn (Led limits szx setup t)) c.in-Server.is led)
-        c.next_out.ensures.step in
+    c.next_out.ensures.step in
     (_, (_, told, refl), w)

@@ -7,12 +7,16 @@ use Rattle.knifesilver.proofs.server.turns.tick.Goals as goal
 
 pub returns-in-Ok-true-clause-led : goal.returns-in-Ok-true-clause-led
 returns-in-Ok-true-clause-led c = λ _ limits szx setup t led.
-    let w = c.in-Ok-true.ensures.step in
-    (_, (w.0, w.1, w.2, w.3, w.4, w.5, _, ap told (sym c.in-Ok-true.field-0-test), refl),
-      led_further limits szx setup t _ _ _ (subst (IsServerIn (Led limits szx setup t)) c.in-Server.is led) w.6)
+    let w = c.in-Ok-true.ensures.step in (
+      _,
+      (w.0, w.1, w.2, w.3, w.4, w.5, _, ap told (sym c.in-Ok-true.field-0-test), refl),
+      led_further limits szx setup t _ _ _ (subst (IsServerIn (Led limits szx setup t)) c.in-Server.is led) w.6,
+    )
 
 pub returns-in-Ok-false-clause-led : goal.returns-in-Ok-false-clause-led
 returns-in-Ok-false-clause-led c = λ _ limits szx setup t led.
-    let w = c.in-Ok-false.ensures.step in
-    (_, (w.0, w.1, w.2, w.3, w.4, w.5, _, ap told (sym c.in-Ok-false.field-0-test), refl),
-      led_further limits szx setup t _ _ _ (subst (IsServerIn (Led limits szx setup t)) c.in-Server.is led) w.6)
+    let w = c.in-Ok-false.ensures.step in (
+      _,
+      (w.0, w.1, w.2, w.3, w.4, w.5, _, ap told (sym c.in-Ok-false.field-0-test), refl),
+      led_further limits szx setup t _ _ _ (subst (IsServerIn (Led limits szx setup t)) c.in-Server.is led) w.6,
+    )

@@ -1,0 +1,109 @@
+//! What follows where a registration of `observe --again` is left: the end of the program, or another registration.
+ghost use Rattle.std.specs.Prelude.{◌≡◌, IfOk};
+ghost use Rattle.coap_commands.specs.Waiting.{HasPassed};
+ghost use Rattle.coap_commands.specs.Watches.{verdict, verdict_of};
+
+use crate::bearing::bear_in_all;
+use crate::calling::{Outcome, outcome_text};
+use crate::json_lines::write_outcome;
+use crate::timekeeper::Timekeeper;
+use crate::waiting::passed;
+use coap_ends::Report;
+use coap_links::{Link, MAX_DATAGRAM_LEN, fresh_tally};
+use coap_scripts::{Status, Stop};
+use coap_types::Moment;
+use std::alloc::Global;
+use std::io::Write;
+
+/// How a registration is left.
+#[derive(Drop)]
+pub(crate) enum Left {
+    /// No value came for so long.
+    Silent,
+    /// By what became of it.
+    Ended(Outcome),
+}
+
+/// With which status the program ends where a registration is left so, and the observation is over or not; None: the
+/// path is observed anew.
+pub(crate) fn verdict(left: &Left, is_over: bool) -> Option<Status>
+    ensures { result ≡ verdict left.now is_over }
+{
+    match left {
+        Left::Silent if is_over => Some(Status::Refused),
+        Left::Silent => None,
+        Left::Ended(outcome) => verdict_of(outcome, is_over),
+    }
+}
+
+// .. where it ended with this outcome.
+fn verdict_of(outcome: &Outcome, is_over: bool) -> Option<Status>
+    ensures { result ≡ verdict_of outcome.now is_over }
+{
+    match outcome {
+        Outcome::Refused(_) | Outcome::GaveUp(_) => Some(Status::Refused),
+        Outcome::Reported(Report::Cancelled) => Some(Status::Done),
+        Outcome::Reported(_) if is_over => Some(Status::Refused),
+        Outcome::Reported(_) => None,
+    }
+}
+
+/// Says how a registration was left, and that the path is observed anew.
+pub(crate) fn say_anew<E: Write>(
+    alloc: Global,
+    left: &Left,
+    again: u64,
+    err: &mut E,
+) -> Result<(), Stop> {
+    let text = match left {
+        Left::Silent => format!(in alloc; "no value in {again} s")?,
+        Left::Ended(outcome) => outcome_text(alloc, outcome)?,
+    };
+    let _ = writeln!(err, "{text}; observing anew");
+    Ok(())
+}
+
+/// Tells how the last registration was left: in JSON where that is wanted.
+pub(crate) fn tell_last<T: Timekeeper, O: Write, E: Write>(
+    alloc: Global,
+    left: &Left,
+    is_json: bool,
+    time: &mut T,
+    out: &mut O,
+    err: &mut E,
+) -> Result<(), Stop> {
+    match left {
+        Left::Silent => {}
+        Left::Ended(outcome) if is_json => {
+            let at = time.now()?;
+            write_outcome(alloc, at, outcome, out)?;
+        }
+        Left::Ended(outcome) => {
+            let text = outcome_text(alloc, outcome)?;
+            let _ = writeln!(err, "{text}");
+        }
+    }
+    Ok(())
+}
+
+/// Waits until so many seconds have passed since this moment, and drops what comes: the moment at which they have.
+pub(crate) fn pause<L: Link, T: Timekeeper>(
+    link: &mut L,
+    time: &mut T,
+    begin: Moment,
+    again: u64,
+) -> Result<Moment, Stop>
+    ensures { IfOk result (λ now. HasPassed again begin.0 now.0) }
+{
+    let mut buf = [0; MAX_DATAGRAM_LEN];
+    // More turns than a program lives.
+    for _turn in 0..u64::MAX {
+        let now = time.now()?;
+        if passed(Some(again), begin, now).is_some() {
+            return Ok(now);
+        }
+        let _dropped = link.receive(&mut buf);
+        bear_in_all(link, &fresh_tally(0))?;
+    }
+    Err(Stop::Failed)
+}
