@@ -5,6 +5,7 @@ pub mod Captured
 pub mod Capturing
 pub mod Colours
 pub mod Discovers
+pub mod Drawn
 pub mod Dumps
 pub mod Ends
 pub mod Hosts

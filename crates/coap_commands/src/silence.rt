@@ -2,12 +2,14 @@
 ghost use Rattle.std.specs.Prelude.{ℕ, List, Option, ◌≡◌};
 ghost use Rattle.coap_types.specs.declared.endpoint.Endpoint.{Endpoint as EndpointSpec};
 ghost use Rattle.coap_links.specs.Carried.{Packet};
+ghost use Rattle.coap_commands.specs.Progress.{max_age};
 
+use crate::progress::number_of;
 use crate::timekeeper::Timekeeper;
 use crate::waiting::passed;
-use coap_codec::decode;
+use coap_codec::{View, decode};
 use coap_links::Link;
-use coap_types::{Endpoint, Moment, uint_of};
+use coap_types::{Endpoint, Moment};
 use std::io::Write;
 
 // The number of the option that says for how many seconds a response is fresh (RFC 7252, section 5.10.5).
@@ -27,19 +29,22 @@ pub struct Silence<T, W> {
     fresh: Option<(Moment, u64)>,
 }
 
-// For how many seconds a datagram says that it is fresh.
-fn max_age_of(bytes: &[u8]) -> u64 {
-    if let Ok(message) = decode(bytes) {
-        for option in message.options() {
-            if option.number == MAX_AGE {
-                return match uint_of(option.value) {
-                    Some(seconds) => u64::from(seconds),
-                    None => DEFAULT_MAX_AGE,
-                };
-            }
-        }
+// For how many seconds a message says that it is fresh.
+fn max_age_in(message: &View<'_>) -> u64
+    ensures { result ≡ max_age message.now.options }
+{
+    match number_of(message, MAX_AGE) {
+        Some(seconds) => seconds,
+        None => DEFAULT_MAX_AGE,
     }
-    DEFAULT_MAX_AGE
+}
+
+// .. a datagram.
+fn max_age_of(bytes: &[u8]) -> u64 {
+    match decode(bytes) {
+        Ok(message) => max_age_in(&message),
+        Err(_) => DEFAULT_MAX_AGE,
+    }
 }
 
 impl<T: Timekeeper, W: Write> Silence<T, W> {
