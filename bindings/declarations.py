@@ -225,7 +225,7 @@ def exchange_numbers(texts):
 # Names of the library that are others in C; and those of answers that no call gives, which C doesn't have.
 OTHER_NAMES = {"NOTHING": "OK", "REPORT_DONE": "SUCCESS"}
 NOT_IN_C = {"TOO_LONG", "SET_MEMORY", "CALL_MEMORY"}
-REFUSALS = r"ks_\w+_refusal|ks_fault"
+REFUSALS = r"ks_\w+_refusal|ks_fault|ks_would"
 ENUM = r"enum (\w*)\s*\{(.*?)\}"
 
 

@@ -21,11 +21,20 @@ class Address(c.Structure):
 
 
 class Config(c.Structure):
-    _fields_ = [("size", u32), ("block_size", u32), ("body_limit", u32), ("remembered", u32), ("changes", u32)]
+    _fields_ = [("size", u32), ("block_size", u32), ("body_limit", u32), ("remembered", u32), ("changes", u32),
+                ("base", u64)]
 
 
 class Seed(c.Structure):
     _fields_ = [("word", u64), ("key0", u64), ("key1", u64)]
+
+
+class Life(c.Structure):
+    _fields_ = [("boot_high", u64), ("boot_low", u64), ("uptime", u64), ("moment", u64)]
+
+
+class Replayed(c.Structure):
+    _fields_ = [("end", u64), ("torn", u64), ("moment", u64), ("life", Life)]
 
 
 class Representation(c.Structure):
@@ -66,6 +75,33 @@ def place(a):
     return (bytes(a.ip), a.port)
 
 
+def framed(call, *given):
+    """The frame that this call of the library writes."""
+    length, room = size(), c.create_string_buffer(1 << 18)
+    answer = getattr(lib, f"ks_journal_{call}")(*given, room, size(1 << 18), c.byref(length))
+    assert answer == DONE, answer
+    return room.raw[: length.value]
+
+
+def begin(word, life):
+    config = Config(c.sizeof(Config), 0, 0, 0, 0, 0)
+    return framed("begin", c.byref(config), c.byref(Seed(word, 1, 2)), c.byref(life))
+
+
+def wake(place, life):
+    return framed("wake", u64(place), c.byref(life))
+
+
+def frame(place, turn):
+    return framed("frame", u64(place), turn, size(len(turn)))
+
+
+def go_on(told, life):
+    """For how long a server is silent that was replayed, and its moment then."""
+    lib.ks_journal_go_on.restype, moment = u64, u64()
+    return lib.ks_journal_go_on(c.byref(told), c.byref(life), c.byref(moment)), moment.value
+
+
 class End:
     """What both ends have in common; `kind` is "server" or "client"."""
 
@@ -98,8 +134,23 @@ class Server(End):
 
     def __init__(self, word, remembered=0):
         self.handle = Handle()
-        config = Config(c.sizeof(Config), 0, 0, remembered, 0)
+        config = Config(c.sizeof(Config), 0, 0, remembered, 0, 0)
         assert self.call("new", c.byref(config), c.byref(Seed(word, 1, 2))) == OK
+
+    @classmethod
+    def replayed(cls, file):
+        """The server of this journal and what is told of it, or the number of why there is none."""
+        server, told = cls.__new__(cls), Replayed()
+        server.handle = Handle()
+        answer = server.call("replay", file, size(len(file)), c.byref(told))
+        return (server, told) if answer == OK else (None, answer)
+
+    def noted(self):
+        """What was taken since this was asked last."""
+        length, room = size(), c.create_string_buffer(1 << 18)
+        if self.call("noted", room, size(1 << 18), c.byref(length)) != DONE:
+            return None
+        return room.raw[: length.value]
 
     def set(self, now, path, body, form=0):
         version = u64()
@@ -138,7 +189,7 @@ class Client(End):
 
     def __init__(self, server, word):
         self.handle = Handle()
-        config = Config(c.sizeof(Config), 0, 0, 0, 0)
+        config = Config(c.sizeof(Config), 0, 0, 0, 0, 0)
         assert self.call("new", c.byref(address(server)), c.byref(config), c.byref(Seed(word, 3, 4))) == OK
 
     def ask(self, now, method, path, body=b"", form=-1, if_match=()):

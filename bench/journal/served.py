@@ -59,7 +59,7 @@ class Served:
         self.told, self.outages, self.replaced, self.calm = {}, [], {}, False
         self.count = {"crashes": 0, "torn": 0, "inputs": 0, "bytes": 0, "fed": 0}
         world.nodes[SERVER] = self
-        self.disk.append(j.frame(0, j.begun(self.word, j.life(self.boot, 0, 0))))
+        self.disk.append(self.begun())
         self.disk.sync()
         self.start()
 
@@ -71,7 +71,14 @@ class Served:
 
     # ---- the file
 
-    def start(self):
+    def begun(self):
+        return j.frame(0, j.begun(self.word, j.life(self.boot, 0, 0)))
+
+    def woke(self, moment):
+        return j.frame(len(self.disk.kept), j.woke(j.life(self.boot, self.uptime(), moment)))
+
+    def opened(self):
+        """Reads the file: for how long the server is silent, and its moment then."""
         found, end, rest, damaged = j.frames(self.disk.kept)
         if damaged:
             raise Failed(f"opens: the file is damaged at {end}")
@@ -81,10 +88,15 @@ class Served:
         self.server = ks.Server(self.draw() if self.variant in ("another_seed", "no_replay") else self.word)
         last, latest = self.replayed(found)
         dropped = len(self.server.outs())
+        self.taken = dropped
         silence, moment = go_on(last, latest, self.boot, self.uptime())
         if self.variant == "no_silence":
             silence, moment = 0, max(latest, moment - silence)
-        self.number, self.batch, self.busy, self.queue, self.taken = self.number + 1, [], False, [], dropped
+        return silence, moment
+
+    def start(self):
+        silence, moment = self.opened()
+        self.number, self.batch, self.busy, self.queue = self.number + 1, [], False, []
         self.untold = []
         self.silent = True
         self.world.at(self.world.now + silence, self.if_alive(lambda: self.speak(moment)))
@@ -113,7 +125,7 @@ class Served:
     def speak(self, moment):
         self.silent, self.last = False, moment
         self.began, self.moment_then = self.world.now, moment
-        self.put([], j.woke(j.life(self.boot, self.uptime(), moment)))
+        self.put([], self.woke(moment))
         self.turn()
 
     def if_alive(self, what):
@@ -124,9 +136,8 @@ class Served:
         self.last = max(self.last, self.moment_then + self.world.now - self.began)
         return self.last
 
-    def put(self, outs, body):
+    def put(self, outs, framed):
         """Appends a frame; what is out is sent once it is synced."""
-        framed = j.frame(len(self.disk.kept), body)
         self.count["bytes"] += len(framed)
         self.disk.append(framed)
         self.busy = True
@@ -190,16 +201,22 @@ class Served:
             self.ticks(now)
         del self.queue[:AT_ONCE]
         self.ticks(now)
-        outs = self.server.outs()
-        if not self.batch:
-            self.taken += len(outs)
+        outs, framed = self.kept(now)
+        if framed is None:
             self.send(outs)
             self.sleep()
-            return
-        self.count["inputs"] += len(self.batch)
+        else:
+            self.put(outs, framed)
+
+    def kept(self, now):
+        """What is out, and the frame of what was taken, if something was."""
+        outs, self.count["inputs"] = self.server.outs(), self.count["inputs"] + len(self.batch)
+        if not self.batch:
+            self.taken += len(outs)
+            return outs, None
         body = j.turn(now, self.taken, b"".join(self.batch))
         self.batch, self.taken = [], len(outs)
-        self.put(outs, body)
+        return outs, j.frame(len(self.disk.kept), body)
 
     def ticks(self, now):
         # A tick is made where it is due, so that no idle tick is one of the inputs.

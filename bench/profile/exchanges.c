@@ -1,6 +1,6 @@
 /* exchanges KIND COUNT: a client and a server of the library do COUNT exchanges, one after the other, through two links
- * in memory. KIND is get (22.3 C of `temperature`), put (the same there) or block (one of the blocks of a body of 65,536
- * bytes that is fetched). Moments, words and keys are fixed, so each run does the same. For bench/profile/run, which
+ * in memory. KIND is get (22.3 C of `temperature`), tick (the same, and the server ticks after each datagram, as a
+ * program's loop has it), put (the same there) or block (one of the blocks of a body of 65,536 bytes that is fetched). Moments, words and keys are fixed, so each run does the same. For bench/profile/run, which
  * counts the instructions of client_turn and server_turn. */
 #include "knifesilver.h"
 #include <stdio.h>
@@ -18,6 +18,7 @@ static ks_server server;
 static ks_client client;
 static uint8_t up[KS_DATAGRAM_ROOM], down[KS_DATAGRAM_ROOM], body[BODY_LEN];
 static size_t up_len, down_len;
+static bool ticks;
 static const ks_tag none;
 
 static void must(bool right, const char *what) {
@@ -30,6 +31,7 @@ static void must(bool right, const char *what) {
 __attribute__((noinline)) static void server_turn(uint64_t now) {
     ks_address to;
     must(ks_server_feed(&server, now, &client_at, up, up_len, 0) == KS_OK, "the server takes no datagram");
+    if (ticks) must(ks_server_tick(&server, now, 1) == KS_OK, "something is due");
     must(ks_server_next_out(&server, &to, down, sizeof down, &down_len) == KS_DONE, "the server has no answer");
 }
 
@@ -59,8 +61,9 @@ static unsigned long call(const ks_request *request, const char *sent, uint64_t 
 }
 
 int main(int argc, char **argv) {
-    must(argc == 3, "words: get|put|block COUNT");
+    must(argc == 3, "words: get|tick|put|block COUNT");
     bool puts = strcmp(argv[1], "put") == 0, blocks = strcmp(argv[1], "block") == 0;
+    ticks = strcmp(argv[1], "tick") == 0;
     unsigned long wanted = strtoul(argv[2], NULL, 10), done = 0;
     ks_config config = {0};
     ks_seed seed = {1, 2, 3};

@@ -53,13 +53,15 @@ enum {
     KS_NO_MEMORY = -2,      /* malloc or realloc answered NULL */
     KS_BAD_PATH = -3,       /* over 16 segments, one of over 255 bytes, or a % without two hexadecimal digits */
     KS_SMALL_ROOM = -4,     /* the buffer is too small: nothing was taken, call again with a larger one */
-    KS_BAD_ARGUMENT = -5,   /* an entity-tag of 0 or over 8 bytes, over 4 of them, a method or an error that is none */
-    KS_BAD_SIZE = -6,       /* ks_config.size is neither 0 nor sizeof (ks_config) */
+    KS_BAD_ARGUMENT = -5,   /* an entity-tag of 0 or over 8 bytes, over 4 of them, a method or an error that is none; a
+                             * place of 2^62 or a turn of 2^32 bytes or more */
+    KS_BAD_SIZE = -6,       /* ks_config.size is neither 0 nor sizeof (ks_config); ks_end_load.size is not sizeof (ks_end_load) */
     KS_BAD_BLOCK_SIZE = -7, /* ks_config.block_size is none of 0, 16, 32, 64, 128, 256, 512 and 1,024 */
     KS_BAD_BODY_LIMIT = -8, /* ks_config.body_limit is over 1,048,576 */
     KS_BAD_REMEMBERED = -9, /* ks_config.remembered is over 1,048,576 */
     KS_BAD_CHANGES = -10,   /* ks_config.changes is over 4,194,303 */
-    KS_BAD_BASE = -11       /* ks_config.base is no multiple of 2^24, or not below 2^63 */
+    KS_BAD_BASE = -11,      /* ks_config.base is no multiple of 2^24, or not below 2^63 */
+    KS_UNTOLD = -12         /* what a server took is to be asked by ks_server_noted first, and kept */
 };
 
 #define KS_VERSION 200u         /* of this header: 0.2.0 */
@@ -178,8 +180,8 @@ int32_t ks_server_tick(ks_server *handle, uint64_t now, uint64_t word);
 int32_t ks_server_due(ks_server *handle, uint64_t *at);
 
 /* Takes the datagram that is to be sent next: KS_DONE with *to, *len and its bytes at the front of the room; KS_OK where
- * there is none; KS_SMALL_ROOM where the room has under KS_DATAGRAM_ROOM bytes; KS_NOT_LIVE. What you don't send is lost,
- * as on the way: it is sent again if it is to be. */
+ * there is none; KS_SMALL_ROOM where the room has under KS_DATAGRAM_ROOM bytes; KS_UNTOLD, of a server with a journal
+ * alone; KS_NOT_LIVE. What you don't send is lost, as on the way: it is sent again if it is to be. */
 int32_t ks_server_next_out(ks_server *handle, ks_address *to, void *room, size_t room_len, size_t *len);
 
 typedef struct {
@@ -196,6 +198,89 @@ typedef struct {
  * is nothing; KS_SMALL_ROOM, after which you may ask again; KS_NOT_LIVE. The next feed or tick, an idle one too, empties
  * it: ask after each feed, and after each tick that answered KS_DONE, before the next. */
 int32_t ks_server_applied(ks_server *handle, ks_applied *done, char *room, size_t room_len);
+
+/* ---- The journal of a server ------------------------------------------------------------------------------------- */
+
+/* A server that is ended at any moment, and goes on. It is a function of what it is handed; so what it took is kept in a
+ * file, and a server that is handed the same again is the same one: nothing is applied twice, no entity-tag names two
+ * bodies, observers stay. The file is one frame after the other: how the server began, then its further lives and its
+ * turns. You write and sync the file; the library has the format.
+ *
+ *     read the file; where it is empty (or KS_JOURNAL_NOT_BEGUN): cut it to 0 bytes, append ks_journal_begin, sync, read it
+ *     ks_server_replay(&server, file, file_len, &replayed);  cut the file to replayed.end bytes; sync
+ *     take each ks_server_next_out, and throw it away
+ *     silence = ks_journal_go_on(&replayed, &life, &life.moment);  wait for so long, with the socket unread
+ *     append ks_journal_wake(place, &life, ..), sync; switch what hangs on what a path holds
+ *     for (;;) {
+ *         feed what came; tick while something is due; set, remove and so on
+ *         if (ks_server_noted(&server, turn, ..) == KS_DONE) append ks_journal_frame(place, turn, ..), sync
+ *         send each ks_server_next_out; wait
+ *     }
+ *
+ * `place` is how many bytes the file has then. Append the whole frame and sync the file before you send anything: until
+ * ks_server_noted has told what was taken, ks_server_next_out answers KS_UNTOLD. After a write or a sync that failed, end,
+ * and don't write to this file again. One program at a time writes to it. The file holds all bodies and the seed.
+ *
+ * The moments go on: `now` is `life.moment` and the milliseconds since ks_journal_go_on and that silence. */
+
+/* A life of a server, from its start to its end. The boot is 128 bits that differ in each boot of the machine (Linux:
+ * /proc/sys/kernel/random/boot_id), the uptime how long it has been up, with what it slept, in ms (CLOCK_BOOTTIME). Who has
+ * no such name hands in 128 random bits: then each outage counts as one of unknown length. */
+typedef struct {
+    uint64_t boot_high;
+    uint64_t boot_low;
+    uint64_t uptime;
+    uint64_t moment;            /* of the server, at that uptime */
+} ks_life;
+
+/* The frame with which a file begins: how the server is made, as by ks_server_new, and its first life: 109 bytes. KS_DONE
+ * with *len and its bytes at the front of the room; KS_SMALL_ROOM with *len; KS_BAD_SIZE, KS_BAD_BLOCK_SIZE, KS_BAD_BODY_LIMIT,
+ * KS_BAD_REMEMBERED, KS_BAD_CHANGES, KS_BAD_BASE; KS_NO_MEMORY. */
+int32_t ks_journal_begin(const ks_config *config, const ks_seed *seed, const ks_life *life, void *room, size_t room_len,
+                         size_t *len);
+
+/* The frame of a further life, 53 bytes, which is to stand at this place of the file. KS_DONE and KS_SMALL_ROOM as there;
+ * KS_BAD_ARGUMENT: no frame stands at a place of 2^62 or more; KS_NO_MEMORY. */
+int32_t ks_journal_wake(uint64_t place, const ks_life *life, void *room, size_t room_len, size_t *len);
+
+/* The frame of a turn, as ks_server_noted tells it, with 20 bytes more. Else as ks_journal_wake; KS_BAD_ARGUMENT, too, where the turn has 2^32
+ * bytes or more. */
+int32_t ks_journal_frame(uint64_t place, const void *turn, size_t turn_len, void *room, size_t room_len, size_t *len);
+
+typedef struct {
+    uint64_t end;               /* where the last whole frame ends: cut the file off there */
+    uint64_t torn;              /* how many bytes of a torn frame are behind it */
+    uint64_t moment;            /* the latest moment that the journal tells */
+    ks_life life;               /* the last life */
+} ks_replayed;
+
+/* Why a journal is not replayed. (Want of memory is KS_NO_MEMORY.) */
+enum ks_journal_refusal {
+    KS_JOURNAL_DAMAGED = 145,   /* whole frames stand behind one that isn't, which begins at told->end */
+    KS_JOURNAL_NOT_BEGUN = 146, /* no frame is whole: nothing was ever sent */
+    KS_JOURNAL_OTHER_FORMAT = 147, /* another library wrote it */
+    KS_JOURNAL_OTHER_LAW = 148, /* .. whose server does otherwise with the same inputs */
+    KS_JOURNAL_UNREADABLE = 149, /* a whole frame that holds no record, or a first one that holds no beginning */
+    KS_JOURNAL_OTHER_SERVER = 150 /* more datagrams went out than this server had */
+};
+
+/* Makes the server of this file, as it was after the last whole frame; what the handle held is freed. From then on it
+ * notes what it takes. KS_OK with *told written, also where a torn frame is behind the whole ones. After another answer the
+ * handle holds what it held: ks_journal_refusal; KS_NO_MEMORY. The applications of what is replayed are not told again:
+ * look at what the paths hold. */
+int32_t ks_server_replay(ks_server *handle, const void *file, size_t file_len, ks_replayed *told);
+
+/* For how many ms a server that was replayed is to be silent: nothing is fed and nothing sent. *moment is that of the
+ * server behind the silence. In the boot of its last life it is 0, and the time that passed counts; in another boot, or
+ * where the uptime is smaller, what passed isn't known: then it is 47,001, and that alone counts. The moment of `now` is
+ * not read. */
+uint64_t ks_journal_go_on(const ks_replayed *replayed, const ks_life *now, uint64_t *moment);
+
+/* What a server with a journal took since this was asked last, for ks_journal_frame: KS_DONE with *len and its bytes at the
+ * front of the room, after which it is told no more; KS_OK where it took nothing, or has no journal; KS_SMALL_ROOM with *len;
+ * KS_NO_MEMORY; KS_NOT_LIVE. A call that was refused memory is in no turn. A tick is one where it was due; where none is,
+ * ks_server_tick of a server with a journal does nothing. A datagram takes 27 bytes and its own, a tick 17. */
+int32_t ks_server_noted(ks_server *handle, void *room, size_t room_len, size_t *len);
 
 /* ---- The client of one server ------------------------------------------------------------------------------------ */
 
@@ -350,9 +435,76 @@ int32_t ks_server_refuse(ks_server *handle, uint64_t now, const ks_address *from
  * ks_server_refuse, which asks nothing of the kind, and answers a Non-confirmable request, too. */
 int32_t ks_refuse(const void *datagram, size_t datagram_len, uint8_t code, void *room, size_t room_len, size_t *len);
 
+/* ---- How much an end has, and what a datagram would be ------------------------------------------------------------- */
+
+/* How much an end has at a moment. Set `size` to sizeof (ks_end_load) before the call. What an end of the other kind has alone
+ * is 0. Each count is exact; what has lived its time is not counted. Later versions add fields at the end. */
+typedef struct {
+    uint32_t size;              /* sizeof (ks_end_load) */
+    uint32_t ids_left;          /* Message IDs that can be given now, one after the other: at 0 nothing new can be sent */
+    uint64_t changes_left;      /* of a server: changes that its store can take now, one after the other */
+    uint64_t remembered;        /* messages that are remembered, to tell repeats */
+    uint64_t remembered_most;   /* how many can be: with as many, new messages go unanswered */
+    uint64_t outstanding;       /* Confirmable messages that are not acknowledged yet */
+    uint64_t queued;            /* datagrams that wait for ks_.._next_out */
+    uint64_t observers;         /* of a server: 64 at most */
+    uint64_t partial;           /* of a server: uploads that are not whole yet; 16 at most */
+    uint64_t deferred;          /* of a server: requests that wait for their separate responses; 16 at most */
+    uint64_t paths;             /* of a server: paths that hold something; 256 at most */
+    uint64_t delays;            /* of a server: paths with a delay; 16 at most */
+    uint64_t plains;            /* of a server: paths that are plain; 16 at most */
+    uint64_t waiting;           /* of a client: calls and cancels that wait; 8 at most */
+    uint64_t observations;      /* of a client: live ones; 16 at most */
+    uint64_t reports;           /* of a client: reports that wait for ks_client_next_report */
+} ks_end_load;
+
+/* How much the end has at this moment. A moment before the last one counts as the last. Nothing changes, and it takes no
+ * memory. KS_OK with *load written; KS_BAD_SIZE; KS_NOT_LIVE. */
+int32_t ks_server_load(ks_server *handle, uint64_t now, ks_end_load *load);
+int32_t ks_client_load(ks_client *handle, uint64_t now, ks_end_load *load);
+
+/* What a datagram would be if it were fed now. */
+enum ks_would {
+    KS_WOULD_IGNORE = 64,       /* silently ignored */
+    KS_WOULD_REJECT = 65,       /* answered with a Reset */
+    KS_WOULD_REPEAT = 66,       /* a repeat of what is remembered: the stored reply goes out again, if there is one */
+    KS_WOULD_TAKE = 67,         /* new: handed up */
+    KS_WOULD_NO_PLACE = 68,     /* new, but dropped: as many messages are remembered as can be */
+    KS_WOULD_NO_ID = 69,        /* a Non-confirmable request that is not served, as no Message ID is free for its answer */
+    KS_WOULD_ACKNOWLEDGE = 70,  /* an acknowledgement of what is outstanding, and no more */
+    KS_WOULD_RESET = 71         /* a Reset, of what is outstanding or of what is not */
+};
+
+/* What ks_.._feed would make of the datagram at this moment: the row of the table of arrivals that it would take. So new
+ * messages can be charged to whom they come from, or counted, before they are fed. Nothing changes, and it takes no
+ * memory. enum ks_would; KS_NOT_LIVE. */
+int32_t ks_server_would(ks_server *handle, uint64_t now, const ks_address *from, const void *datagram,
+                        size_t datagram_len);
+int32_t ks_client_would(ks_client *handle, uint64_t now, const ks_address *from, const void *datagram,
+                        size_t datagram_len);
+
+typedef struct {
+    ks_address to;
+    bool observe;               /* it was a notification */
+    uint8_t token_len;
+    uint8_t token[8];
+} ks_ended;
+
+/* The separate response or the notification that the last feed or tick ended, by a Reset or for want of an
+ * acknowledgement; whom a notification ends so, is no longer notified. KS_DONE with *ended written; KS_OK where there is
+ * none; KS_NOT_LIVE. The next feed or tick empties it, as ks_server_applied. */
+int32_t ks_server_ended(ks_server *handle, ks_ended *ended);
+
+/* Whether the server has something of this peer at this moment that it may send, or may still need: an observation, an
+ * upload that is not whole, a request that waits for its delay, a message that is not acknowledged or that waits for
+ * ks_server_next_out. KS_DONE; KS_OK where it has nothing; KS_NOT_LIVE. What tells repeats is not counted: that is over
+ * by itself, 247 s after the peer's last message. After both, a name of the peer can be given to another. */
+int32_t ks_server_knows(ks_server *handle, uint64_t now, const ks_address *peer);
+
 /* ---- What an answer says ----------------------------------------------------------------------------------------- */
 
-/* Whether a call refused. (Not of ks_peek, which answers KS_OK or what is wrong with the datagram.) */
+/* Whether a call refused. (Not of ks_peek, which answers KS_OK or what is wrong with the datagram, and not of
+ * ks_server_would and ks_client_would.) */
 static inline bool ks_refused(int32_t answer) { return answer != KS_OK && answer != KS_DONE; }
 
 /* An answer in words. */
@@ -365,12 +517,13 @@ static inline const char *ks_answer_text(int32_t answer) {
     case KS_BAD_PATH: return "the text is no path";
     case KS_SMALL_ROOM: return "the buffer is too small";
     case KS_BAD_ARGUMENT: return "a method, an entity-tag or a code that is none";
-    case KS_BAD_SIZE: return "the size of the configuration is none";
+    case KS_BAD_SIZE: return "the size of the struct is none";
     case KS_BAD_BLOCK_SIZE: return "the block size is none of 16, 32, .. 1,024";
     case KS_BAD_BODY_LIMIT: return "the limit of bodies is not 1 to 1,048,576";
     case KS_BAD_REMEMBERED: return "the number of remembered messages is not 1 to 1,048,576";
     case KS_BAD_CHANGES: return "the number of changes is not 1 to 4,194,303";
     case KS_BAD_BASE: return "the base of versions is no multiple of 2^24 below 2^63";
+    case KS_UNTOLD: return "what was taken is not handed out yet";
     case KS_SET_TOO_LARGE: return "the body is longer than the server's limit";
     case KS_SET_TOO_MANY_PATHS: return "256 other paths hold something";
     case KS_SET_RATE_EXCEEDED: return "the window of 256 s has no change left";
@@ -384,6 +537,20 @@ static inline const char *ks_answer_text(int32_t answer) {
     case KS_PLAIN_FULL: return "16 other paths are plain";
     case KS_CANCEL_UNKNOWN: return "no live observation has the number";
     case KS_CANCEL_QUEUE_FULL: return "8 calls wait: the cancel is not taken";
+    case KS_WOULD_IGNORE: return "the datagram would be ignored";
+    case KS_WOULD_REJECT: return "the datagram would be answered with a Reset";
+    case KS_WOULD_REPEAT: return "the datagram would be a repeat";
+    case KS_WOULD_TAKE: return "the datagram would be taken";
+    case KS_WOULD_NO_PLACE: return "the datagram would be dropped, as no place is left to remember it";
+    case KS_WOULD_NO_ID: return "the datagram would not be served, as no Message ID is free";
+    case KS_WOULD_ACKNOWLEDGE: return "the datagram would acknowledge what is outstanding";
+    case KS_WOULD_RESET: return "the datagram would be a Reset";
+    case KS_JOURNAL_DAMAGED: return "whole frames of the journal stand behind one that isn't";
+    case KS_JOURNAL_NOT_BEGUN: return "no frame of the journal is whole";
+    case KS_JOURNAL_OTHER_FORMAT: return "a journal of another format";
+    case KS_JOURNAL_OTHER_LAW: return "a journal of a server by another law";
+    case KS_JOURNAL_UNREADABLE: return "a whole frame of the journal that holds no record";
+    case KS_JOURNAL_OTHER_SERVER: return "a journal of another server";
     case KS_FAULT_SHORT: return "fewer than 4 bytes";
     case KS_FAULT_VERSION: return "a version other than 1";
     case KS_FAULT_TOKEN_LENGTH: return "a token length of 9 to 15";

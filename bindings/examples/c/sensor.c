@@ -1,7 +1,7 @@
-/* sensor PORT [PERIOD_MS]: a CoAP server of one resource, coap://127.0.0.1:PORT/temperature, whose value is measured every
- * PERIOD_MS milliseconds (5,000; 0: once) and notified to those who observe it, where it has changed. It sleeps until a
- * datagram comes or something is due. */
-#include "knifesilver.h"
+/* sensor PORT [PERIOD_MS [FILE]]: a CoAP server of one resource, coap://127.0.0.1:PORT/temperature, whose value is measured
+ * every PERIOD_MS milliseconds (5,000; 0: once) and notified to those who observe it, where it has changed. It sleeps until
+ * a datagram comes or something is due. With a FILE it keeps a journal: it may be killed at any moment, and goes on. */
+#include "ks_journal.h"
 #include <arpa/inet.h>
 #include <poll.h>
 #include <stdio.h>
@@ -11,13 +11,15 @@
 #include <sys/socket.h>
 #include <time.h>
 
-enum { LINK_FORMAT = 40 }; /* application/link-format (RFC 6690, section 7.3) */
+enum { LINK_FORMAT = 40, AT_ONCE = 64 }; /* application/link-format (RFC 6690, section 7.3) */
 
 static ks_server server;
+static ks_file file = {.fd = -1};
 static int udp;
 
 static uint64_t now_ms(void) {
     struct timespec t;
+    if (file.fd >= 0) return ks_file_now(&file);
     clock_gettime(CLOCK_MONOTONIC, &t);
     return (uint64_t)t.tv_sec * 1000 + (uint64_t)t.tv_nsec / 1000000;
 }
@@ -28,10 +30,12 @@ static uint64_t random_word(void) {
     return word;
 }
 
+/* What was taken is kept, and then what is out is sent. */
 static void send_all(void) {
     static uint8_t out[KS_DATAGRAM_ROOM];
     ks_address to;
     size_t len;
+    if (file.fd >= 0 && ks_file_keep(&file, &server) != KS_OK) perror("the journal"), exit(1);
     while (ks_server_next_out(&server, &to, out, sizeof out, &len) == KS_DONE) {
         struct sockaddr_in a = {.sin_family = AF_INET, .sin_port = htons(to.port)};
         memcpy(&a.sin_addr, to.ip, 4);
@@ -45,20 +49,21 @@ static void receive_all(void) {
     struct sockaddr_in a;
     socklen_t a_len = sizeof a;
     ssize_t len;
-    while ((len = recvfrom(udp, in, sizeof in, MSG_DONTWAIT, (struct sockaddr *)&a, &a_len)) >= 0) {
+    for (int n = 0; n < AT_ONCE; n++) {
+        if ((len = recvfrom(udp, in, sizeof in, MSG_DONTWAIT, (struct sockaddr *)&a, &a_len)) < 0) break;
         ks_address from = {.port = ntohs(a.sin_port)};
         memcpy(from.ip, &a.sin_addr, 4);
         ks_server_feed(&server, now_ms(), &from, in, (size_t)len, 0); /* a server's feed draws no random numbers */
-        send_all();
         a_len = sizeof a;
     }
+    send_all();
 }
 
 /* What is there, for whoever asks (RFC 6690): the library makes no such list by itself. */
 static int32_t list(void) {
     static const char path[] = ".well-known/core", links[] = "</temperature>;obs;ct=0";
     uint64_t version;
-    return ks_server_set(&server, 0, path, sizeof path - 1, LINK_FORMAT, links, sizeof links - 1, &version);
+    return ks_server_update(&server, 0, path, sizeof path - 1, LINK_FORMAT, links, sizeof links - 1, &version);
 }
 
 static void measure(void) {
@@ -80,16 +85,16 @@ static int wait_ms(uint64_t now, uint64_t measurement) {
 }
 
 int main(int argc, char **argv) {
-    if (argc < 2) return fprintf(stderr, "sensor PORT [PERIOD_MS]\n"), 2;
+    if (argc < 2) return fprintf(stderr, "sensor PORT [PERIOD_MS [FILE]]\n"), 2;
     if (ks_version() != KS_VERSION) return fprintf(stderr, "the library is not the header's\n"), 2;
     uint64_t period = argc > 2 ? strtoull(argv[2], NULL, 10) : 5000, next = 0;
     struct sockaddr_in a = {.sin_family = AF_INET, .sin_port = htons((uint16_t)atoi(argv[1])),
                             .sin_addr = {htonl(INADDR_LOOPBACK)}};
-    udp = socket(AF_INET, SOCK_DGRAM, 0);
-    if (udp < 0 || bind(udp, (struct sockaddr *)&a, sizeof a) < 0) return perror("bind"), 1;
     ks_config config = {.size = sizeof config, .base = ks_base(random_word())};
     ks_seed seed = {random_word(), random_word(), random_word()};
-    if (ks_server_new(&server, &config, &seed) != KS_OK || list() != KS_OK) return 1;
+    if (!ks_file_start(&file, &server, argc > 3 ? argv[3] : NULL, &config, &seed) || list() > KS_DONE) return 3;
+    udp = socket(AF_INET, SOCK_DGRAM, 0);
+    if (udp < 0 || bind(udp, (struct sockaddr *)&a, sizeof a) < 0) return perror("bind"), 1;
     for (;;) {
         uint64_t now = now_ms();
         if (now >= next) {

@@ -12,7 +12,7 @@ import ctypes
 import secrets
 import threading
 from collections import deque
-from typing import Any, Callable, Deque, Iterable, Optional, Tuple, TypeVar
+from typing import Any, Callable, Deque, Iterable, List, Optional, Tuple, TypeVar
 
 from ._header import header, numbers
 from ._library import library
@@ -22,11 +22,14 @@ from .values import (
     Applied,
     Code,
     Config,
+    Ended,
+    Load,
     Message,
     Method,
     Report,
     ReportKind,
     Representation,
+    Would,
     address_of,
     format_of,
     made,
@@ -95,6 +98,9 @@ class _AnyEnd:
         if hasattr(self, "_handle"):
             self._call("free")
 
+    def _begins(self) -> None:
+        """Called before each feed and each tick."""
+
     def _took(self) -> None:
         """Called after each feed, and each tick that did something."""
 
@@ -102,6 +108,7 @@ class _AnyEnd:
         """Takes a datagram that arrived from there. After a MemoryError it counts as lost."""
         with self._lock:
             sender = raw_address(source)
+            self._begins()
             answered(
                 self._call("feed", _moment(now), ctypes.byref(sender), bytes(datagram), len(datagram), self._word())
             )
@@ -110,6 +117,7 @@ class _AnyEnd:
     def tick(self, now: int) -> None:
         """Does all that is due at that moment. After a MemoryError some of it is still due."""
         with self._lock:
+            self._begins()
             while answered(self._call("tick", _moment(now), self._word())) == _DONE:
                 self._took()
 
@@ -118,6 +126,21 @@ class _AnyEnd:
         with self._lock:
             at = ctypes.c_uint64()
             return at.value if answered(self._call("due", ctypes.byref(at))) == _DONE else None
+
+    def load(self, now: int) -> Load:
+        """How much the end has at that moment."""
+        with self._lock:
+            told = made("ks_end_load")
+            told.size = ctypes.sizeof(told)
+            answered(self._call("load", _moment(now), ctypes.byref(told)))
+            return Load(*(getattr(told, field) for field in Load._fields))
+
+    def would(self, now: int, source: Address, datagram: bytes) -> Would:
+        """What `feed` would make of the datagram at that moment."""
+        with self._lock:
+            sender = raw_address(source)
+            answer = self._call("would", _moment(now), ctypes.byref(sender), bytes(datagram), len(datagram))
+            return Would(answered(answer))
 
     def next_out(self) -> Optional[Tuple[bytes, Address]]:
         """The datagram that is to be sent next, and where to. Send it at once or never: the end sends again by
@@ -137,6 +160,7 @@ class Server(_AnyEnd):
         """A server that holds nothing. `word` gives 64 random bits at each call; for tests, others."""
         super().__init__(config, word)
         self._applied: Deque[Applied] = deque()
+        self._ended: List[Ended] = []
         self._path_room = ctypes.create_string_buffer(_PATH_ROOM)
 
     def set(self, now: int, path: str, body: bytes, format: Optional[int] = None) -> int:
@@ -197,7 +221,21 @@ class Server(_AnyEnd):
         any moment."""
         with self._lock:
             sender, words = raw_address(source), (bytes(datagram), len(datagram), self._word())
+            self._begins()
             answered(self._call("refuse", _moment(now), ctypes.byref(sender), *words))
+            self._took()
+
+    def knows(self, now: int, peer: Address) -> bool:
+        """Whether the server has something of this peer that it may send, or may still need. What tells repeats is not
+        counted."""
+        with self._lock:
+            return answered(self._call("knows", _moment(now), ctypes.byref(raw_address(peer)))) == _DONE
+
+    def ended(self) -> List[Ended]:
+        """The separate responses and notifications that the last feed or tick ended, in order, by a Reset or for want
+        of an acknowledgement."""
+        with self._lock:
+            return list(self._ended)
 
     def next_applied(self) -> Optional[Applied]:
         """What a client had this server do, each once, in order. It waits here until it is taken: take all of it each
@@ -205,7 +243,19 @@ class Server(_AnyEnd):
         with self._lock:
             return self._applied.popleft() if self._applied else None
 
+    def _begins(self) -> None:
+        self._ended.clear()
+
     def _took(self) -> None:
+        self._keep_ended()
+        self._keep_applied()
+
+    def _keep_ended(self) -> None:
+        told = made("ks_ended")
+        if answered(self._call("ended", ctypes.byref(told))) == _DONE:
+            self._ended.append(Ended(address_of(told.to), bytes(told.token[: told.token_len]), told.observe))
+
+    def _keep_applied(self) -> None:
         done = made("ks_applied")
         if answered(self._call("applied", ctypes.byref(done), self._path_room, _PATH_ROOM)) != _DONE:
             return

@@ -69,6 +69,19 @@ class ReportKind(enum.IntEnum):
     NO_IDS = numbers["KS_NO_IDS"]
 
 
+class Would(enum.IntEnum):
+    """What a datagram would be if it were fed now."""
+
+    IGNORE = numbers["KS_WOULD_IGNORE"]
+    REJECT = numbers["KS_WOULD_REJECT"]
+    REPEAT = numbers["KS_WOULD_REPEAT"]
+    TAKE = numbers["KS_WOULD_TAKE"]
+    NO_PLACE = numbers["KS_WOULD_NO_PLACE"]
+    NO_ID = numbers["KS_WOULD_NO_ID"]
+    ACKNOWLEDGE = numbers["KS_WOULD_ACKNOWLEDGE"]
+    RESET = numbers["KS_WOULD_RESET"]
+
+
 class Code(int):
     """A code of a message: three bits of class, five of detail. str(Code(0x45)) is "2.05"."""
 
@@ -167,6 +180,34 @@ class Message(NamedTuple):
 # ---- As the library has them ----
 
 NO_FORMAT = numbers["KS_NO_FORMAT"]
+
+
+class Load(NamedTuple):
+    """How much an end has at a moment. What an end of the other kind has alone is 0."""
+
+    ids_left: int
+    changes_left: int
+    remembered: int
+    remembered_most: int
+    outstanding: int
+    queued: int
+    observers: int
+    partial: int
+    deferred: int
+    paths: int
+    delays: int
+    plains: int
+    waiting: int
+    observations: int
+    reports: int
+
+
+class Ended(NamedTuple):
+    """A separate response or a notification that a Reset or a failure ended."""
+
+    to: Address
+    token: bytes
+    observe: bool
 
 
 def made(name: str, *fields: Any) -> Any:

@@ -18,11 +18,53 @@ from knifesilver import (
     Refused,
     ReportKind,
     Server,
+    Would,
 )
 from knifesilver import errors, values
 from knifesilver._header import header, numbers, spelled_version
 
 from .around import CLIENT_AT, SERVER_AT, Pair
+
+
+class Loads(unittest.TestCase):
+    OBSERVE = bytes([0x41, 1, 0, 1, 9, 0x60, 0x51]) + b"t"
+
+    def test_a_server_tells_how_much_it_has(self):
+        with Server() as server:
+            load = server.load(0)
+            self.assertEqual((load.ids_left, load.changes_left, load.remembered_most), (65536, 4194303, 4096))
+            server.set(0, "t", b"x")
+            self.assertEqual(server.would(0, CLIENT_AT, self.OBSERVE), Would.TAKE)
+            server.feed(0, CLIENT_AT, self.OBSERVE)
+            self.assertEqual(server.would(0, CLIENT_AT, self.OBSERVE), Would.REPEAT)
+            load = server.load(0)
+            self.assertEqual((load.remembered, load.observers, load.paths, load.queued), (1, 1, 1, 1))
+            self.assertEqual((server.knows(0, CLIENT_AT), server.knows(0, SERVER_AT)), (True, False))
+            self.assertEqual((server.load(247000).remembered, server.load(247001).remembered), (1, 0))
+
+    def test_a_notification_that_is_rejected_is_told(self):
+        with Server() as server:
+            server.set(0, "t", b"x")
+            server.feed(0, CLIENT_AT, self.OBSERVE)
+            server.next_out()
+            server.set(0, "t", b"y")
+            server.tick(0)
+            self.assertEqual(server.ended(), [])
+            sent, _ = server.next_out()
+            server.feed(0, CLIENT_AT, bytes([0x70, 0]) + sent[2:4])
+            self.assertEqual(server.ended(), [(CLIENT_AT, bytes([9]), True)])
+            server.tick(0)
+            self.assertEqual(server.ended(), [])
+
+    def test_a_client_tells_how_much_it_has(self):
+        with Client(SERVER_AT) as client:
+            client.observe(0, "t")
+            self.assertEqual(client.load(0).waiting, 1)
+            client.tick(0)
+            load = client.load(0)
+            self.assertEqual((load.waiting, load.outstanding, load.queued), (0, 1, 1))
+            sent, _ = client.next_out()
+            self.assertEqual(client.would(0, SERVER_AT, bytes([0x60, 0]) + sent[2:4]), Would.ACKNOWLEDGE)
 
 
 class Requests(unittest.TestCase):

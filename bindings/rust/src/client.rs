@@ -1,6 +1,7 @@
 //! A client of one server.
 
 use crate::errors::{called, cancelled, made, ticked, CallError, CancelError, NewError, OutOfMemory};
+use crate::load::{self, Load, Would};
 use crate::message::{Code, Method, Tag};
 use crate::raw;
 use crate::setting::{address, format_number, format_of, socket_address, Config, Surroundings, Transmit};
@@ -192,6 +193,18 @@ impl Client {
         let (mut to, mut size) = (raw::ks_address::default(), 0);
         let answer = self.raw.next_out(&mut to, buffer, &mut size);
         (answer == raw::KS_DONE).then(|| Transmit { destination: socket_address(to), size })
+    }
+
+    /// How much the client has at this moment.
+    pub fn load(&self, now: Instant) -> Load {
+        let mut told = load::empty();
+        self.raw.load(self.around.moment(now), &mut told);
+        Load::of(&told)
+    }
+
+    /// What `handle` would make of the datagram at this moment.
+    pub fn would(&self, now: Instant, from: SocketAddrV4, datagram: &[u8]) -> Would {
+        Would::of(self.raw.would(self.around.moment(now), &address(from), datagram))
     }
 
     /// What became of a call or an observation, in order.

@@ -53,6 +53,8 @@ pub mod driver;
 #[macro_use]
 mod errors;
 pub mod exchange;
+mod journal;
+mod load;
 mod message;
 mod raw;
 mod raw_exchange;
@@ -61,8 +63,10 @@ mod setting;
 
 pub use client::{CallId, Client, Fetched, Report, Request};
 pub use errors::{CallError, CancelError, DelayError, NewError, OutOfMemory, PeekError, PlainError, SetError};
+pub use journal::{Boot, Journal, JournalError, Replayed};
+pub use load::{Load, Would};
 pub use message::{peek, refusal, Code, Kind, Message, Method, Tag};
-pub use server::{Applied, Representation, Server};
+pub use server::{Applied, Ended, Representation, Server};
 pub use setting::{Config, Transmit};
 
 /// No datagram that goes out is longer, in bytes.

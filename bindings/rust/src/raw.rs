@@ -31,6 +31,13 @@ pub const KS_CALL_CALLS_SPENT: i32 = 38;
 pub const KS_DELAY_FULL: i32 = 48;
 pub const KS_PLAIN_FULL: i32 = 49;
 pub const KS_CANCEL_QUEUE_FULL: i32 = 58;
+pub const KS_WOULD_REJECT: i32 = 65;
+pub const KS_WOULD_REPEAT: i32 = 66;
+pub const KS_WOULD_TAKE: i32 = 67;
+pub const KS_WOULD_NO_PLACE: i32 = 68;
+pub const KS_WOULD_NO_ID: i32 = 69;
+pub const KS_WOULD_ACKNOWLEDGE: i32 = 70;
+pub const KS_WOULD_RESET: i32 = 71;
 pub const KS_FAULT_SHORT: i32 = 81;
 pub const KS_FAULT_VERSION: i32 = 82;
 pub const KS_FAULT_TOKEN_LENGTH: i32 = 83;
@@ -40,6 +47,12 @@ pub const KS_FAULT_DELTA_RESERVED: i32 = 86;
 pub const KS_FAULT_LENGTH_RESERVED: i32 = 87;
 pub const KS_FAULT_OPTION_CUT: i32 = 88;
 pub const KS_FAULT_NUMBER_TOO_LARGE: i32 = 89;
+pub const KS_JOURNAL_DAMAGED: i32 = 145;
+pub const KS_JOURNAL_NOT_BEGUN: i32 = 146;
+pub const KS_JOURNAL_OTHER_FORMAT: i32 = 147;
+pub const KS_JOURNAL_OTHER_LAW: i32 = 148;
+pub const KS_JOURNAL_UNREADABLE: i32 = 149;
+pub const KS_JOURNAL_OTHER_SERVER: i32 = 150;
 pub const KS_VERSION: u32 = 200;
 pub const KS_NO_FORMAT: i32 = -1;
 pub const KS_DATAGRAM_ROOM: usize = 1152;
@@ -130,6 +143,24 @@ pub struct ks_applied {
 }
 
 #[repr(C)]
+#[derive(Clone, Copy, Default)]
+pub struct ks_life {
+    pub boot_high: u64,
+    pub boot_low: u64,
+    pub uptime: u64,
+    pub moment: u64,
+}
+
+#[repr(C)]
+#[derive(Clone, Copy, Default)]
+pub struct ks_replayed {
+    pub end: u64,
+    pub torn: u64,
+    pub moment: u64,
+    pub life: ks_life,
+}
+
+#[repr(C)]
 #[derive(Clone, Copy)]
 pub struct ks_request {
     pub format: i32,
@@ -171,6 +202,36 @@ pub struct ks_message {
     pub token: [u8; 8],
 }
 
+#[repr(C)]
+#[derive(Clone, Copy, Default)]
+pub struct ks_end_load {
+    pub size: u32,
+    pub ids_left: u32,
+    pub changes_left: u64,
+    pub remembered: u64,
+    pub remembered_most: u64,
+    pub outstanding: u64,
+    pub queued: u64,
+    pub observers: u64,
+    pub partial: u64,
+    pub deferred: u64,
+    pub paths: u64,
+    pub delays: u64,
+    pub plains: u64,
+    pub waiting: u64,
+    pub observations: u64,
+    pub reports: u64,
+}
+
+#[repr(C)]
+#[derive(Clone, Copy, Default)]
+pub struct ks_ended {
+    pub to: ks_address,
+    pub observe: bool,
+    pub token_len: u8,
+    pub token: [u8; 8],
+}
+
 #[rustfmt::skip]
 extern "C" {
     fn ks_version() -> u32;
@@ -188,6 +249,12 @@ extern "C" {
     fn ks_server_due(handle: *mut ks_server, at: *mut u64) -> i32;
     fn ks_server_next_out(handle: *mut ks_server, to: *mut ks_address, room: *mut c_void, room_len: usize, len: *mut usize) -> i32;
     fn ks_server_applied(handle: *mut ks_server, done: *mut ks_applied, room: *mut c_char, room_len: usize) -> i32;
+    fn ks_journal_begin(config: *const ks_config, seed: *const ks_seed, life: *const ks_life, room: *mut c_void, room_len: usize, len: *mut usize) -> i32;
+    fn ks_journal_wake(place: u64, life: *const ks_life, room: *mut c_void, room_len: usize, len: *mut usize) -> i32;
+    fn ks_journal_frame(place: u64, turn: *const c_void, turn_len: usize, room: *mut c_void, room_len: usize, len: *mut usize) -> i32;
+    fn ks_server_replay(handle: *mut ks_server, file: *const c_void, file_len: usize, told: *mut ks_replayed) -> i32;
+    fn ks_journal_go_on(replayed: *const ks_replayed, now: *const ks_life, moment: *mut u64) -> u64;
+    fn ks_server_noted(handle: *mut ks_server, room: *mut c_void, room_len: usize, len: *mut usize) -> i32;
     fn ks_client_new(handle: *mut ks_client, server: *const ks_address, config: *const ks_config, seed: *const ks_seed) -> i32;
     fn ks_client_free(handle: *mut ks_client);
     fn ks_client_call(handle: *mut ks_client, now: u64, what: *const ks_request, path: *const c_char, path_len: usize, body: *const c_void, body_len: usize, etags: *const ks_tag, etags_len: usize, if_match: *const ks_tag, if_match_len: usize, id: *mut u64) -> i32;
@@ -201,6 +268,12 @@ extern "C" {
     fn ks_client_next_report(handle: *mut ks_client, report: *mut ks_report, room: *mut c_void, room_len: usize) -> i32;
     fn ks_server_refuse(handle: *mut ks_server, now: u64, from: *const ks_address, datagram: *const c_void, datagram_len: usize, word: u64) -> i32;
     fn ks_refuse(datagram: *const c_void, datagram_len: usize, code: u8, room: *mut c_void, room_len: usize, len: *mut usize) -> i32;
+    fn ks_server_load(handle: *mut ks_server, now: u64, load: *mut ks_end_load) -> i32;
+    fn ks_client_load(handle: *mut ks_client, now: u64, load: *mut ks_end_load) -> i32;
+    fn ks_server_would(handle: *mut ks_server, now: u64, from: *const ks_address, datagram: *const c_void, datagram_len: usize) -> i32;
+    fn ks_client_would(handle: *mut ks_client, now: u64, from: *const ks_address, datagram: *const c_void, datagram_len: usize) -> i32;
+    fn ks_server_knows(handle: *mut ks_server, now: u64, peer: *const ks_address) -> i32;
+    fn ks_server_ended(handle: *mut ks_server, ended: *mut ks_ended) -> i32;
     fn ks_peek(datagram: *const c_void, datagram_len: usize, shown: *mut ks_message, room: *mut c_char, room_len: usize) -> i32;
 }
 
@@ -219,6 +292,27 @@ pub fn version() -> u32 {
 /// The base that this word chooses.
 pub fn base(word: u64) -> u64 {
     unsafe { ks_base(word) }
+}
+
+/// The frame with which the file of a journal begins.
+pub fn journal_begin(config: &ks_config, seed: &ks_seed, life: &ks_life, room: &mut [u8], len: &mut usize) -> i32 {
+    unsafe { ks_journal_begin(config, seed, life, room.as_mut_ptr().cast(), room.len(), len) }
+}
+
+/// The frame of a further life.
+pub fn journal_wake(place: u64, life: &ks_life, room: &mut [u8], len: &mut usize) -> i32 {
+    unsafe { ks_journal_wake(place, life, room.as_mut_ptr().cast(), room.len(), len) }
+}
+
+/// The frame of a turn.
+pub fn journal_frame(place: u64, turn: &[u8], room: &mut [u8], len: &mut usize) -> i32 {
+    let (at, bytes) = (turn.as_ptr().cast(), room.as_mut_ptr().cast());
+    unsafe { ks_journal_frame(place, at, turn.len(), bytes, room.len(), len) }
+}
+
+/// For how long a server that was replayed is silent, and its moment behind that.
+pub fn journal_go_on(replayed: &ks_replayed, now: &ks_life, moment: &mut u64) -> u64 {
+    unsafe { ks_journal_go_on(replayed, now, moment) }
 }
 
 /// What a datagram says.
@@ -247,6 +341,14 @@ impl Server {
 
     pub fn make(&mut self, config: &ks_config, seed: &ks_seed) -> i32 {
         unsafe { ks_server_new(self.0.get_mut(), config, seed) }
+    }
+
+    pub fn replay(&mut self, file: &[u8], told: &mut ks_replayed) -> i32 {
+        unsafe { ks_server_replay(self.0.get_mut(), file.as_ptr().cast(), file.len(), told) }
+    }
+
+    pub fn noted(&mut self, room: &mut [u8], len: &mut usize) -> i32 {
+        unsafe { ks_server_noted(self.0.get_mut(), room.as_mut_ptr().cast(), room.len(), len) }
     }
 
     pub fn set(&mut self, now: u64, path: &str, format: i32, body: &[u8], version: &mut u64) -> i32 {
@@ -298,6 +400,22 @@ impl Server {
 
     pub fn applied(&self, done: &mut ks_applied, room: &mut [u8]) -> i32 {
         unsafe { ks_server_applied(self.0.get(), done, room.as_mut_ptr().cast(), room.len()) }
+    }
+
+    pub fn load(&self, now: u64, load: &mut ks_end_load) -> i32 {
+        unsafe { ks_server_load(self.0.get(), now, load) }
+    }
+
+    pub fn would(&self, now: u64, from: &ks_address, datagram: &[u8]) -> i32 {
+        unsafe { ks_server_would(self.0.get(), now, from, datagram.as_ptr().cast(), datagram.len()) }
+    }
+
+    pub fn knows(&self, now: u64, peer: &ks_address) -> i32 {
+        unsafe { ks_server_knows(self.0.get(), now, peer) }
+    }
+
+    pub fn ended(&self, ended: &mut ks_ended) -> i32 {
+        unsafe { ks_server_ended(self.0.get(), ended) }
     }
 }
 
@@ -368,6 +486,14 @@ impl Client {
 
     pub fn next_out(&mut self, to: &mut ks_address, room: &mut [u8], len: &mut usize) -> i32 {
         unsafe { ks_client_next_out(self.0.get_mut(), to, room.as_mut_ptr().cast(), room.len(), len) }
+    }
+
+    pub fn load(&self, now: u64, load: &mut ks_end_load) -> i32 {
+        unsafe { ks_client_load(self.0.get(), now, load) }
+    }
+
+    pub fn would(&self, now: u64, from: &ks_address, datagram: &[u8]) -> i32 {
+        unsafe { ks_client_would(self.0.get(), now, from, datagram.as_ptr().cast(), datagram.len()) }
     }
 
     pub fn next_report(&mut self, report: &mut ks_report, room: &mut [u8]) -> i32 {

@@ -1,6 +1,7 @@
 //! A server.
 
 use crate::errors::{changed, delayed, made, made_plain, ticked, DelayError, NewError, OutOfMemory, PlainError, SetError};
+use crate::load::{self, Load, Would};
 use crate::message::{Code, Method};
 use crate::raw;
 use crate::setting::{address, format_number, format_of, socket_address, Config, Surroundings, Transmit};
@@ -39,6 +40,7 @@ pub struct Server {
     raw: raw::Server,
     around: Surroundings,
     applied: VecDeque<Applied>,
+    ended: Vec<Ended>,
     room: Vec<u8>,
 }
 
@@ -73,6 +75,18 @@ pub struct Applied {
     pub held: Option<Representation>,
 }
 
+/// A separate response or a notification that was rejected by a Reset, or was not acknowledged.
+#[derive(Clone, Debug, PartialEq, Eq)]
+#[non_exhaustive]
+pub struct Ended {
+    /// Where it went.
+    pub to: SocketAddrV4,
+    /// Its token.
+    pub token: Vec<u8>,
+    /// It was a notification: whom it went to is no longer notified.
+    pub observe: bool,
+}
+
 // The text by which the path of one empty segment is told; read, it is the root.
 const ONE_EMPTY_SEGMENT: &[u8] = b"/";
 
@@ -82,7 +96,26 @@ impl Server {
         let mut around = Surroundings::new(config, now);
         let mut raw = raw::Server::empty();
         made(raw.make(&config.raw(), &around.seed()))?;
-        Ok(Server { raw, around, applied: VecDeque::new(), room: vec![0; raw::KS_PATH_ROOM] })
+        Ok(Server { raw, around, applied: VecDeque::new(), ended: Vec::new(), room: vec![0; raw::KS_PATH_ROOM] })
+    }
+
+    // A server that was replayed, and whose milliseconds at this moment are so many.
+    pub(crate) fn replayed(raw: raw::Server, config: &Config, now: Instant, moment: u64) -> Server {
+        let around = Surroundings::from(config, now, moment);
+        Server { raw, around, applied: VecDeque::new(), room: vec![0; raw::KS_PATH_ROOM] }
+    }
+
+    // What it took since this was asked last, in the room, which grows to hold it.
+    pub(crate) fn noted<'a>(&mut self, room: &'a mut Vec<u8>) -> Result<Option<&'a [u8]>, OutOfMemory> {
+        let mut len = 0;
+        loop {
+            match self.raw.noted(room, &mut len) {
+                raw::KS_SMALL_ROOM => room.resize(len, 0),
+                raw::KS_DONE => return Ok(Some(&room[..len])),
+                raw::KS_OK => return Ok(None),
+                _ => return Err(OutOfMemory),
+            }
+        }
     }
 
     /// Has the path hold the body, and marks its observers, also where the body is the same. Its version.
@@ -140,8 +173,10 @@ impl Server {
     /// Takes a datagram that arrived.
     pub fn handle(&mut self, now: Instant, from: SocketAddrV4, datagram: &[u8]) -> Result<(), OutOfMemory> {
         let (now, word) = (self.around.moment(now), self.around.word());
+        self.ended.clear();
         ticked(self.raw.feed(now, &address(from), datagram, word))?;
         self.keep_applied();
+        self.keep_ended();
         Ok(())
     }
 
@@ -150,8 +185,10 @@ impl Server {
     /// reply: so your rules may change at any moment.
     pub fn refuse(&mut self, now: Instant, from: SocketAddrV4, datagram: &[u8]) -> Result<(), OutOfMemory> {
         let (now, word) = (self.around.moment(now), self.around.word());
+        self.ended.clear();
         ticked(self.raw.refuse(now, &address(from), datagram, word))?;
         self.keep_applied();
+        self.keep_ended();
         Ok(())
     }
 
@@ -168,16 +205,19 @@ impl Server {
     /// Does all that is due: retransmissions, notifications, responses that were delayed.
     pub fn handle_timeout(&mut self, now: Instant) -> Result<(), OutOfMemory> {
         let now = self.around.moment(now);
+        self.ended.clear();
         loop {
             let word = self.around.word();
             if !ticked(self.raw.tick(now, word))? {
                 return Ok(());
             }
             self.keep_applied();
+            self.keep_ended();
         }
     }
 
-    /// The datagram that is to be sent next, in the buffer.
+    /// The datagram that is to be sent next, in the buffer. None, too, where a server with a journal took something that
+    /// [`Journal::keep`](crate::Journal::keep) hasn't kept yet.
     #[must_use = "a datagram that is not sent is lost"]
     pub fn poll_transmit(&mut self, buffer: &mut [u8; MAX_DATAGRAM]) -> Option<Transmit> {
         let (mut to, mut size) = (raw::ks_address::default(), 0);
@@ -189,6 +229,42 @@ impl Server {
     #[must_use = "each request that was applied is told once"]
     pub fn poll_applied(&mut self) -> Option<Applied> {
         self.applied.pop_front()
+    }
+
+    /// How much the server has at this moment.
+    pub fn load(&self, now: Instant) -> Load {
+        let mut told = load::empty();
+        self.raw.load(self.around.moment(now), &mut told);
+        Load::of(&told)
+    }
+
+    /// What `handle` would make of the datagram at this moment. So new messages can be charged to whom they come from
+    /// before they are handed in.
+    pub fn would(&self, now: Instant, from: SocketAddrV4, datagram: &[u8]) -> Would {
+        Would::of(self.raw.would(self.around.moment(now), &address(from), datagram))
+    }
+
+    /// Whether the server has something of this peer that it may send, or may still need: an observation, an upload that is
+    /// not whole, a request that waits, a message that is not acknowledged. What tells repeats is not counted.
+    pub fn knows(&self, now: Instant, peer: SocketAddrV4) -> bool {
+        self.raw.knows(self.around.moment(now), &address(peer)) == raw::KS_DONE
+    }
+
+    /// What the last `handle`, `refuse` or `handle_timeout` ended, in order.
+    pub fn ended(&self) -> &[Ended] {
+        &self.ended
+    }
+
+    // What the last feed or tick ended, which the next one empties.
+    fn keep_ended(&mut self) {
+        let mut told = raw::ks_ended::default();
+        if self.raw.ended(&mut told) == raw::KS_DONE {
+            self.ended.push(Ended {
+                to: socket_address(told.to),
+                token: told.token[..usize::from(told.token_len.min(8))].to_vec(),
+                observe: told.observe,
+            });
+        }
     }
 
     // What the last feed or tick applied, which the next one empties, and what its path holds, which that may change.

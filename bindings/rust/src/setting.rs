@@ -108,6 +108,7 @@ pub struct Transmit {
 /// The moment from which an end counts its milliseconds, and its random numbers.
 pub(crate) struct Surroundings {
     since: Instant,
+    first: u64,
     system: Option<RandomState>,
     count: u64,
 }
@@ -115,17 +116,23 @@ pub(crate) struct Surroundings {
 impl Surroundings {
     pub(crate) fn new(config: &Config, now: Instant) -> Surroundings {
         let system = config.rng_seed.is_none().then(RandomState::new);
-        Surroundings { since: now, system, count: config.rng_seed.unwrap_or(0) }
+        Surroundings { since: now, first: 0, system, count: config.rng_seed.unwrap_or(0) }
+    }
+
+    /// The same, where the milliseconds at that moment are so many already.
+    pub(crate) fn from(config: &Config, now: Instant, first: u64) -> Surroundings {
+        Surroundings { first, ..Surroundings::new(config, now) }
     }
 
     /// Milliseconds since the first moment; one before it counts as it.
     pub(crate) fn moment(&self, now: Instant) -> u64 {
-        u64::try_from(now.saturating_duration_since(self.since).as_millis()).unwrap_or(u64::MAX)
+        let passed = u64::try_from(now.saturating_duration_since(self.since).as_millis()).unwrap_or(u64::MAX);
+        self.first.saturating_add(passed)
     }
 
     /// The instant of such a moment; None where no instant is so late.
     pub(crate) fn instant(&self, at: u64) -> Option<Instant> {
-        self.since.checked_add(Duration::from_millis(at))
+        self.since.checked_add(Duration::from_millis(at.saturating_sub(self.first)))
     }
 
     /// 64 random bits: a hash with random keys of a number that no other word had; or a mix of such a number.

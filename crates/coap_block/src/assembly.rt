@@ -1,6 +1,8 @@
 //! The server's side of a Block1 transfer: it joins the blocks of an upload (RFC 7959, section 2.5).
 ghost use Rattle.std.specs.Prelude.{◌≡◌, ◌≤◌, ◌+◌, true, None, Some, IfOk, OnOk, OnErr, IsOk, IsSome, length};
-ghost use Rattle.std.specs.Prelude.{vec_len, vec_capacity};
+ghost use Rattle.std.specs.Prelude.{max, vec_len, vec_capacity};
+ghost use Rattle.std.specs.List.{list_any};
+ghost use Rattle.coap_types.specs.SameEndpoint.{same_endpoint};
 ghost use Rattle.coap_block.specs.Sizes.{usual_sizes};
 ghost use Rattle.coap_block.specs.AssemblyState.{body_with, forgotten, nothing_yet, with_payload};
 ghost use Rattle.coap_block.specs.AssemblyStep.{partials_by, verdict_at};
@@ -14,9 +16,9 @@ use crate::assembly_step::{AssemblyRefusal, Took};
 use crate::assembly_undo::{Before, Change};
 use crate::block_verdict::BlockVerdict;
 use crate::partial::Partial;
-use crate::partials::{counts, join, restore, take_out, whole};
+use crate::partials::{any_from, counts, join, live, restore, take_out, whole};
 use crate::upload_key::UploadKey;
-use coap_types::{Block, BodyLimit, Moment, Szx};
+use coap_types::{Block, BodyLimit, Endpoint, Moment, Szx};
 use std::alloc::{AllocError, Allocator, Global};
 use std::marker::Model;
 
@@ -118,6 +120,25 @@ impl<A: Allocator + Copy> Assembly<A> {
         self.clock = at;
         self.before = Some(Before { clock: was, change });
         Ok(took)
+    }
+
+    /// How many uploads have a partial body at this moment. A moment before the last one counts as the last. Nothing
+    /// changes: the moment doesn't count. It takes no memory.
+    pub fn partial_len(&self, now: Moment) -> usize
+        // The number is that of the partial bodies whose last block is not too long ago.
+        ensures { result ≡ length (forgotten (max self.now.state.clock now.0) self.now.state.partials) }
+    {
+        live(&self.partials, self.clock.later(now))
+    }
+
+    /// Whether an upload from there has a partial body at this moment. A moment before the last one counts as the last.
+    /// Nothing changes: the moment doesn't count. It takes no memory.
+    pub fn knows(&self, now: Moment, from: Endpoint) -> bool
+        // An endpoint is known where one of the partial bodies whose last block is not too long ago is of its uploads.
+        ensures { result ≡ list_any (λ p. same_endpoint p.key.from from)
+            (forgotten (max self.now.state.clock now.0) self.now.state.partials) }
+    {
+        any_from(&self.partials, from, self.clock.later(now))
     }
 
     /// Takes the last block back, so that the assembly is as before it. There is to have been one that

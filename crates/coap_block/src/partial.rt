@@ -1,5 +1,6 @@
 //! A partial body at a server, and how long it is kept.
-ghost use Rattle.std.specs.Prelude.{◌≡◌, ◌++◌, IfOk, OnOk, OnErr, length};
+ghost use Rattle.std.specs.Prelude.{◌≡◌, ◌++◌, ◌&&◌, IfOk, OnOk, OnErr, length};
+ghost use Rattle.coap_types.specs.SameEndpoint.{same_endpoint};
 ghost use Rattle.coap_block.specs.AssemblyState.{is_live};
 ghost use Rattle.coap_block.specs.AssemblyKept.{begun, body_of, cut, grown, is_there, key_of};
 
@@ -7,8 +8,8 @@ use crate::arrival::Arrival;
 use crate::gathering::Gathering;
 use crate::upload_key::UploadKey;
 use bytes::Bytes;
-use coap_types::Moment;
 use coap_types::transmission::EXCHANGE_LIFETIME_MS;
+use coap_types::{Endpoint, Moment};
 use std::alloc::{AllocError, Allocator};
 
 /// How long a partial body is kept after its last block, in milliseconds (profile: EXCHANGE_LIFETIME,
@@ -54,6 +55,13 @@ impl<A: Allocator + Copy> Partial<A> {
         ensures { result ≡ is_live now.0 (body_of self.now) }
     {
         now.0.saturating_sub(self.last.0) <= PARTIAL_LIFETIME_MS
+    }
+
+    /// Whether it is there, and of an upload from there.
+    pub(crate) fn is_from(&self, from: Endpoint, now: Moment) -> bool
+        ensures { result ≡ (is_live now.0 (body_of self.now) && same_endpoint self.now.key.from from) }
+    {
+        self.is_live(now) && self.key.from == from
     }
 
     /// Whether it is that of the key, and there.

@@ -1,6 +1,8 @@
 //! The list of partial bodies at a server.
-ghost use Rattle.std.specs.Prelude.{◌≡◌, ◌<◌, ◌≤◌, ◌+◌, ◌++◌, ◌∷◌, [], filter, length, set, IfOk};
+ghost use Rattle.std.specs.Prelude.{◌≡◌, ◌<◌, ◌≤◌, ◌+◌, ◌++◌, ◌∷◌, ◌&&◌, [], filter, length, set, IfOk};
 ghost use Rattle.std.specs.Prelude.{IfSome, OnOk, OnErr, vec_len, vec_capacity};
+ghost use Rattle.std.specs.List.{list_any};
+ghost use Rattle.coap_types.specs.SameEndpoint.{same_endpoint};
 ghost use Rattle.coap_block.specs.AssemblyState.{body_with, forgotten, is_live, put, reached, with_payload};
 ghost use Rattle.coap_block.specs.AssemblyState.{without_key};
 ghost use Rattle.coap_block.specs.AssemblyKept.{begun, body_of, changed_at, grown, partials_of, key_of, place_of};
@@ -12,7 +14,7 @@ use crate::assembly_undo::Change;
 use crate::partial::Partial;
 use crate::upload_key::UploadKey;
 use bytes::Bytes;
-use coap_types::Moment;
+use coap_types::{Endpoint, Moment};
 use std::alloc::{AllocError, Allocator};
 use std::mem;
 
@@ -32,14 +34,25 @@ fn place_of<A: Allocator + Copy>(
     }
 }
 
-// How many partial bodies there are.
-fn live<A: Allocator + Copy>(partials: &[Partial<A>], now: Moment) -> usize
+/// How many partial bodies there are.
+pub(crate) fn live<A: Allocator + Copy>(partials: &[Partial<A>], now: Moment) -> usize
     ensures { result ≡ length (filter (λ p. is_live now.0 (body_of p)) partials.now) }
 {
     partials
         .iter()
         .filter(|partial| partial.is_live(now))
         .count()
+}
+
+/// Whether there is a partial body of an upload from there.
+pub(crate) fn any_from<A: Allocator + Copy>(
+    partials: &[Partial<A>],
+    from: Endpoint,
+    now: Moment,
+) -> bool
+    ensures { result ≡ list_any (λ p. is_live now.0 (body_of p) && same_endpoint p.key.from from) partials.now }
+{
+    partials.iter().any(|partial| partial.is_from(from, now))
 }
 
 /// How many bytes the key has, if it has a partial body, and how many other keys have one.

@@ -19,3 +19,4 @@ pub mod Turns
 pub mod RefusalNumbers
 pub mod Places
 pub mod Sendings
+pub mod Load

@@ -165,8 +165,8 @@ fn set_up_by<H: BuildHasher + Drop>(
     }
 }
 
-/// A server that is set up as the words and the settings of a script say, begins with this word, and has versions from 1
-/// on; why it isn't.
+/// A server that is set up as the words and the settings of a script say, and begins with this word. Its versions begin
+/// with 1. Or why it isn't.
 pub fn server_by<H: BuildHasher + Drop>(
     alloc: Global,
     word: u64,
@@ -201,7 +201,7 @@ pub fn server_after<H: BuildHasher + Drop>(
     // bodies up to the limit that its script says, or its words; the calls that set it up have led to it, and no other.
     ensures made { IfOk result (λ made. IfOk made (λ server. IsServerAfter origin options.now
         (map setting_of settings.now) (state_of content_of server))) }
-    // A line of the script is named only where the script has one.
+    // A line is named only of a script that has one.
     ensures bad { IfOk result (λ made. IfErr made (IsOfSettings (map setting_of settings.now))) }
 {
     let setup = Setup {

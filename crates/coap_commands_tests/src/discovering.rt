@@ -21,18 +21,16 @@ const FAR: Endpoint = Endpoint {
     port: 5_683,
 };
 
-// What the words ask for, by a client of word 0 to which this answer comes: what it prints and says; the exit status.
-fn discover_in_memory(
+// What comes of these options, by a client of word 0 to which this answer comes: what it prints and says; the exit
+// status.
+fn discover_by(
     alloc: Global,
-    words: &[&str],
+    options: &AskOptions,
     answer: &[u8],
-    (told, said): (&mut Vec<u8>, &mut Vec<u8>),
+    told: &mut Vec<u8>,
+    said: &mut Vec<u8>,
 ) -> Result<u8, AllocError> {
-    let list = words_of(alloc, words)?;
-    let Ok(Order::Discover { options, .. }) = order(alloc, list.as_slice()) else {
-        return Err(AllocError);
-    };
-    let request = core_request(alloc, &options)?;
+    let request = core_request(alloc, options)?;
     let mut link = MemoryLink::new(alloc, NEAR);
     // The request goes out at the second turn.
     link.give(FAR, b"\0\0\0\0")?;
@@ -40,10 +38,39 @@ fn discover_in_memory(
     let hasher = BuildHasherDefault::<FoldHasher>::new();
     let mut time = Clock { now: 0 };
     let mut connection = Connection::new(&mut link, &mut time, &mut *said);
-    let terms = Terms::of(&options, 0);
+    let terms = Terms::of(options, 0);
     let ended = discover_over(alloc, &mut connection, FAR, hasher, request, &terms, told);
     drop(link);
     Ok(close(ended, said).number())
+}
+
+// .. of this order.
+fn discover_ordered(
+    alloc: Global,
+    order: &Order<'_>,
+    answer: &[u8],
+    told: &mut Vec<u8>,
+    said: &mut Vec<u8>,
+) -> Result<u8, AllocError> {
+    match order {
+        Order::Discover { options, .. } => discover_by(alloc, options, answer, told, said),
+        _ => Err(AllocError),
+    }
+}
+
+// .. of these words.
+fn discover_in_memory(
+    alloc: Global,
+    words: &[&str],
+    answer: &[u8],
+    told: &mut Vec<u8>,
+    said: &mut Vec<u8>,
+) -> Result<u8, AllocError> {
+    let list = words_of(alloc, words)?;
+    match order(alloc, list.as_slice()) {
+        Ok(order) => discover_ordered(alloc, &order, answer, told, said),
+        Err(_) => Err(AllocError),
+    }
 }
 
 // The request for the links of a server (RFC 6690, section 4).
@@ -69,7 +96,7 @@ fn check_links<R: Abort + AllocGlobal>(
 ) -> Result<(), AllocError> {
     let alloc = rt.alloc();
     let (mut told, mut said) = (Vec::new(alloc), Vec::new(alloc));
-    let ended = discover_in_memory(alloc, words, answer, (&mut told, &mut said))?;
+    let ended = discover_in_memory(alloc, words, answer, &mut told, &mut said)?;
     assert_eq!(rt; told.as_slice(), text.as_bytes(), "at {text:?}");
     assert_eq!(rt; ended, status, "at {text:?}");
     Ok(())

@@ -6,11 +6,11 @@ mod end;
 mod server_end;
 
 pub use coap_client::{
-    CallId, CallRefusal, CancelRefusal, Client, Fetched, MAX_OBSERVATIONS, MAX_OPTIONS_LEN,
-    MAX_WAITING_CALLS, Report,
+    CallId, CallRefusal, CancelRefusal, Client, ClientLoad, Fetched, MAX_OBSERVATIONS,
+    MAX_OPTIONS_LEN, MAX_WAITING_CALLS, Report,
 };
 pub use coap_server::{
-    Applied, CON_NOTIFICATION_MS, Delay, DelayRefusal, MAX_DELAYS, MAX_PLAIN_AGE_MS, MAX_PLAINS,
-    PlainRefusal, Server, give_delay, give_plain,
+    Applied, CON_NOTIFICATION_MS, Delay, DelayRefusal, Load, MAX_DELAYS, MAX_PLAIN_AGE_MS,
+    MAX_PLAINS, PlainRefusal, Server, give_delay, give_plain,
 };
 pub use end::End;

@@ -8,3 +8,4 @@ pub mod ServerTicks
 pub mod VerdictsFit
 pub mod WhatArrived
 pub mod WhatIsDue
+pub mod OnTheList

@@ -37,3 +37,4 @@ pub mod Endings
 pub mod Notifications
 pub mod StepsDue
 pub mod SuccessCodes
+pub mod Peers

@@ -1,6 +1,8 @@
 //! The requests whose response is deferred, in order of arrival (RFC 7252, section 5.2.2).
 ghost use Rattle.std.specs.Prelude.{◌≡◌, ◌≤◌, ◌<◌, ◌^◌, [], length, remove, is_some, IfSome, IfNone};
+ghost use Rattle.std.specs.List.{list_any};
 ghost use Rattle.std.specs.Option.{option_map};
+ghost use Rattle.coap_types.specs.SameEndpoint.{same_endpoint};
 ghost use Rattle.coap_types.specs.declared.token.TheConstants.{MAX_TOKEN_LEN as max_token_len};
 ghost use Rattle.coap_types.specs.FirstMoment.{IsFirstMoment};
 ghost use Rattle.coap_exchange.specs.AnswererSteps.{max_deferred, deferred_with, first_ready, may_defer, without_ready};
@@ -8,9 +10,10 @@ ghost use Rattle.coap_exchange.specs.Machine.Listed.{listed};
 
 use crate::answerer::Asked;
 use crate::listed::Listed;
+use crate::peers::is_deferred_of;
 use crate::separate::{Deferred, Separate, is_ready, ready_from};
 use arrayvec::ArrayVec;
-use coap_types::{Moment, earlier};
+use coap_types::{Endpoint, Moment, earlier};
 use std::marker::Model;
 
 /// So many requests are deferred at most (profile).
@@ -96,6 +99,20 @@ impl Deferrals {
         Deferrals {
             requests: ArrayVec::new(),
         }
+    }
+
+    /// How many are deferred.
+    pub(crate) fn len(&self) -> usize
+        ensures { result ≡ length self.now }
+    {
+        self.requests.len()
+    }
+
+    /// Whether one of them came from there.
+    pub(crate) fn has_of(&self, peer: Endpoint) -> bool
+        ensures { result ≡ list_any (λ d. same_endpoint d.asked.from peer) self.now }
+    {
+        is_deferred_of(self.requests.as_slice(), peer)
     }
 
     /// Defers one more; false where `MAX_DEFERRED` are deferred.

@@ -46,6 +46,13 @@ impl KeptTokens {
         }
     }
 
+    /// How many are kept.
+    pub(crate) fn len(&self) -> usize
+        ensures { result ≡ length self.now }
+    {
+        self.tokens.len()
+    }
+
     /// Whether the token is kept.
     #[inline(always)]
     pub(crate) fn has(&self, token: &[u8]) -> bool

@@ -10,6 +10,7 @@ mod kept_tokens;
 mod laws;
 mod listed;
 mod matching;
+mod peers;
 mod replies;
 mod separate;
 mod token_source;

@@ -302,7 +302,8 @@ where
     H: BuildHasher + Drop,
     // A server that is kept is the one of its journal, which agrees with the words and to which a life was added; it
     // has noted nothing and given out nothing since.
-    ensures { IfOk result (λ kept. IsKept keeping.now.wishes kept.first.0 (shown (state_of content_of) kept.journaled)) }
+    ensures { IfOk result (λ kept. IsKept keeping.now.wishes kept.first.0
+        (shown (state_of content_of) kept.journaled)) }
 {
     let mut told = told;
     let mut journal = ready(rt, keeping, &mut told)?;

@@ -12,3 +12,5 @@ pub mod Sendings
 pub mod Stored
 pub mod TakenIn
 pub mod Turned
+pub mod Loads
+pub mod Foretold

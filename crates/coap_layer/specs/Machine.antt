@@ -16,3 +16,7 @@ pub mod IdStep
 pub mod Moves
 pub mod Calls
 pub mod Waits
+pub mod Known
+pub mod Peers
+pub mod Load
+pub mod Would

@@ -1,18 +1,19 @@
 //! A datagram that arrived: how it is read, judged and answered.
 ghost use Rattle.std.specs.Prelude.{◌≡◌, ◌<◌, [], true, false, None, Ok, option_to_list, IfOk, IsOk};
 ghost use Rattle.std.specs.Vec.{vec_len, vec_capacity};
-ghost use Rattle.coap_layer.specs.Arrivals.{arrival_at};
+ghost use Rattle.coap_layer.specs.Arrivals.{Whole, arrival_at};
 ghost use Rattle.coap_layer.specs.Machine.Arriving.{IsArriving, shown_by, told_by, of_head, sent_by, newly_by};
 ghost use Rattle.coap_layer.specs.Machine.Arriving.{awaits_by, open_by, ends as ends_lem, hands as hands_lem};
 ghost use Rattle.coap_layer.specs.Machine.Arriving.{keeps as keeps_lem};
 ghost use Rattle.coap_layer.specs.Machine.Entries.{IsUpTo, arrivals_in};
+ghost use Rattle.coap_layer.specs.Machine.Known.{IsKnown};
 ghost use Rattle.coap_layer.specs.Machine.Parts.{awaited, open_before};
 ghost use Rattle.coap_layer.specs.Rows.{reset_to};
 ghost use Rattle.coap_layer.specs.Machine.Sendings.{open_now};
 ghost use Rattle.coap_layer.specs.Machine.State.{State, answer_to, is_free, is_remembered};
 ghost use Rattle.coap_layer.specs.Machine.Ups.{disposition_of};
+ghost use Rattle.coap_layer.specs.Machine.Would.{would_at};
 
-use crate::Up;
 use crate::arrival::{Known, Verdict, classify};
 use crate::datagram::Datagram;
 use crate::dedup::Memory;
@@ -20,6 +21,8 @@ use crate::empty::reset;
 use crate::lists::Lists;
 use crate::mark::Awaiting;
 use crate::retransmission::{Sending, end_all, is_outstanding};
+use crate::would::would_by;
+use crate::{Up, Would};
 use coap_codec::{Fault, View, decode};
 use coap_types::{Endpoint, Id, Kind, Moment, Remembered, Role};
 use std::alloc::{AllocError, Allocator};
@@ -63,6 +66,28 @@ fn of_fault(fault: &Fault) -> Arriving
     }
 }
 
+// What is known of a message.
+fn known_of<A: Allocator + Copy, S: BuildHasher>(
+    message: &View<'_>,
+    at: Moment,
+    from: Endpoint,
+    lists: &Lists<A, S>,
+    most: Remembered,
+    free: bool,
+) -> Known
+    ensures { (s : State) → s.most ≡ most → s.arrived ≡ arrivals_in lists.now.entries → s.open_cons
+        ≡ open_now lists.now.sendings.items
+        → is_free at.0 s.upcoming s.last_used ≡ free → IsKnown s at.0 from message.now.id result }
+{
+    let id = message.id();
+    Known {
+        outstanding: is_outstanding(&lists.sendings, from, id),
+        remembered: lists.entries.is_remembered(at, from, id),
+        full: lists.entries.is_full(at, most),
+        free,
+    }
+}
+
 // What becomes of a message.
 fn of_message<A: Allocator + Copy, S: BuildHasher>(
     message: &View<'_>,
@@ -79,16 +104,10 @@ fn of_message<A: Allocator + Copy, S: BuildHasher>(
         × (told_by result.verdict (Ok message.now) ≡ answer_to s at.0 from (shown_by (Ok message.now))) }
 {
     let kind = message.kind();
-    let id = message.id();
-    let known = Known {
-        outstanding: is_outstanding(&lists.sendings, from, id),
-        remembered: lists.entries.is_remembered(at, from, id),
-        full: lists.entries.is_full(at, most),
-        free,
-    };
+    let known = known_of(message, at, from, lists, most, free);
     Arriving {
         kind,
-        id,
+        id: message.id(),
         verdict: classify(kind, Role::of(message.code()), known),
     }
 }
@@ -112,6 +131,51 @@ pub(crate) fn judge<A: Allocator + Copy, S: BuildHasher>(
     match read {
         Ok(message) => of_message(message, at, from, lists, most, free),
         Err(fault) => of_fault(fault),
+    }
+}
+
+// What a message would be: the table is asked as things are, and as if a place to remember it were left.
+fn message_would<A: Allocator + Copy, S: BuildHasher>(
+    message: &View<'_>,
+    at: Moment,
+    from: Endpoint,
+    lists: &Lists<A, S>,
+    most: Remembered,
+    free: bool,
+) -> Would
+    ensures { (s : State) → s.most ≡ most → s.arrived ≡ arrivals_in lists.now.entries → s.open_cons
+        ≡ open_now lists.now.sendings.items
+        → is_free at.0 s.upcoming s.last_used ≡ free → result ≡ would_at s at.0 from (Whole message.now) }
+{
+    let kind = message.kind();
+    let role = Role::of(message.code());
+    let known = known_of(message, at, from, lists, most, free);
+    let placed = Known {
+        full: false,
+        ..known
+    };
+    would_by(classify(kind, role, placed), classify(kind, role, known))
+}
+
+/// What a datagram would be.
+pub(crate) fn would<A: Allocator + Copy, S: BuildHasher>(
+    read: &Result<View<'_>, Fault>,
+    at: Moment,
+    from: Endpoint,
+    lists: &Lists<A, S>,
+    most: Remembered,
+    free: bool,
+) -> Would
+    ensures { (s : State) → s.most ≡ most → s.arrived ≡ arrivals_in lists.now.entries → s.open_cons
+        ≡ open_now lists.now.sendings.items
+        → is_free at.0 s.upcoming s.last_used ≡ free → result ≡ would_at s at.0 from (shown_by read.now) }
+{
+    match read {
+        Ok(message) => message_would(message, at, from, lists, most, free),
+        Err(fault) => {
+            let verdict = of_fault(fault).verdict;
+            would_by(verdict, verdict)
+        }
     }
 }
 

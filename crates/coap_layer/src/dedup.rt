@@ -202,6 +202,14 @@ impl<A: Allocator + Copy, S: BuildHasher> Memory<A, S> {
         others <= settled && !is_passed_at(&self.settled, self.settled.len() - others, now)
     }
 
+    /// How many messages are remembered.
+    pub(crate) fn remembered(&self, now: Moment) -> usize
+        ensures { result ≡ length (filter (is_live now.0) (arrivals_in self.now)) }
+    {
+        let passed = passed_by(&self.settled, self.passed, now);
+        self.settled.len() - passed + self.live_newest(now)
+    }
+
     /// Makes room for the newest message, and for one after it.
     pub(crate) fn reserve(&mut self) -> Result<(), AllocError>
         ensures settled { self.new.settled ≡ self.old.settled }

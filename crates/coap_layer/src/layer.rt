@@ -1,4 +1,5 @@
 //! The message layer of an end: its parts, its inputs and its outputs (RFC 7252, section 4).
+mod load;
 mod questions;
 mod sendings;
 

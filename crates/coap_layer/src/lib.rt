@@ -17,15 +17,18 @@ mod empty;
 mod laws;
 mod layer;
 mod lists;
+mod load;
 mod mark;
 mod message_id;
 mod outstanding;
+mod peers;
 mod retransmission;
 mod room;
 mod sending;
 mod setup;
 mod taking;
 mod up;
+mod would;
 
 pub use content::Content;
 pub use datagram::Datagram;
@@ -34,6 +37,8 @@ pub use laws::{
     any_time_law, channel_law, layer_law, paced_channel_law, sendable_law, sending_law, witness_law,
 };
 pub use layer::Layer;
+pub use load::LayerLoad;
 pub use message_id::{IdSource, ids_law};
 pub use setup::Setup;
 pub use up::{SendRefusal, Tick, Up};
+pub use would::Would;

@@ -1,4 +1,6 @@
 //! Message IDs, in groups that rest before they are used again (RFC 7252, section 4.4).
+mod left;
+
 ghost use Rattle.std.specs.Prelude.{not, Some, ◌≡◌, ◌+◌, ◌*◌, ◌/◌, ◌%◌, IsTrue, false, List, [], ◌∷◌, ℕ, None};
 ghost use Rattle.std.specs.Prelude.{replicate, slice_set};
 ghost use Rattle.coap_layer.specs.Ids.{Issued, IdEntry, Ids, IdsAreExact, NumbersLaw, AreApart, IsHeld, IsRested};

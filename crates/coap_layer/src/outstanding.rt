@@ -1,5 +1,5 @@
 //! The Confirmable messages that are not acknowledged yet (RFC 7252, section 4.2).
-ghost use Rattle.std.specs.Prelude.{◌≡◌, ◌≤◌, [], map, filter, is_some, option_to_list, IfOk, IsOk};
+ghost use Rattle.std.specs.Prelude.{◌≡◌, ◌≤◌, [], map, filter, is_some, length, option_to_list, IfOk, IsOk};
 ghost use Rattle.std.specs.Vec.{vec_len, vec_capacity};
 ghost use Rattle.coap_layer.specs.Machine.Parts.{noted, open_before, settled, put_back as put_back_lem};
 ghost use Rattle.coap_layer.specs.Machine.Sendings.{open_now};
@@ -74,6 +74,13 @@ pub(crate) fn put_back<A: Allocator + Copy>(sendings: &mut Vec<Sending<A>, A>)
     ensures capacity { vec_capacity sendings.new ≡ vec_capacity sendings.old }
 {
     put_all_back(sendings);
+}
+
+/// How many messages are outstanding.
+pub(crate) fn outstanding_len<A: Allocator + Copy>(sendings: &[Sending<A>]) -> usize
+    ensures { result ≡ length (filter (λ c. is_some c.last) sendings.now) }
+{
+    sendings.iter().filter(|c| c.last.is_some()).count()
 }
 
 /// The retransmission that is due, of the message that was sent first of those that have a step.

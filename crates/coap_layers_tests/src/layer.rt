@@ -4,6 +4,7 @@ ghost use Rattle.std.specs.Prelude.{◌≡◌};
 mod arrivals;
 mod came;
 mod hashers;
+mod load;
 mod message_ids;
 mod sendings;
 mod steps;

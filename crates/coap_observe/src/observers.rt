@@ -1,6 +1,7 @@
 //! The observers of a server, in order of registration (RFC 7641, section 4.1).
 ghost use Rattle.std.specs.Prelude.{◌≡◌, ◌<◌, ◌≤◌, [], find, length, max, true, false, IfOk, IsOk, OnErr, slice_get};
 ghost use Rattle.std.specs.List.{list_any};
+ghost use Rattle.coap_types.specs.SameEndpoint.{same_endpoint};
 ghost use Rattle.std.specs.Option.{option_map};
 ghost use Rattle.coap_observe.specs.Notices.{but_noted, told_at, told_due};
 ghost use Rattle.coap_observe.specs.Observers.{AreRegistrations, Observer, changed_at, is_registered, is_due_at};
@@ -8,8 +9,8 @@ ghost use Rattle.coap_observe.specs.Observers.{is_due_of, marked_in, noted_to, r
 ghost use Rattle.coap_observe.specs.Observers.{reset_at, sent_to};
 
 use crate::entries::{
-    due_behind, first_due, first_noted, has, is_due, make_room, mark_all, note_all, others,
-    push_within, take_out, unmark_all,
+    due_behind, first_due, first_noted, has, has_endpoint, is_due, make_room, mark_all, note_all,
+    others, push_within, take_out, unmark_all,
 };
 use crate::entry::Entry;
 use crate::notice::Notice;
@@ -54,6 +55,22 @@ impl<A: Allocator + Copy> Observers<A> {
             clock: Moment(0),
             list: Vec::new(alloc),
         }
+    }
+
+    /// How many are registered.
+    pub fn len(&self) -> usize
+        // The number is that of the registrations.
+        ensures { result ≡ length self.now.list }
+    {
+        self.list.len()
+    }
+
+    /// Whether this endpoint observes something.
+    pub fn observes(&self, to: Endpoint) -> bool
+        // An endpoint observes something where one of the registrations is its own.
+        ensures { result ≡ list_any (λ o. same_endpoint o.to to) self.now.list }
+    {
+        has_endpoint(&self.list, to)
     }
 
     /// Registers an observer last, with nothing due to it, in place of an earlier registration of

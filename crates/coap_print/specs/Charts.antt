@@ -1,5 +1,5 @@
 -- What is drawn in a row of a chart: the client's line is on the left, the server's on the right.
-use Rattle.std.specs.Prelude.{List, codes, Option, Some, None, if◌then◌else◌}
+use Rattle.std.specs.Prelude.{Bool, List, codes, Option, Some, None, if◌then◌else◌}
 use Rattle.coap_types.specs.SameEndpoint.{same_endpoint}
 use Rattle.coap_types.specs.declared.endpoint.Endpoint.{Endpoint}
 use Rattle.coap_record.specs.declared.addresses.Addresses.{Addresses}
@@ -48,3 +48,7 @@ side_at addresses endpoint =
     if same_endpoint endpoint addresses.client then Some Client
     else if same_endpoint endpoint addresses.server then Some Server
     else None
+
+-- how a datagram is drawn that an end gives out: for elsewhere, or for the other end, where it may be lost
+abbrev pub form_of : Bool → Bool → Form
+form_of elsewhere lost = if elsewhere then ToElsewhere else if lost then Lost else Sent

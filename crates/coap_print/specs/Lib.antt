@@ -1,7 +1,9 @@
 pub mod Charts
 pub mod Colours
 pub mod CodeNames
+pub mod Lines
 pub mod OptionNames
 pub mod Printable
 pub mod Segments
+pub mod Traffic
 pub mod Values

@@ -8,6 +8,11 @@ mod sheet;
 mod traffic;
 mod traffic_words;
 
+ghost use Rattle.std.specs.Prelude.{◌≡◌};
+ghost use Rattle.coap_print.specs.Charts.{form_of};
+ghost use Rattle.coap_print.specs.Lines.{side_beside};
+ghost use Rattle.coap_print.specs.Traffic.{last_moment, side_of};
+
 use crate::chart::age::Turns;
 use crate::chart::happening::Happening;
 use crate::chart::sheet::{Form, Sheet};
@@ -56,8 +61,10 @@ pub fn draw_run<A: Allocator + Copy, W: Write>(
 }
 
 // The moment of the last event.
-fn last_moment<A: Allocator + Copy>(events: &[Event<A>]) -> Moment {
-    match events.last() {
+fn last_moment<A: Allocator + Copy>(events: &[Event<A>]) -> Moment
+    ensures { result.0 ≡ last_moment events.now }
+{
+    match events.get(events.len().saturating_sub(1)) {
         Some(event) => event.at,
         None => Moment(0),
     }
@@ -157,13 +164,7 @@ fn draw_sent<A: Allocator + Copy, W: Write>(
         return Ok(());
     };
     let elsewhere = traffic.side_at(given.to()).is_none();
-    let form = if elsewhere {
-        Form::ToElsewhere
-    } else if traffic.is_lost(number) {
-        Form::Lost
-    } else {
-        Form::Sent
-    };
+    let form = form_of(elsewhere, traffic.is_lost(number));
     let words = SentWords {
         number,
         first: traffic.first_alike(number, given),
@@ -172,6 +173,35 @@ fn draw_sent<A: Allocator + Copy, W: Write>(
     };
     let row = sheet.row(at, side, form, &words)?;
     out.write_all(row.as_bytes())
+}
+
+// How a datagram is drawn that an end gives out: for elsewhere, or for the other end, where it may be lost.
+fn form_of(elsewhere: bool, lost: bool) -> Form
+    ensures { result ≡ form_of elsewhere lost }
+{
+    match (elsewhere, lost) {
+        (true, _) => Form::ToElsewhere,
+        (false, true) => Form::Lost,
+        (false, false) => Form::Sent,
+    }
+}
+
+// The end beside whose line it is drawn, where it has a row.
+fn side_beside<A: Allocator + Copy>(
+    traffic: &Traffic<'_, A>,
+    what: &What<A>,
+    kind: &Kind<A>,
+) -> Option<Side>
+    ensures { result ≡ side_beside (side_of traffic.now.addresses traffic.now.given.now what.now) kind.now }
+{
+    match kind {
+        Kind::Takes(_) | Kind::Cancels(_) | Kind::Forgets(_) | Kind::Reports(_, _) => {
+            Some(Side::Client)
+        }
+        Kind::Puts(_) | Kind::Removes(_) | Kind::Applies(_) => Some(Side::Server),
+        Kind::Refused => Some(traffic.side_of(what)),
+        Kind::Begins(_) | Kind::Changes(_) | Kind::Out => None,
+    }
 }
 
 // What happens at an end, where it has a row.
@@ -183,11 +213,8 @@ fn draw_happening<A: Allocator + Copy, W: Write>(
     kind: &Kind<A>,
     out: &mut W,
 ) -> io::Result<()> {
-    let side = match kind {
-        Kind::Takes(_) | Kind::Cancels(_) | Kind::Forgets(_) | Kind::Reports(_, _) => Side::Client,
-        Kind::Puts(_) | Kind::Removes(_) | Kind::Applies(_) => Side::Server,
-        Kind::Refused => traffic.side_of(&event.what),
-        Kind::Begins(_) | Kind::Changes(_) | Kind::Out => return Ok(()),
+    let Some(side) = side_beside(traffic, &event.what, kind) else {
+        return Ok(());
     };
     let happening = Happening {
         what: &event.what,

@@ -1,4 +1,7 @@
 //! What came of a run, a line each.
+ghost use Rattle.std.specs.Prelude.{◌≡◌};
+ghost use Rattle.coap_print.specs.Lines.{is_begin, refused};
+
 use crate::values::{hex_or_dash, report_text};
 use coap_run::{Addresses, Event, Given, Kind, Line, Record};
 use coap_types::Moment;
@@ -27,7 +30,9 @@ pub fn tell_run<A: Allocator + Copy, W: Write>(
 }
 
 /// Whether an event begins.
-pub(crate) fn is_begin<A: Allocator + Copy>(line: &Line<A>) -> bool {
+pub(crate) fn is_begin<A: Allocator + Copy>(line: &Line<A>) -> bool
+    ensures { result ≡ is_begin line.now }
+{
     matches!(line.kind, Kind::Begins(_))
 }
 
@@ -128,7 +133,9 @@ fn tell_refusals<A: Allocator + Copy, W: Write>(
 }
 
 // The number of the refusal that a line tells, where it tells one.
-fn refused<A: Allocator + Copy>(kind: &Kind<A>) -> Option<u8> {
+fn refused<A: Allocator + Copy>(kind: &Kind<A>) -> Option<u8>
+    ensures { result ≡ refused kind.now }
+{
     match kind {
         Kind::Takes(Err(refusal)) => Some(refusal.number()),
         Kind::Cancels(Err(refusal)) => Some(refusal.number()),

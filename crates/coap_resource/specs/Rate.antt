@@ -1,6 +1,6 @@
 -- How often a store changes: moments fall into windows (of 256 s), and a window takes so many changes (RFC 7641,
 -- section 4.4).
-use Rattle.std.specs.Prelude.{ℕ, ◌+◌, ◌-◌, ◌^◌, ◌/◌, ◌==◌, max, nat_le, Option, Some, None, if◌then◌else◌}
+use Rattle.std.specs.Prelude.{ℕ, ◌+◌, ◌-◌, ◌^◌, ◌/◌, ◌==◌, max, min, nat_le, Option, Some, None, if◌then◌else◌}
 use Rattle.coap_resource.specs.declared.refusal.StoreRefusal.{StoreRefusal}
 use Rattle.coap_resource.specs.declared.refusal.StoreRefusal.TheVariants.{RateExceeded, VersionsSpent}
 use Rattle.coap_resource.specs.Limits.{Limits}
@@ -35,6 +35,10 @@ rate_refusal t now =
     if nat_le t.limits.changes (used t now) then Some RateExceeded
     else if nat_le (2 ^ 64 - 1) t.version then Some VersionsSpent
     else None
+
+-- how many changes can be made one after the other at a moment: the window takes no more, and there are no more versions
+abbrev pub changes_left : Tally → ℕ → ℕ
+changes_left t now = min (t.limits.changes - used t now) (2 ^ 64 - 1 - t.version)
 
 -- a moment that counts, and changes nothing
 abbrev pub waited : Tally → ℕ → Tally

@@ -62,6 +62,14 @@ impl<A: Allocator + Copy> Store<A> for ListStore<A> {
         self.tally.version
     }
 
+    fn paths(&self) -> usize {
+        paths(&self.entries)
+    }
+
+    fn changes_left(&self, now: Moment) -> u32 {
+        self.tally.changes_left(now)
+    }
+
     fn put(
         &mut self,
         now: Moment,

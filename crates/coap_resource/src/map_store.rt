@@ -63,6 +63,14 @@ impl<A: Allocator + Copy> Store<A> for MapStore<A> {
         self.tally.version
     }
 
+    fn paths(&self) -> usize {
+        paths(&self.map)
+    }
+
+    fn changes_left(&self, now: Moment) -> u32 {
+        self.tally.changes_left(now)
+    }
+
     fn put(
         &mut self,
         now: Moment,

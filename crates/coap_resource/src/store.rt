@@ -3,7 +3,7 @@ ghost use Rattle.std.specs.Prelude.{◌≡◌, ◌≤◌, ◌↔◌, ◌+◌, �
 ghost use Rattle.std.specs.Prelude.{option_copied};
 ghost use Rattle.coap_resource.specs.Content.{Changes, Content, Held, append_refusal, nothing, put_refusal, later};
 ghost use Rattle.coap_resource.specs.Limits.{sized_limits, usual_limits};
-ghost use Rattle.coap_resource.specs.Rate.{rate_refusal};
+ghost use Rattle.coap_resource.specs.Rate.{changes_left, rate_refusal};
 ghost use Rattle.coap_resource.specs.declared.refusal.StoreRefusal.{StoreRefusal};
 ghost use Rattle.coap_resource.specs.declared.refusal.StoreRefusal.TheVariants.{Memory};
 ghost use Rattle.coap_resource.specs.Shown.{shown};
@@ -92,6 +92,17 @@ pub trait Store<A: Allocator + Copy>: Drop {
     fn version(&self) -> u64
         // The version is that of the last change, and before the first the base.
         ensures { result ≡ (content self.now).tally.version };
+
+    /// How many paths hold something.
+    fn paths(&self) -> usize
+        // The number is that of the paths that hold something.
+        ensures { result ≡ (content self.now).paths };
+
+    /// How many changes can be made one after the other at this moment: those that its window has left, and no more
+    /// than there are versions left. A moment before the last that was handed in counts as that. It does not count.
+    fn changes_left(&self, now: Moment) -> u32
+        // The changes that are left are those that the window has left, and no more than there are versions.
+        ensures { result ≡ changes_left (content self.now).tally now.0 };
 
     /// Puts a body in place of what the path holds, and answers its version.
     fn put(

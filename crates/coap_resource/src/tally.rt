@@ -1,7 +1,7 @@
 //! The counter of versions, and how many changes a window takes.
 ghost use Rattle.std.specs.Prelude.{◌≡◌, ◌<◌, ◌≤◌, ◌+◌, None, max};
 ghost use Rattle.coap_resource.specs.Content.{append_refusal_by, put_refusal_by};
-ghost use Rattle.coap_resource.specs.Rate.{counted, rate_refusal, unused, used, waited, window};
+ghost use Rattle.coap_resource.specs.Rate.{changes_left, counted, rate_refusal, unused, used, waited, window};
 
 use crate::refusal::StoreRefusal;
 use crate::store::MAX_PATHS;
@@ -121,6 +121,14 @@ impl Tally {
             return Some(StoreRefusal::VersionsSpent);
         }
         None
+    }
+
+    /// How many changes can be made one after the other at this moment.
+    pub(crate) fn changes_left(&self, now: Moment) -> u32
+        ensures { result ≡ changes_left self.now now.0 }
+    {
+        let changes = self.per_window.saturating_sub(self.used(now));
+        u64::from(changes).min(u64::MAX - self.version) as u32
     }
 
     /// Why a body of this length can't be put, where the path holds something or not and so many paths do.

@@ -10,3 +10,4 @@ pub mod TicksWhenDue
 pub mod TurnSteps
 pub mod WaitingLists
 pub mod WorkFalls
+pub mod WaitingPeers

@@ -17,3 +17,5 @@ pub mod Follows
 pub mod Object
 pub mod Turns
 pub mod RefusalNumbers
+pub mod Load
+pub mod Peers

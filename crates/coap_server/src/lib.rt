@@ -5,4 +5,6 @@ mod limits;
 mod server;
 
 pub use limits::{CON_NOTIFICATION_MS, MAX_DELAYS, MAX_PLAIN_AGE_MS, MAX_PLAINS};
-pub use server::{Applied, Delay, DelayRefusal, PlainRefusal, Server, give_delay, give_plain};
+pub use server::{
+    Applied, Delay, DelayRefusal, Load, PlainRefusal, Server, give_delay, give_plain,
+};

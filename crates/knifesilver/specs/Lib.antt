@@ -4,8 +4,12 @@ pub mod CallArguments
 pub mod ClientCalls
 pub mod ClientHeld
 pub mod Configs
+pub mod Endings
 pub mod Formats
 pub mod Fresh
+pub mod Journals
+pub mod Known
+pub mod Loads
 pub mod Outgoing
 pub mod Owned
 pub mod PathRefusals
@@ -17,3 +21,4 @@ pub mod Seeds
 pub mod ServerCalls
 pub mod ServerHeld
 pub mod ShortBytes
+pub mod Woulds

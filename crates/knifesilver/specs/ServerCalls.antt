@@ -1,5 +1,5 @@
 -- Which call of a server an export makes, by what the export was handed and answered.
-use Rattle.std.specs.Prelude.{◌≡◌, ◌<◌, ◌⊎◌, ◌^◌, ◌+◌, max, ℕ, ℤ, pos, Bool, true, false, List, length, take}
+use Rattle.std.specs.Prelude.{◌≡◌, ◌≢◌, ◌<◌, ◌⊎◌, ◌^◌, ◌+◌, max, nat_lt, ℕ, ℤ, pos, negsuc, Bool, true, false, List, length, take}
 use Rattle.std.specs.Prelude.{Option, Some, None, Result, Ok, Err}
 use Rattle.coap_types.specs.declared.endpoint.Endpoint.{Endpoint}
 use Rattle.coap_codec.specs.Message.{Message}
@@ -14,13 +14,15 @@ use Rattle.coap_server.specs.Trace.{Applied, Call, Delays, Feeds, Handling, Next
 use Rattle.coap_server.specs.Turns.WhenDue.{TicksDo, latest}
 use Rattle.knifesilver.specs.declared.crossing.KsAddress.{KsAddress}
 use Rattle.knifesilver.specs.declared.held.Held.{Held}
-use Rattle.knifesilver.specs.declared.server.local.KsRepresentation.{KsRepresentation}
+use Rattle.knifesilver.specs.declared.server.getting.KsRepresentation.{KsRepresentation}
 use Rattle.knifesilver.specs.declared.server.out.KsApplied.{KsApplied}
 use Rattle.knifesilver.specs.Answers.{told}
 use Rattle.knifesilver.specs.Applied.{AppliedAnswers, IsLongPath}
 use Rattle.knifesilver.specs.Formats.{number_of}
 use Rattle.knifesilver.specs.Outgoing.{OutAnswers}
-use Rattle.knifesilver.specs.ServerHeld.{HoldsServerIn, Made}
+use Rattle.knifesilver.specs.ServerHeld.{HoldsServerIn, IsNoted, Made, notes_in}
+use Rattle.coap_journal.specs.Input.{Set, Tick}
+use Rattle.coap_noted.specs.Notes.{IsNotDue}
 
 -- a datagram is fed
 abbrev pub IsFeed : ℕ → Endpoint → List ℕ → ℕ → Call → Type 0
@@ -31,6 +33,12 @@ IsFeed now from bytes word call = (up : below.Answer) × (came : Option (Asked �
 abbrev pub IsTick : ℕ → ℕ → ℤ → Call → Type 0
 IsTick now word answer call = (done : below.Answer) × (room : Bool) × (due : Due) × (passed : ℕ) × (h : Handling)
     × (id : ℕ) × (did : Bool) × (answer ≡ told did) × (call ≡ Ticks now word done room due passed h id did)
+
+-- .. and is made, and noted; or notes are kept and no tick is due, and nothing is done
+abbrev pub Ticked : ℕ → ℕ → ℤ → Option Held → Option Held → Type 0
+Ticked now word answer old new =
+    ((answer ≡ pos 0) × (new ≡ old) × (notes_in old ≢ None) × HoldsServerIn (IsNotDue now) old)
+    ⊎ (Made (IsTick now word answer) old new × IsNoted (Tick now word) now old new)
 
 -- when a tick is due: never, where the answer is 0; and else at that moment, before which nothing is due
 abbrev pub IsDue : ℤ → ℕ → State → Type 0
@@ -57,7 +65,8 @@ abbrev pub Updates : ℕ → List (List ℕ) → Option ℕ → List ℕ → (an
 Updates now path format body answer version old new =
     (HoldsServerIn (HoldsThat path format body version) old × (answer ≡ pos 0) × (new ≡ old))
     ⊎ (HoldsServerIn (λ s. (n : ℕ) → HoldsThat path format body n s → ⊥) old
-    × Made (IsSet now path format body (pos 1) answer version) old new)
+    × Made (IsSet now path format body (pos 1) answer version) old new
+    × IsNoted (Set now path format body) now old new)
 
 -- whether there was something that was removed; or the answer is the number of the refusal
 abbrev pub RemoveAnswers : ℤ → Result Bool StoreRefusal → Type 0
@@ -104,6 +113,11 @@ IsLong shown room (Some held) = (shown ≡ representation_of held) × (room < le
 
 abbrev pub IsTooLong : List (List ℕ) → KsRepresentation → ℕ → State → Type 0
 IsTooLong path shown room s = IsLong shown room (s.own.store.holds path)
+
+-- whether a datagram was taken, by the answer
+abbrev pub is_given : ℤ → Bool
+is_given (pos n) = nat_lt 0 n
+is_given (negsuc n) = false
 
 -- a datagram is taken to be sent, and is told
 abbrev pub IsNextOut : ℤ → KsAddress → (room : List ℕ) (len : ℕ) → Call → Type 0

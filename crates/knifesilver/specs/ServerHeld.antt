@@ -1,11 +1,13 @@
 -- What a handle of a server holds, and what a call of it did.
-use Rattle.std.specs.Prelude.{ℕ, ⊤, List, ◌∷◌, Option, Some, None}
+use Rattle.std.specs.Prelude.{◌≡◌, ℕ, ⊤, List, ◌∷◌, Option, Some, None}
 use Rattle.coap_resource.specs.Entries.{content_of}
 use Rattle.coap_resource.specs.Limits.{Limits}
 use Rattle.coap_layer.specs.declared.setup.Setup.{Setup}
 use Rattle.coap_server.specs.Led.{Led, State}
 use Rattle.coap_server.specs.Object.Shown.{state_of}
 use Rattle.coap_server.specs.Trace.{Call}
+use Rattle.coap_journal.specs.Input.{Input}
+use Rattle.coap_noted.specs.Notes.{Note, noted_with}
 use Rattle.knifesilver.specs.declared.held.Held.{Held}
 use Rattle.knifesilver.specs.declared.held.Held.TheVariants.{Server, Client}
 
@@ -20,7 +22,7 @@ HoldsServer (Some held) = IsServer held
 
 -- it is a server in a state of which this holds
 abbrev pub IsServerIn : (State → Type 0) → Held → Type 0
-IsServerIn P (Server s) = P (state_of content_of s)
+IsServerIn P (Server s) = P (state_of content_of s.server)
 IsServerIn P (Client c) = ⊥
 
 abbrev pub HoldsServerIn : (State → Type 0) → Option Held → Type 0
@@ -36,3 +38,13 @@ HoldsLed limits szx setup t held = HoldsServerIn (Led limits szx setup t) held
 abbrev pub Made : (Call → Type 0) → Option Held → Option Held → Type 0
 Made like old new = (limits : Limits) (szx : ℕ) (setup : Setup) (t : List Call) → HoldsLed limits szx setup t old
     → (call : Call) × like call × HoldsLed limits szx setup (call ∷ t) new
+
+-- the notes of what it took, where these are kept
+abbrev pub notes_in : Option Held → Option Note
+notes_in None = None
+notes_in (Some (Server s)) = s.notes
+notes_in (Some (Client c)) = None
+
+-- this input, which was handed in at this moment, is noted, where notes are kept
+abbrev pub IsNoted : Input → ℕ → Option Held → Option Held → Type 0
+IsNoted input now old new = notes_in new ≡ noted_with input now (notes_in old)

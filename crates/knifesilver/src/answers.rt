@@ -29,6 +29,8 @@ pub(crate) const BAD_REMEMBERED: i32 = -9;
 pub(crate) const BAD_CHANGES: i32 = -10;
 /// No versions begin after this one.
 pub(crate) const BAD_BASE: i32 = -11;
+/// What was taken isn't handed out yet.
+pub(crate) const UNTOLD: i32 = -12;
 
 // C has these numbers in its header.
 const _: () = prove!(NOTHING == 0 && DONE == 1 && TOO_LONG == 2);
@@ -41,4 +43,4 @@ const _: () = prove!(
     BAD_SIZE == -6 && BAD_BLOCK_SIZE == -7 && BAD_BODY_LIMIT == -8 && BAD_REMEMBERED == -9
 );
 
-const _: () = prove!(BAD_CHANGES == -10 && BAD_BASE == -11);
+const _: () = prove!(BAD_CHANGES == -10 && BAD_BASE == -11 && UNTOLD == -12);

@@ -1,11 +1,14 @@
 //! What a handle holds.
 use crate::seed::SeededHash;
 use coap_ends::{CallId, Client, Report, Server};
+use coap_noted::Noted;
 use coap_resource::MapStore;
 use std::alloc::Global;
 
 /// A server, with its resources in a map.
-pub(crate) type OurServer = Server<MapStore, Global, SeededHash>;
+pub(crate) type MapServer = Server<MapStore, Global, SeededHash>;
+/// .. and the notes of what it took, where these are kept.
+pub(crate) type OurServer = Noted<MapStore, Global, SeededHash>;
 
 /// A client, and the report that was taken from it and is still to be given out.
 #[derive(Drop)]

@@ -9,6 +9,8 @@ mod config;
 mod crossing;
 mod handle;
 mod held;
+mod journal;
+mod load;
 mod numbers;
 mod outgoing;
 mod path_text;

@@ -3,9 +3,11 @@ ghost use Rattle.std.specs.Prelude.{◌≡◌, ◌+◌, pos};
 ghost use Rattle.coap_client.specs.RefusalNumbers.{call_refusal_number, cancel_refusal_number};
 ghost use Rattle.coap_codec.specs.Faulty.{reason_number};
 ghost use Rattle.coap_resource.specs.Content.{refusal_number};
+ghost use Rattle.knifesilver.specs.Woulds.{would_number as would_number_lem};
 
 use coap_codec::Reason;
 use coap_ends::{CallRefusal, CancelRefusal};
+use coap_layer::Would;
 use coap_resource::StoreRefusal;
 
 // A store that is not changed: 16, and the number of its refusal.
@@ -42,6 +44,23 @@ const CANCEL_UNKNOWN: i32 = 57;
 
 const CANCEL_QUEUE_FULL: i32 = 58;
 
+// What a datagram would be: 64, and its place among the eight.
+const WOULD_IGNORE: i32 = 64;
+
+const WOULD_REJECT: i32 = 65;
+
+const WOULD_REPEAT: i32 = 66;
+
+const WOULD_TAKE: i32 = 67;
+
+const WOULD_NO_PLACE: i32 = 68;
+
+const WOULD_NO_ID: i32 = 69;
+
+const WOULD_ACKNOWLEDGE: i32 = 70;
+
+const WOULD_RESET: i32 = 71;
+
 // A datagram that is no message: 80, and the number of its first fault.
 const FAULT_SHORT: i32 = 81;
 
@@ -62,6 +81,28 @@ const FAULT_OPTION_CUT: i32 = 88;
 const FAULT_NUMBER_TOO_LARGE: i32 = 89;
 
 const FAULT_NO_PAYLOAD: i32 = 90;
+
+// A journal that is not replayed: 144, and the number of its refusal.
+/// Whole frames stand behind one that isn't.
+pub(crate) const JOURNAL_DAMAGED: i32 = 145;
+/// No frame is whole.
+pub(crate) const JOURNAL_NOT_BEGUN: i32 = 146;
+/// It has another format.
+pub(crate) const JOURNAL_OTHER_FORMAT: i32 = 147;
+/// It is of a server by another law.
+pub(crate) const JOURNAL_OTHER_LAW: i32 = 148;
+/// A whole frame holds no record, or the first one no beginning.
+pub(crate) const JOURNAL_UNREADABLE: i32 = 149;
+/// More datagrams were given out than its server had.
+pub(crate) const JOURNAL_OTHER_SERVER: i32 = 150;
+
+const _: () = prove!(
+    JOURNAL_DAMAGED == 145 && JOURNAL_NOT_BEGUN == 146 && JOURNAL_OTHER_FORMAT == 147
+);
+
+const _: () = prove!(
+    JOURNAL_OTHER_LAW == 148 && JOURNAL_UNREADABLE == 149 && JOURNAL_OTHER_SERVER == 150
+);
 
 /// The number of a refusal of the store.
 pub(crate) fn set_number(why: StoreRefusal) -> i32
@@ -97,6 +138,22 @@ pub(crate) fn cancel_number(why: CancelRefusal) -> i32
     match why {
         CancelRefusal::Unknown => CANCEL_UNKNOWN,
         CancelRefusal::QueueFull => CANCEL_QUEUE_FULL,
+    }
+}
+
+/// The number of what a datagram would be.
+pub(crate) fn would_number(would: Would) -> i32
+    ensures { result ≡ pos (64 + would_number_lem would) }
+{
+    match would {
+        Would::Ignored => WOULD_IGNORE,
+        Would::Rejected => WOULD_REJECT,
+        Would::Repeated => WOULD_REPEAT,
+        Would::Taken => WOULD_TAKE,
+        Would::NoPlace => WOULD_NO_PLACE,
+        Would::NoId => WOULD_NO_ID,
+        Would::Acknowledges => WOULD_ACKNOWLEDGE,
+        Would::Resets => WOULD_RESET,
     }
 }
 

@@ -1,9 +1,10 @@
 //! The datagrams that an end hands out.
-ghost use Rattle.std.specs.Prelude.{◌≢◌, ◌≤◌, length};
+ghost use Rattle.std.specs.Prelude.{◌≡◌, ◌≢◌, ◌≤◌, is_some, length};
 ghost use Rattle.knifesilver.specs.Answers.{IsRefused};
 ghost use Rattle.knifesilver.specs.Outgoing.{OutAnswers};
+ghost use Rattle.knifesilver.specs.ServerCalls.{is_given};
 
-use crate::answers::{DONE, NOT_LIVE, NOTHING, TOO_LONG};
+use crate::answers::{DONE, NOT_LIVE, NOTHING, TOO_LONG, UNTOLD};
 use crate::crossing::{KsAddress, address, copy_out};
 use coap_layer::Datagram;
 use coap_types::limits::MAX_MESSAGE_LEN;
@@ -20,6 +21,8 @@ pub(crate) fn give(
     ensures told { OutAnswers result to.new room.new len.new next }
     ensures answered { IsRefused result → ⊥ }
     ensures live { result ≢ NOT_LIVE }
+    ensures given { is_given result ≡ is_some next }
+    ensures untold { result ≢ UNTOLD }
 {
     match next {
         Some(datagram) => {

@@ -1,7 +1,13 @@
 //! The calls of a server.
+mod ended;
+mod getting;
+mod load;
 mod local;
-mod made;
+pub(crate) mod made;
 mod out;
+mod peers;
 mod plain;
 mod refusing;
+pub(crate) mod replaying;
 pub(crate) mod turns;
+mod would;

@@ -1,7 +1,7 @@
 //! What an arrival came to, in a form that tests compare.
 ghost use Rattle.std.specs.Prelude.{IsSome, OnOk};
 
-use coap_layer::{Layer, Up};
+use coap_layer::{Layer, Up, Would};
 use coap_types::{Endpoint, Id, Moment};
 use std::alloc::{AllocError, Global};
 use std::hash::BuildHasher;
@@ -36,6 +36,19 @@ fn outcome(up: &Up<'_>) -> Came {
         Up::Acked(id) => Came::Acked(*id),
         Up::Reset(id) => Came::Reset(*id),
         Up::Unmatched(id) => Came::Unmatched(*id),
+    }
+}
+
+/// Whether it came to what it would be.
+pub(super) fn is_as(would: Would, came: Came) -> bool {
+    match came {
+        Came::Dropped => would == Would::Ignored || would == Would::NoPlace,
+        Came::Replayed => would == Would::Repeated,
+        Came::Rejected => would == Would::Rejected,
+        Came::Request | Came::Response => would == Would::Taken,
+        Came::Unremembered => would == Would::NoId,
+        Came::Acked(_) => would == Would::Acknowledges,
+        Came::Reset(_) | Came::Unmatched(_) => would == Would::Resets,
     }
 }
 

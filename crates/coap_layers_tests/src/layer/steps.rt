@@ -1,7 +1,7 @@
 //! What happens to a layer, as steps of one array.
 ghost use Rattle.std.specs.Prelude.{◌≡◌, IsSome, OnOk};
 
-use super::came::{Came, received};
+use super::came::{Came, is_as, received};
 use super::{THERE, confirm_get, is_sent, plain_content};
 use coap_layer::{Layer, SendRefusal, Tick, Up};
 use coap_types::limits::MAX_MESSAGE_LEN;
@@ -78,8 +78,10 @@ pub(super) fn comes_to<R: Abort + AllocGlobal, S: BuildHasher>(
     ensures { OnOk result (IsSome layer.new.before) }
 {
     let bytes = bytes_of(rt, hex);
+    let would = layer.would(Moment(now), from, bytes.as_slice());
     let is = received(layer, now, from, bytes.as_slice())?;
     assert_eq!(rt; is, came);
+    assert!(rt; is_as(would, is));
     Ok(())
 }
 

@@ -1,4 +1,7 @@
 //! How old what is reported is: how long before its report the server last held it so.
+ghost use Rattle.std.specs.Prelude.{◌≡◌, option_copied};
+ghost use Rattle.coap_print.specs.Lines.{asked_path, holding_after, makes, shown_tag, takes};
+
 use crate::run_lines::is_begin;
 use coap_ends::{CallId, Report};
 use coap_run::{Change, Event, Kind, Line, What};
@@ -44,7 +47,9 @@ enum Holding {
 
 impl Holding {
     // .. behind a change at this moment, which makes that representation or another.
-    fn after(self, is_this: bool, at: Moment) -> Holding {
+    fn after(self, is_this: bool, at: Moment) -> Holding
+        ensures { result ≡ holding_after is_this at self }
+    {
         match self {
             _ if is_this => Holding::Now,
             Holding::Now => Holding::Until(at),
@@ -106,12 +111,16 @@ impl<'a, A: Allocator + Copy> Turns<'a, A> {
 }
 
 // Whether the change makes the representation of this entity-tag (RFC 7252, section 5.10.6).
-fn makes<A: Allocator + Copy>(change: &Change<A>, tag: &Tag) -> bool {
+fn makes<A: Allocator + Copy>(change: &Change<A>, tag: &Tag) -> bool
+    ensures { result ≡ makes tag.now change.now }
+{
     change.held.is_some() && tag.as_slice() == change.version.to_be_bytes().as_slice()
 }
 
 // Whether the line says that a call or an observation was taken under this number.
-fn takes<A: Allocator + Copy>(line: &Line<A>, id: CallId) -> bool {
+fn takes<A: Allocator + Copy>(line: &Line<A>, id: CallId) -> bool
+    ensures { result ≡ takes id.0 line.now }
+{
     match &line.kind {
         Kind::Takes(Ok(taken)) => *taken == id,
         _ => false,
@@ -119,7 +128,9 @@ fn takes<A: Allocator + Copy>(line: &Line<A>, id: CallId) -> bool {
 }
 
 // The path that a call or an observation asks for.
-fn asked_path<A: Allocator + Copy>(what: &What<A>) -> Option<&Path<A>> {
+fn asked_path<A: Allocator + Copy>(what: &What<A>) -> Option<&Path<A>>
+    ensures { option_copied result ≡ asked_path what.now }
+{
     match what {
         What::Call(request) => Some(&request.path),
         What::Observe(path) => Some(path),
@@ -128,7 +139,9 @@ fn asked_path<A: Allocator + Copy>(what: &What<A>) -> Option<&Path<A>> {
 }
 
 // The entity-tag of the representation that a report shows.
-fn shown_tag<A: Allocator + Copy>(report: &Report<A>) -> Option<&Tag> {
+fn shown_tag<A: Allocator + Copy>(report: &Report<A>) -> Option<&Tag>
+    ensures { option_copied result ≡ shown_tag report.now }
+{
     match report {
         Report::Body(fetched) | Report::Value(_, fetched) => fetched.tag.as_ref(),
         Report::Valid(tag) => tag.as_ref(),

@@ -1,6 +1,8 @@
 //! What becomes of the datagrams of a run.
-ghost use Rattle.std.specs.Prelude.{◌≡◌};
+ghost use Rattle.std.specs.Prelude.{◌≡◌, option_copied, take};
 ghost use Rattle.coap_print.specs.Charts.{side_at};
+ghost use Rattle.coap_print.specs.Traffic.{arrival, delivers, delivers_later, first_alike, is_alike, is_delivered};
+ghost use Rattle.coap_print.specs.Traffic.{is_lost, is_overtaken, side_of, side_to};
 
 use coap_run::{Addresses, Event, Given, Side, What};
 use coap_types::Endpoint;
@@ -27,12 +29,16 @@ pub(super) struct Traffic<'a, A: Allocator + Copy> {
 
 impl<'a, A: Allocator + Copy> Traffic<'a, A> {
     /// Whether the datagram of this number never arrives.
-    pub(super) fn is_lost(&self, number: usize) -> bool {
-        !self.events.iter().any(|event| delivers(event, number))
+    pub(super) fn is_lost(&self, number: usize) -> bool
+        ensures { result ≡ is_lost self.now.events.now number }
+    {
+        !is_delivered(self.events, number)
     }
 
     /// The number of the first datagram between the same endpoints that has the same bytes, where that is another one.
-    pub(super) fn first_alike(&self, number: usize, given: &Given<A>) -> Option<usize> {
+    pub(super) fn first_alike(&self, number: usize, given: &Given<A>) -> Option<usize>
+        ensures { result ≡ first_alike self.now.given.now number given.now }
+    {
         self.given
             .iter()
             .take(number)
@@ -40,31 +46,17 @@ impl<'a, A: Allocator + Copy> Traffic<'a, A> {
     }
 
     /// How the datagram of this number arrives that is delivered behind so many events.
-    pub(super) fn arrival(&self, past: usize, number: usize, given: &Given<A>) -> Arrival {
+    pub(super) fn arrival(&self, past: usize, number: usize, given: &Given<A>) -> Arrival
+        ensures { result ≡ arrival self.now.events.now self.now.given.now past number given.now }
+    {
         let from = given.from();
-        let mut arrival = Arrival::InOrder;
-        for event in self.events.iter().take(past) {
-            if delivers(event, number) {
-                return Arrival::Again;
-            }
-            if self.delivers_later(event, number, from) {
-                arrival = Arrival::Late;
-            }
-        }
-        arrival
-    }
-
-    // Whether the event delivers a datagram that this end gave out behind that of this number.
-    fn delivers_later(&self, event: &Event<A>, number: usize, from: Endpoint) -> bool {
-        match event.what {
-            What::Deliver(later) => {
-                later > number
-                    && self
-                        .given
-                        .get(later)
-                        .is_some_and(|given| given.from() == from)
-            }
-            _ => false,
+        let events = first_events(self.events, past);
+        if is_delivered(events, number) {
+            Arrival::Again
+        } else if is_overtaken(events, self.given, number, from) {
+            Arrival::Late
+        } else {
+            Arrival::InOrder
         }
     }
 
@@ -82,22 +74,77 @@ impl<'a, A: Allocator + Copy> Traffic<'a, A> {
     }
 
     /// The end at which an event happens.
-    pub(super) fn side_of(&self, what: &What<A>) -> Side {
+    pub(super) fn side_of(&self, what: &What<A>) -> Side
+        ensures { result ≡ side_of self.now.addresses self.now.given.now what.now }
+    {
         match what {
             What::Call(_) | What::Observe(_) | What::Cancel(_) | What::Forget(_) => Side::Client,
             What::Set(_, _, _) | What::Remove(_) => Side::Server,
             What::Tick(side) | What::Stranger(side, _, _) => *side,
-            What::Deliver(number) => self
-                .given
-                .get(*number)
-                .and_then(|given| self.side_at(given.to()))
-                .unwrap_or(Side::Server),
+            What::Deliver(number) => self.side_to(self.given.get(*number)),
+        }
+    }
+
+    // The end to which a datagram goes; the server where there is none.
+    fn side_to(&self, given: Option<&Given<A>>) -> Side
+        ensures { result ≡ side_to self.now.addresses (option_copied given.entry) }
+    {
+        match given {
+            Some(given) => self.side_at(given.to()).unwrap_or(Side::Server),
+            None => Side::Server,
         }
     }
 }
 
+// The first of these events, so many.
+fn first_events<A: Allocator + Copy>(events: &[Event<A>], many: usize) -> &[Event<A>]
+    ensures { result.now ≡ take many events.now }
+{
+    events.get(..many).unwrap_or(events)
+}
+
+// Whether one of these events delivers the datagram of this number.
+fn is_delivered<A: Allocator + Copy>(events: &[Event<A>], number: usize) -> bool
+    ensures { result ≡ is_delivered events.now number }
+{
+    events.iter().any(|event| delivers(event, number))
+}
+
+// Whether one of these events delivers a datagram that this end gave out behind that of this number.
+fn is_overtaken<A: Allocator + Copy>(
+    events: &[Event<A>],
+    all: &[Given<A>],
+    number: usize,
+    from: Endpoint,
+) -> bool
+    ensures { result ≡ is_overtaken events.now all.now number from }
+{
+    events
+        .iter()
+        .any(|event| delivers_later(event, all, number, from))
+}
+
+// Whether the event delivers a datagram that this end gave out behind that of this number.
+fn delivers_later<A: Allocator + Copy>(
+    event: &Event<A>,
+    all: &[Given<A>],
+    number: usize,
+    from: Endpoint,
+) -> bool
+    ensures { result ≡ delivers_later all.now number from event.now.what }
+{
+    match event.what {
+        What::Deliver(later) => {
+            later > number && all.get(later).is_some_and(|given| given.from() == from)
+        }
+        _ => false,
+    }
+}
+
 // Whether the event delivers the datagram of this number.
-fn delivers<A: Allocator + Copy>(event: &Event<A>, number: usize) -> bool {
+fn delivers<A: Allocator + Copy>(event: &Event<A>, number: usize) -> bool
+    ensures { result ≡ delivers number event.now.what }
+{
     match event.what {
         What::Deliver(delivered) => delivered == number,
         _ => false,
@@ -105,6 +152,8 @@ fn delivers<A: Allocator + Copy>(event: &Event<A>, number: usize) -> bool {
 }
 
 // Whether two datagrams have the same bytes, and go between the same endpoints.
-fn is_alike<A: Allocator + Copy>(one: &Given<A>, other: &Given<A>) -> bool {
+fn is_alike<A: Allocator + Copy>(one: &Given<A>, other: &Given<A>) -> bool
+    ensures { result ≡ is_alike one.now other.now }
+{
     one.from() == other.from() && one.to() == other.to() && one.bytes() == other.bytes()
 }

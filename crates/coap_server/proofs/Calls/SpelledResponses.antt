@@ -6,7 +6,8 @@ use Rattle.coap_types.specs.OptionValues.{option_with, uint_option}
 use Rattle.coap_types.specs.Uint.{uint}
 use Rattle.coap_exchange.specs.AnswererTrace.{Response}
 use Rattle.coap_server.specs.Object.FullResponses.{response_as}
-use Rattle.coap_types.specs.declared.option_number.TheConstants.{BLOCK1 as block1, BLOCK2 as block2, ETAG as etag, OBSERVE as observe}
+use Rattle.coap_types.specs.declared.option_number.TheConstants.{BLOCK1 as block1, BLOCK2 as block2}
+use Rattle.coap_types.specs.declared.option_number.TheConstants.{ETAG as etag, OBSERVE as observe}
 use Rattle.coap_types.specs.declared.option_number.TheConstants.{CONTENT_FORMAT as content_format}
 
 number_option : (number : ℕ) (value : Option ℕ) → option_with number (option_map uint value) ≡ uint_option number value
@@ -26,14 +27,15 @@ numbers_are : (code : ℕ) (tag : Option (List ℕ)) (sequence format part whole
       payload = payload;
     }
 numbers_are code tag sequence format part whole payload =
-    ap (λ os. made code tag payload (os ++ (option_with content_format (option_map uint format) ++ (option_with block2 (option_map uint part)
-    ++ option_with block1 (option_map uint whole))))) (number_option observe sequence)
+    ap (λ os. made code tag payload (os ++ (option_with content_format (option_map uint format)
+    ++ (option_with block2 (option_map uint part) ++ option_with block1 (option_map uint whole)))))
+    (number_option observe sequence)
     ∙ ap (λ os. made code tag payload (uint_option observe sequence ++ (os ++ (option_with block2 (option_map uint part)
     ++ option_with block1 (option_map uint whole))))) (number_option content_format format)
     ∙ ap (λ os. made code tag payload (uint_option observe sequence ++ (uint_option content_format format ++ (os
     ++ option_with block1 (option_map uint whole))))) (number_option block2 part)
-    ∙ ap (λ os. made code tag payload (uint_option observe sequence ++ (uint_option content_format format ++ (uint_option block2 part ++ os))))
-    (number_option block1 whole)
+    ∙ ap (λ os. made code tag payload (uint_option observe sequence ++ (uint_option content_format format
+    ++ (uint_option block2 part ++ os)))) (number_option block1 whole)
 
 pub response_is : (code : ℕ) (tag : Option (List ℕ)) (sequence format part whole : Option ℕ) (payload : List ℕ)
     (s f p w : Option (List ℕ)) → s ≡ option_map uint sequence → f ≡ option_map uint format → p ≡ option_map uint part
@@ -48,5 +50,6 @@ response_is code tag sequence format part whole payload s f p w s_is f_is p_is w
     ap (λ x. response_as code tag x f p w payload) s_is
     ∙ ap (λ x. response_as code tag (option_map uint sequence) x p w payload) f_is
     ∙ ap (λ x. response_as code tag (option_map uint sequence) (option_map uint format) x w payload) p_is
-    ∙ ap (λ x. response_as code tag (option_map uint sequence) (option_map uint format) (option_map uint part) x payload) w_is
+    ∙ ap (λ x. response_as code tag (option_map uint sequence) (option_map uint format) (option_map uint part) x
+    payload) w_is
     ∙ numbers_are code tag sequence format part whole payload

@@ -1,19 +1,20 @@
 //! What the server's own side does with its resources.
-ghost use Rattle.std.specs.Prelude.{◌≡◌, ◌≢◌, ◌⊎◌, ◌+◌, ℕ, pos, length, option_copied, Some, IfSome, IfNone};
+ghost use Rattle.std.specs.Prelude.{◌≡◌, ◌≢◌, ◌⊎◌, ◌+◌, ℕ, pos, Some, IfSome, IfNone};
 ghost use Rattle.coap_resource.specs.Content.{refusal_number};
 ghost use Rattle.coap_resource.specs.Entries.{content_of};
 ghost use Rattle.coap_resource.specs.declared.refusal.StoreRefusal.TheVariants.{Memory};
 ghost use Rattle.coap_server.specs.Object.Shown.{state_of};
 ghost use Rattle.coap_paths.specs.PathTexts.{spelled};
+ghost use Rattle.coap_journal.specs.Input.{Delay, Remove, Set};
 ghost use Rattle.knifesilver.specs.Answers.{IsAnswered, IsRefused, IsUsual};
 ghost use Rattle.knifesilver.specs.Formats.{format_in};
 ghost use Rattle.knifesilver.specs.declared.held.Held.TheVariants.{Server};
 ghost use Rattle.knifesilver.specs.PathRefusals.{RefusesPath};
-ghost use Rattle.knifesilver.specs.ServerCalls.{HoldsThat, IsDelay, IsGot, IsRemove, IsSet, IsTooLong, Updates};
-ghost use Rattle.knifesilver.specs.ServerHeld.{HoldsServer, HoldsServerIn, IsServer, IsServerIn, Made};
+ghost use Rattle.knifesilver.specs.ServerCalls.{HoldsThat, IsDelay, IsRemove, IsSet, RemoveAnswers, Updates};
+ghost use Rattle.knifesilver.specs.ServerHeld.{HoldsServer, IsNoted, IsServer, Made};
 
-use crate::answers::{BAD_PATH, DONE, NO_MEMORY, NOT_LIVE, NOTHING, SMALL_ROOM};
-use crate::crossing::{copy_out, format_number, format_of};
+use crate::answers::{BAD_PATH, DONE, NO_MEMORY, NOT_LIVE, NOTHING};
+use crate::crossing::format_of;
 use crate::handle::KsHandle;
 use crate::held::{Held, OurServer};
 use crate::numbers::{DELAY_FULL, set_number};
@@ -48,6 +49,8 @@ fn set(
 ) -> i32
     ensures led { IsAnswered result
         → Made (IsSet now path.now format body.now (pos 0) result version.new) (Some held.old) (Some held.new) }
+    ensures noted { IsAnswered result
+        → IsNoted (Set now path.now format body.now) now (Some held.old) (Some held.new) }
     ensures kept { IsRefused result → held.new ≡ held.old }
     ensures live { IsServer held.old → result ≢ NOT_LIVE }
     ensures path { result ≢ BAD_PATH }
@@ -80,6 +83,9 @@ pub extern "C" fn ks_server_set(
     ensures led { IsAnswered result
         → Made (IsSet now (spelled path.now) (format_in format) body.now (pos 0) result version.new) handle.old.held
         handle.new.held }
+    // To set a value that is answered is noted, where notes are kept.
+    ensures noted { IsAnswered result
+        → IsNoted (Set now (spelled path.now) (format_in format) body.now) now handle.old.held handle.new.held }
     // To set a value that is refused leaves the very server in the handle.
     ensures kept { IsRefused result → handle.new.held ≡ handle.old.held }
     // To set a value is refused for its path exactly where the text spells none.
@@ -103,10 +109,12 @@ pub extern "C" fn ks_server_set(
 
 // The version of what the path holds, where that is this body in this format.
 fn version_of(server: &OurServer, path: &Path, format: Option<u16>, body: &[u8]) -> Option<u64>
-    ensures same { IfSome result (λ version. HoldsThat path.now format body.now version (state_of content_of server.now)) }
-    ensures other { IfNone result ((n : ℕ) → HoldsThat path.now format body.now n (state_of content_of server.now) → ⊥) }
+    ensures same { IfSome result (λ version. HoldsThat path.now format body.now version
+        (state_of content_of server.now.server)) }
+    ensures other { IfNone result ((n : ℕ) → HoldsThat path.now format body.now n
+        (state_of content_of server.now.server) → ⊥) }
 {
-    let representation = server.get(path)?;
+    let representation = server.server.get(path)?;
     if representation.format == format && *representation.body.as_slice() == *body {
         Some(representation.version)
     } else {
@@ -125,6 +133,8 @@ fn replace(
 ) -> i32
     ensures led { IsAnswered result → Made (IsSet now path.now format body.now (pos 1) result version.new)
         (Some (Server server.old)) (Some (Server server.new)) }
+    ensures noted { IsAnswered result
+        → IsNoted (Set now path.now format body.now) now (Some (Server server.old)) (Some (Server server.new)) }
     ensures kept { IsRefused result → server.new ≡ server.old }
     ensures live { result ≢ NOT_LIVE }
     ensures path { result ≢ BAD_PATH }
@@ -203,9 +213,24 @@ pub extern "C" fn ks_server_update(
     answer
 }
 
+// What a removal answers.
+fn removed(done: Result<bool, StoreRefusal>) -> i32
+    ensures told { RemoveAnswers result done }
+    ensures answered { IsRefused result → ⊥ }
+    ensures live { result ≢ NOT_LIVE }
+    ensures path { result ≢ BAD_PATH }
+{
+    match done {
+        Ok(true) => DONE,
+        Ok(false) => NOTHING,
+        Err(why) => set_number(why),
+    }
+}
+
 // Takes away what the path holds.
 fn remove(held: &mut Held, now: u64, path: &Path) -> i32
     ensures led { IsAnswered result → Made (IsRemove now path.now result) (Some held.old) (Some held.new) }
+    ensures noted { IsAnswered result → IsNoted (Remove now path.now) now (Some held.old) (Some held.new) }
     ensures kept { IsRefused result → held.new ≡ held.old }
     ensures live { IsServer held.old → result ≢ NOT_LIVE }
     ensures path { result ≢ BAD_PATH }
@@ -213,9 +238,8 @@ fn remove(held: &mut Held, now: u64, path: &Path) -> i32
 {
     match held {
         Held::Server(server) => match server.remove(Moment(now), path) {
-            Ok(true) => DONE,
-            Ok(false) => NOTHING,
-            Err(why) => set_number(why),
+            Ok(done) => removed(done),
+            Err(_) => NO_MEMORY,
         },
         Held::Client(_) => NOT_LIVE,
     }
@@ -232,6 +256,9 @@ pub extern "C" fn ks_server_remove(
     // A removal that is answered makes just that call of the server in the handle, and says whether the path held something.
     ensures led { IsAnswered result
         → Made (IsRemove now (spelled path.now) result) handle.old.held handle.new.held }
+    // A removal that is answered is noted, where notes are kept.
+    ensures noted { IsAnswered result
+        → IsNoted (Remove now (spelled path.now)) now handle.old.held handle.new.held }
     // A removal that is refused leaves the very server in the handle.
     ensures kept { IsRefused result → handle.new.held ≡ handle.old.held }
     // A removal is refused for its path exactly where the text spells none.
@@ -253,95 +280,10 @@ pub extern "C" fn ks_server_remove(
     answer
 }
 
-/// C's `ks_representation`: what a path holds, beside its body.
-#[repr(C)]
-#[derive(Clone, Copy)]
-pub struct KsRepresentation {
-    /// The number of the change that made it.
-    pub version: u64,
-    /// How many bytes the body has.
-    pub body_len: usize,
-    /// The format, or -1.
-    pub format: i32,
-}
-
-// What the path holds.
-fn get_from(server: &OurServer, path: &Path, shown: &mut KsRepresentation, room: &mut [u8]) -> i32
-    ensures got { IsAnswered result → IsGot path.now result shown.new room.new (state_of content_of server.now) }
-    ensures long { result ≡ SMALL_ROOM
-        → IsTooLong path.now shown.new (length room.old) (state_of content_of server.now) }
-    ensures live { result ≢ NOT_LIVE }
-    ensures path { result ≢ BAD_PATH }
-    ensures why { IsRefused result → result ≡ SMALL_ROOM }
-{
-    let Some(representation) = server.get(path) else {
-        return NOTHING;
-    };
-    *shown = KsRepresentation {
-        version: representation.version,
-        body_len: representation.body.len(),
-        format: format_number(representation.format),
-    };
-    if copy_out(room, representation.body.as_slice()) {
-        DONE
-    } else {
-        SMALL_ROOM
-    }
-}
-
-// What the path holds.
-fn get(held: &Held, path: &Path, shown: &mut KsRepresentation, room: &mut [u8]) -> i32
-    ensures got { IsAnswered result → IsServerIn (IsGot path.now result shown.new room.new) held.now }
-    ensures long { result ≡ SMALL_ROOM → IsServerIn (IsTooLong path.now shown.new (length room.old)) held.now }
-    ensures live { IsServer held.now → result ≢ NOT_LIVE }
-    ensures path { result ≢ BAD_PATH }
-    ensures why { IsRefused result → (result ≡ SMALL_ROOM) ⊎ IsUsual result }
-{
-    match held {
-        Held::Server(server) => get_from(server, path, shown, room),
-        Held::Client(_) => NOT_LIVE,
-    }
-}
-/// What the path holds: 1, or 0 where it holds nothing.
-#[unsafe(no_mangle)]
-pub extern "C" fn ks_server_get(
-    alloc: Global,
-    handle: &mut KsHandle,
-    path: &[u8],
-    shown: &mut KsRepresentation,
-    room: &mut [u8],
-) -> i32
-    // What is shown is what the path holds at the server in the handle.
-    ensures got { IsAnswered result
-        → HoldsServerIn (IsGot (spelled path.now) result shown.new room.new) handle.old.held }
-    // A body that is longer than the room is not shown, and its length is.
-    ensures long { result ≡ SMALL_ROOM
-        → HoldsServerIn (IsTooLong (spelled path.now) shown.new (length room.old)) handle.old.held }
-    // To ask for a value leaves the very server in the handle.
-    ensures kept { handle.new.held ≡ handle.old.held }
-    // To ask for a value is refused for its path exactly where the text spells none.
-    ensures refused { RefusesPath path.now result }
-    // To ask for a value is refused for its path, for a body longer than the room, for want of memory or of a server in the
-    // handle, and for nothing else.
-    ensures why { IsRefused result → (result ≡ BAD_PATH) ⊎ (result ≡ SMALL_ROOM) ⊎ IsUsual result }
-    // `get` never says of a handle with a server that it holds none.
-    ensures live { HoldsServer handle.old.held → result ≢ NOT_LIVE }
-{
-    let path = match path_of(alloc, path) {
-        Ok(path) => path,
-        Err(answer) => return answer,
-    };
-    let Some(held) = handle.take(alloc) else {
-        return NOT_LIVE;
-    };
-    let answer = get(held.as_ref(), &path, shown, room);
-    handle.put(held);
-    answer
-}
-
 // Gives the path a delay.
 fn set_delay(held: &mut Held, path: &Path, ms: u64) -> i32
     ensures led { IsAnswered result → Made (IsDelay path.now ms result) (Some held.old) (Some held.new) }
+    ensures noted { IsAnswered result → IsNoted (Delay path.now ms) 0 (Some held.old) (Some held.new) }
     ensures kept { IsRefused result → held.new ≡ held.old }
     ensures live { IsServer held.old → result ≢ NOT_LIVE }
     ensures path { result ≢ BAD_PATH }
@@ -368,6 +310,9 @@ pub extern "C" fn ks_server_set_delay(
     // To delay a path that is answered makes just that call of the server in the handle.
     ensures led { IsAnswered result
         → Made (IsDelay (spelled path.now) ms result) handle.old.held handle.new.held }
+    // To delay a path that is answered is noted, where notes are kept.
+    ensures noted { IsAnswered result
+        → IsNoted (Delay (spelled path.now) ms) 0 handle.old.held handle.new.held }
     // A delay that is refused leaves the very server in the handle.
     ensures kept { IsRefused result → handle.new.held ≡ handle.old.held }
     // To delay a path is refused for its path exactly where the text spells none.

@@ -4,20 +4,21 @@ ghost use Rattle.coap_resource.specs.Base.{IsBase, base_of_word};
 ghost use Rattle.knifesilver.specs.Answers.{IsAnswered, IsRefused};
 ghost use Rattle.knifesilver.specs.Configs.{SaysWrongOfServer, ServesWith, chosen};
 ghost use Rattle.knifesilver.specs.Fresh.{IsFreshServer};
+ghost use Rattle.knifesilver.specs.ServerHeld.{notes_in};
 ghost use Rattle.knifesilver.specs.declared.held.Held.TheVariants.{Server as ServerHeld};
 
 use crate::answers::{BAD_BASE, BAD_CHANGES, NO_MEMORY, NOTHING};
 use crate::config::{KsConfig, choice_of};
 use crate::handle::KsHandle;
-use crate::held::{Held, OurServer};
+use crate::held::{Held, MapServer, OurServer};
 use crate::seed::{KsSeed, hash_of};
-use coap_ends::Server;
 use coap_layer::Setup;
+use coap_noted::Noted;
 use coap_resource::{MAX_CHANGES_PER_WINDOW, MapStore, Store, VersionBase};
 use std::alloc::Global;
 
-// How many changes a window takes.
-fn changes_of(changes: u32) -> u32
+/// How many changes a window takes.
+pub(crate) fn changes_of(changes: u32) -> u32
     ensures { result ≡ chosen MAX_CHANGES_PER_WINDOW changes }
 {
     if changes == 0 {
@@ -30,6 +31,7 @@ fn changes_of(changes: u32) -> u32
 // A server that holds nothing, or what is wrong with its configuration.
 fn fresh_server(alloc: Global, config: &KsConfig, seed: &KsSeed) -> Result<OurServer, i32>
     ensures made { IfOk result (λ server. IsFreshServer config.now seed.now.word (Some (ServerHeld server))) }
+    ensures bare { IfOk result (λ server. server.notes ≡ None) }
     ensures taken { OnOk result (ServesWith config.now) }
     ensures refused { IfErr result IsRefused }
     ensures why { IfErr result (SaysWrongOfServer config.now) }
@@ -50,7 +52,11 @@ fn fresh_server(alloc: Global, config: &KsConfig, seed: &KsSeed) -> Result<OurSe
         word: seed.word,
         remembered: choice.remembered,
     };
-    Ok(Server::with_setup(alloc, store, choice.szx, setup, hash_of(seed)))
+    let server = MapServer::with_setup(alloc, store, choice.szx, setup, hash_of(seed));
+    Ok(Noted {
+        server,
+        notes: None,
+    })
 }
 
 /// The base that 39 bits of a random word choose.
@@ -74,6 +80,8 @@ pub extern "C" fn ks_server_new(
 ) -> i32
     // A server that is made is one that begins, with the numbers of its configuration and its seed.
     ensures made { IsAnswered result → (result ≡ pos 0) × IsFreshServer config.now seed.now.word handle.new.held }
+    // A server that is made so keeps no notes.
+    ensures bare { IsAnswered result → notes_in handle.new.held ≡ None }
     // A server is made only with a configuration that can be taken.
     ensures taken { IsAnswered result → ServesWith config.now }
     // Where no server is made, the handle holds what it held.

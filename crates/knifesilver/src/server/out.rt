@@ -3,13 +3,15 @@ ghost use Rattle.std.specs.Prelude.{◌≡◌, ◌≢◌, ◌<◌, ◌⊎◌, �
 ghost use Rattle.coap_server.specs.Object.Shown.{applied_as};
 ghost use Rattle.knifesilver.specs.Answers.{IsAnswered, IsRefused};
 ghost use Rattle.knifesilver.specs.Applied.{AppliedAnswers, IsLongPath};
-ghost use Rattle.knifesilver.specs.ServerCalls.{IsApplied, IsAppliedLong, IsNextOut};
-ghost use Rattle.knifesilver.specs.ServerHeld.{HoldsServer, IsServer, Made};
+ghost use Rattle.knifesilver.specs.declared.held.Held.TheVariants.{Server as ServerHeld};
+ghost use Rattle.coap_noted.specs.Notes.{IsUntold, given_with};
+ghost use Rattle.knifesilver.specs.ServerCalls.{IsApplied, IsAppliedLong, IsNextOut, is_given};
+ghost use Rattle.knifesilver.specs.ServerHeld.{HoldsServer, IsServer, Made, notes_in};
 
-use crate::answers::{DONE, NOT_LIVE, NOTHING, SMALL_ROOM};
+use crate::answers::{DONE, NOT_LIVE, NOTHING, SMALL_ROOM, UNTOLD};
 use crate::crossing::{KsAddress, address, token_of};
 use crate::handle::KsHandle;
-use crate::held::Held;
+use crate::held::{Held, OurServer};
 use crate::outgoing::give;
 use coap_ends::Applied;
 use coap_paths::put_path;
@@ -17,22 +19,41 @@ use coap_types::limits::MAX_MESSAGE_LEN;
 use std::alloc::Global;
 
 // Takes the datagram that is to be sent next.
+fn next_of(server: &mut OurServer, to: &mut KsAddress, room: &mut [u8], len: &mut usize) -> i32
+    ensures led { IsAnswered result → Made (IsNextOut result to.new room.new len.new)
+        (Some (ServerHeld server.old)) (Some (ServerHeld server.new)) }
+    ensures kept { IsRefused result → server.new ≡ server.old }
+    ensures live { result ≢ NOT_LIVE }
+    ensures small { result ≡ SMALL_ROOM → length room.old < MAX_MESSAGE_LEN }
+    ensures counted { IsAnswered result → server.new.notes ≡ given_with (is_given result) server.old.notes }
+    ensures waits { IsUntold server.old.notes → IsRefused result }
+    ensures untold { result ≡ UNTOLD → IsUntold server.old.notes }
+    ensures why { IsRefused result → (result ≡ SMALL_ROOM) ⊎ (result ≡ UNTOLD) }
+{
+    if room.len() < MAX_MESSAGE_LEN {
+        return SMALL_ROOM;
+    }
+    match server.next_out() {
+        Ok(next) => give(next, to, room, len),
+        Err(_untold) => UNTOLD,
+    }
+}
+
+// .. of what is held.
 fn next_out(held: &mut Held, to: &mut KsAddress, room: &mut [u8], len: &mut usize) -> i32
     ensures led { IsAnswered result
         → Made (IsNextOut result to.new room.new len.new) (Some held.old) (Some held.new) }
     ensures kept { IsRefused result → held.new ≡ held.old }
     ensures live { IsServer held.old → result ≢ NOT_LIVE }
     ensures small { result ≡ SMALL_ROOM → length room.old < MAX_MESSAGE_LEN }
-    ensures why { IsRefused result → (result ≡ SMALL_ROOM) ⊎ (result ≡ NOT_LIVE) }
+    ensures counted { IsAnswered result
+        → notes_in (Some held.new) ≡ given_with (is_given result) (notes_in (Some held.old)) }
+    ensures waits { IsUntold (notes_in (Some held.old)) → IsRefused result }
+    ensures untold { result ≡ UNTOLD → IsUntold (notes_in (Some held.old)) }
+    ensures why { IsRefused result → (result ≡ SMALL_ROOM) ⊎ (result ≡ NOT_LIVE) ⊎ (result ≡ UNTOLD) }
 {
     match held {
-        Held::Server(server) => {
-            if room.len() < MAX_MESSAGE_LEN {
-                SMALL_ROOM
-            } else {
-                give(server.next_out(), to, room, len)
-            }
-        }
+        Held::Server(server) => next_of(server, to, room, len),
         Held::Client(_) => NOT_LIVE,
     }
 }
@@ -53,9 +74,16 @@ pub extern "C" fn ks_server_next_out(
     ensures kept { IsRefused result → handle.new.held ≡ handle.old.held }
     // `next_out` never says of a handle with a server that it holds none.
     ensures live { HoldsServer handle.old.held → result ≢ NOT_LIVE }
-    // To take a datagram of a server is refused for a room that is too small or for want of a server in the handle,
-    // and for nothing else.
-    ensures why { IsRefused result → (result ≡ SMALL_ROOM) ⊎ (result ≡ NOT_LIVE) }
+    // To take a datagram of a server is refused for a room that is too small, for want of a server in the handle, or
+    // for what was taken and isn't handed out yet, and for nothing else.
+    ensures why { IsRefused result → (result ≡ SMALL_ROOM) ⊎ (result ≡ NOT_LIVE) ⊎ (result ≡ UNTOLD) }
+    // A datagram that is given out is counted, where notes are kept.
+    ensures counted { IsAnswered result
+        → notes_in handle.new.held ≡ given_with (is_given result) (notes_in handle.old.held) }
+    // No datagram is given out before what was taken is handed out, where notes are kept.
+    ensures waits { IsUntold (notes_in handle.old.held) → IsRefused result }
+    // .. for which it is refused there alone.
+    ensures untold { result ≡ UNTOLD → IsUntold (notes_in handle.old.held) }
     // A room for a datagram of a server is too small only where it has under 1,152 bytes.
     ensures small { result ≡ SMALL_ROOM → length room.old < MAX_MESSAGE_LEN }
 {
@@ -118,7 +146,7 @@ fn applied(held: &Held, told: &mut KsApplied, room: &mut [u8]) -> i32
     ensures why { IsRefused result → (result ≡ SMALL_ROOM) ⊎ (result ≡ NOT_LIVE) }
 {
     match held {
-        Held::Server(server) => match server.applied() {
+        Held::Server(server) => match server.server.applied() {
             Some(applied) => tell(applied, told, room),
             None => NOTHING,
         },

@@ -1,10 +1,11 @@
 //! Which paths are notified in Non-confirmable messages (RFC 7641, section 4.5).
 ghost use Rattle.std.specs.Prelude.{◌≡◌, ◌≢◌, ◌⊎◌, Some};
 ghost use Rattle.coap_paths.specs.PathTexts.{spelled};
+ghost use Rattle.coap_journal.specs.Input.{Plain};
 ghost use Rattle.knifesilver.specs.Answers.{IsAnswered, IsRefused, IsUsual};
 ghost use Rattle.knifesilver.specs.PathRefusals.{RefusesPath};
 ghost use Rattle.knifesilver.specs.ServerCalls.{IsPlain};
-ghost use Rattle.knifesilver.specs.ServerHeld.{HoldsServer, IsServer, Made};
+ghost use Rattle.knifesilver.specs.ServerHeld.{HoldsServer, IsNoted, IsServer, Made};
 
 use crate::answers::{BAD_PATH, NO_MEMORY, NOT_LIVE, NOTHING};
 use crate::handle::KsHandle;
@@ -18,6 +19,7 @@ use std::alloc::Global;
 // Makes the path plain.
 fn set_plain(held: &mut Held, path: &Path) -> i32
     ensures led { IsAnswered result → Made (IsPlain path.now result) (Some held.old) (Some held.new) }
+    ensures noted { IsAnswered result → IsNoted (Plain path.now) 0 (Some held.old) (Some held.new) }
     ensures kept { IsRefused result → held.new ≡ held.old }
     ensures live { IsServer held.old → result ≢ NOT_LIVE }
     ensures path { result ≢ BAD_PATH }
@@ -39,6 +41,8 @@ fn set_plain(held: &mut Held, path: &Path) -> i32
 pub extern "C" fn ks_server_set_plain(alloc: Global, handle: &mut KsHandle, path: &[u8]) -> i32
     // To make a path plain that is answered makes just that call of the server in the handle.
     ensures led { IsAnswered result → Made (IsPlain (spelled path.now) result) handle.old.held handle.new.held }
+    // To make a path plain that is answered is noted, where notes are kept.
+    ensures noted { IsAnswered result → IsNoted (Plain (spelled path.now)) 0 handle.old.held handle.new.held }
     // A path that isn't made plain leaves the very server in the handle.
     ensures kept { IsRefused result → handle.new.held ≡ handle.old.held }
     // To make a path plain is refused for that path exactly where the text spells none.

@@ -1,9 +1,10 @@
 //! A request that a server is to refuse.
 ghost use Rattle.std.specs.Prelude.{◌≡◌, ◌≢◌, true, slice_set, IfOk};
+ghost use Rattle.coap_journal.specs.Input.{Feed};
 ghost use Rattle.knifesilver.specs.Answers.{IsAnswered, IsRefused, IsUsual};
 ghost use Rattle.knifesilver.specs.Refusing.{is_asking, refused};
 ghost use Rattle.knifesilver.specs.ServerCalls.{IsFeed};
-ghost use Rattle.knifesilver.specs.ServerHeld.{HoldsServer, Made};
+ghost use Rattle.knifesilver.specs.ServerHeld.{HoldsServer, IsNoted, Made};
 
 use crate::answers::{NO_MEMORY, NOT_LIVE};
 use crate::crossing::KsAddress;
@@ -53,6 +54,10 @@ pub extern "C" fn ks_server_refuse(
     // code where that is the code of a request.
     ensures led { IsAnswered result
         → Made (IsFeed now (record { ip = from.now.ip; port = from.now.port }) (refused datagram.now) word)
+        handle.old.held handle.new.held }
+    // A refusal that is answered is noted as the feed that it is, where notes are kept.
+    ensures noted { IsAnswered result
+        → IsNoted (Feed now (record { ip = from.now.ip; port = from.now.port }) (refused datagram.now) word) now
         handle.old.held handle.new.held }
     // A refusal that was not made leaves the very server in the handle.
     ensures kept { IsRefused result → handle.new.held ≡ handle.old.held }

@@ -1,9 +1,10 @@
 //! What a server is handed: datagrams and moments.
-ghost use Rattle.std.specs.Prelude.{◌≡◌, ◌≢◌, Some};
+ghost use Rattle.std.specs.Prelude.{◌≡◌, ◌≢◌, None, Some};
+ghost use Rattle.coap_journal.specs.Input.{Feed};
 ghost use Rattle.knifesilver.specs.Answers.{IsAnswered, IsRefused, IsUsual};
 ghost use Rattle.knifesilver.specs.Quiet.{PassesOver, SendsNothing};
-ghost use Rattle.knifesilver.specs.ServerCalls.{IsDue, IsFeed, IsTick};
-ghost use Rattle.knifesilver.specs.ServerHeld.{HoldsServer, HoldsServerIn, IsServer, IsServerIn, Made};
+ghost use Rattle.knifesilver.specs.ServerCalls.{IsDue, IsFeed, Ticked};
+ghost use Rattle.knifesilver.specs.ServerHeld.{HoldsServer, HoldsServerIn, IsNoted, IsServer, IsServerIn, Made, notes_in};
 
 use crate::answers::{DONE, NO_MEMORY, NOT_LIVE, NOTHING};
 use crate::crossing::{KsAddress, endpoint};
@@ -15,10 +16,12 @@ use std::alloc::Global;
 // Takes a datagram that arrived.
 fn feed(held: &mut Held, now: u64, from: Endpoint, datagram: &[u8], word: u64) -> i32
     ensures led { IsAnswered result → Made (IsFeed now from datagram.now word) (Some held.old) (Some held.new) }
+    ensures noted { IsAnswered result → IsNoted (Feed now from datagram.now word) now (Some held.old) (Some held.new) }
     ensures kept { IsRefused result → held.new ≡ held.old }
     ensures live { IsServer held.old → result ≢ NOT_LIVE }
     ensures why { IsRefused result → IsUsual result }
-    ensures quiet { IsServerIn (PassesOver now from datagram.now) held.old → IsAnswered result }
+    ensures quiet { IsServerIn (PassesOver now from datagram.now) held.old → notes_in (Some held.old) ≡ None
+        → IsAnswered result }
 {
     match held {
         Held::Server(server) => match server.feed(Moment(now), from, datagram, word) {
@@ -43,15 +46,20 @@ pub extern "C" fn ks_server_feed(
     ensures led { IsAnswered result
         → Made (IsFeed now (record { ip = from.now.ip; port = from.now.port }) datagram.now word) handle.old.held
         handle.new.held }
+    // A feed that is answered is noted, where notes are kept, with its moment, its sender and its word.
+    ensures noted { IsAnswered result
+        → IsNoted (Feed now (record { ip = from.now.ip; port = from.now.port }) datagram.now word) now handle.old.held
+        handle.new.held }
     // A feed that is refused leaves the very server in the handle.
     ensures kept { IsRefused result → handle.new.held ≡ handle.old.held }
     // `feed` never says of a handle with a server that it holds none.
     ensures live { HoldsServer handle.old.held → result ≢ NOT_LIVE }
     // A feed of a server is refused for want of memory or of a server in the handle, and for nothing else.
     ensures why { IsRefused result → IsUsual result }
-    // A datagram for which the server's message layer sends nothing and hands nothing up is not refused.
+    // A datagram for which the server's message layer sends nothing and hands nothing up is not refused, where no notes are
+    // kept.
     ensures quiet { HoldsServerIn (PassesOver now (record { ip = from.now.ip; port = from.now.port }) datagram.now)
-        handle.old.held → IsAnswered result }
+        handle.old.held → notes_in handle.old.held ≡ None → IsAnswered result }
 {
     let Some(mut held) = handle.take(alloc) else {
         return NOT_LIVE;
@@ -63,11 +71,11 @@ pub extern "C" fn ks_server_feed(
 
 // Does one step that is due.
 fn tick(held: &mut Held, now: u64, word: u64) -> i32
-    ensures led { IsAnswered result → Made (IsTick now word result) (Some held.old) (Some held.new) }
+    ensures led { IsAnswered result → Ticked now word result (Some held.old) (Some held.new) }
     ensures kept { IsRefused result → held.new ≡ held.old }
     ensures live { IsServer held.old → result ≢ NOT_LIVE }
     ensures why { IsRefused result → IsUsual result }
-    ensures quiet { IsServerIn (SendsNothing now) held.old → IsAnswered result }
+    ensures quiet { IsServerIn (SendsNothing now) held.old → notes_in (Some held.old) ≡ None → IsAnswered result }
 {
     match held {
         Held::Server(server) => match server.tick(Moment(now), word) {
@@ -82,16 +90,18 @@ fn tick(held: &mut Held, now: u64, word: u64) -> i32
 /// Does one step that is due: 1, or 0 where none is.
 #[unsafe(no_mangle)]
 pub extern "C" fn ks_server_tick(alloc: Global, handle: &mut KsHandle, now: u64, word: u64) -> i32
-    // A tick that is answered makes just that call of the server in the handle, and says whether it did something.
-    ensures led { IsAnswered result → Made (IsTick now word result) handle.old.held handle.new.held }
+    // A tick that is answered makes just that call of the server in the handle, says whether it did something, and is
+    // noted, where notes are kept; where they are and none is due, it does nothing instead.
+    ensures led { IsAnswered result → Ticked now word result handle.old.held handle.new.held }
     // A tick that is refused leaves the very server in the handle.
     ensures kept { IsRefused result → handle.new.held ≡ handle.old.held }
     // `tick` never says of a handle with a server that it holds none.
     ensures live { HoldsServer handle.old.held → result ≢ NOT_LIVE }
     // A tick of a server is refused for want of memory or of a server in the handle, and for nothing else.
     ensures why { IsRefused result → IsUsual result }
-    // A tick with which a server sends nothing is not refused.
-    ensures quiet { HoldsServerIn (SendsNothing now) handle.old.held → IsAnswered result }
+    // A tick with which a server sends nothing is not refused, where no notes are kept.
+    ensures quiet { HoldsServerIn (SendsNothing now) handle.old.held → notes_in handle.old.held ≡ None
+        → IsAnswered result }
 {
     let Some(mut held) = handle.take(alloc) else {
         return NOT_LIVE;
@@ -108,7 +118,7 @@ fn due(held: &Held, at: &mut u64) -> i32
     ensures why { IsRefused result → result ≡ NOT_LIVE }
 {
     match held {
-        Held::Server(server) => match server.due() {
+        Held::Server(server) => match server.server.due() {
             Some(moment) => {
                 *at = moment.0;
                 DONE

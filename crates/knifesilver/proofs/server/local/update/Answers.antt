@@ -1,8 +1,9 @@
 use Rattle.std.proofs.Common.{ℕ, inr, pos, sym, subst, w32, Some}
 use Rattle.std.proofs.Math.Facts.{to_z-of_z}
+use Rattle.coap_journal.specs.Input.{Set}
 use Rattle.knifesilver.specs.Answers.{IsAnswered}
 use Rattle.knifesilver.specs.ServerCalls.{HoldsThat, IsSet}
-use Rattle.knifesilver.specs.ServerHeld.{IsServerIn, Made}
+use Rattle.knifesilver.specs.ServerHeld.{IsNoted, IsServerIn, Made}
 use Rattle.knifesilver.specs.declared.held.Held.TheVariants.{Server}
 use Rattle.knifesilver.proofs.server.local.update.Goals as goal
 
@@ -19,4 +20,6 @@ returns-in-None-clause-led c = λ answered.
           (subst (λ h. Made (IsSet given.now given.path.now given.format given.body.now (pos 1) set.result set.new.version)
           (Some h) (Some (Server set.new.server))) (sym c.in-Server.is)
           (set.ensures.led (subst IsAnswered same answered))),
+      subst (λ h. IsNoted (Set given.now given.path.now given.format given.body.now) given.now (Some h)
+          (Some (Server set.new.server))) (sym c.in-Server.is) (set.ensures.noted (subst IsAnswered same answered)),
     )

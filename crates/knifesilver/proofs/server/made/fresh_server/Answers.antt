@@ -22,8 +22,8 @@ returns-clause-made c =
       choice.szx,
       c.in-Ok.ensures.block,
       subst (λ n. Led limits choice.szx (record { word = c.args.seed.now.word; remembered = n }) []
-          (state_of content_of c.with_setup.result)) c.in-Ok.ensures.remembered
-          (c.with_setup.ensures.led _ (c.in-Some-new_after.ensures.empty
+          (state_of content_of c.with_setup-server.result)) c.in-Ok.ensures.remembered
+          (c.with_setup-server.ensures.led _ (c.in-Some-new_after.ensures.empty
           ∙ ap (λ n. nothing (record { changes = c.changes_of-changes.result; body = choice.limit; base = n }))
           c.in-Some.ensures.1
           ∙ ap (λ n. nothing (record { changes = n; body = choice.limit; base = base })) c.changes_of-changes.ensures

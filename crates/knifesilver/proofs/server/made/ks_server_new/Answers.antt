@@ -8,3 +8,8 @@ pub returns-in-Err-clause-taken : goal.returns-in-Err-clause-taken
 returns-in-Err-clause-taken c = λ answered.
     let same = to_z-of_z {w = w32} {z = c.in-Err.answer} (record { sfits = search rules }) in
     never_both c.in-Err.answer c.in-Err.ensures.refused (subst IsAnswered same answered)
+
+pub returns-in-Err-clause-bare : goal.returns-in-Err-clause-bare
+returns-in-Err-clause-bare c = λ answered.
+    let same = to_z-of_z {w = w32} {z = c.in-Err.answer} (record { sfits = search rules }) in
+    never_both c.in-Err.answer c.in-Err.ensures.refused (subst IsAnswered same answered)

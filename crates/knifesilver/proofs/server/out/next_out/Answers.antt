@@ -1,16 +1,15 @@
-use Rattle.std.proofs.Common.{refl, sym, subst, w32}
+use Rattle.std.proofs.Common.{subst, sym, w32, Some}
 use Rattle.std.proofs.Math.Facts.{to_z-of_z}
-use Rattle.coap_server.proofs.Facts.EachCall.{led_further}
-use Rattle.coap_server.specs.Led.{Led}
-use Rattle.knifesilver.specs.Outgoing.{OutAnswers}
-use Rattle.knifesilver.specs.ServerHeld.{IsServerIn}
+use Rattle.knifesilver.specs.Answers.{IsAnswered}
+use Rattle.knifesilver.specs.ServerCalls.{IsNextOut}
+use Rattle.knifesilver.specs.ServerHeld.{Made}
+use Rattle.knifesilver.specs.declared.held.Held.TheVariants.{Server}
 use Rattle.knifesilver.proofs.server.out.next_out.Goals as goal
 
-pub returns-else-room-lt-MAX_MESSAGE_LEN-clause-led : goal.returns-else-room-lt-MAX_MESSAGE_LEN-clause-led
-returns-else-room-lt-MAX_MESSAGE_LEN-clause-led c = λ _ limits szx setup t led.
-    let give = c.give in
-    let same = to_z-of_z {w = w32} {z = give.result} (record { sfits = give.type_inv }) in
-    let told = subst (λ n. OutAnswers n give.new.to give.new.room give.new.len c.next_out.result) (sym same) give.ensures.told in
-    let w = led_further limits szx setup t _ _ _ (subst (IsServerIn (Led limits szx setup t)) c.in-Server.is led)
-    c.next_out.ensures.step in
-    (_, (_, told, refl), w)
+pub returns-in-Server-clause-led : goal.returns-in-Server-clause-led
+returns-in-Server-clause-led c = λ answered.
+    let out = c.next_of in
+    let same = to_z-of_z {w = w32} {z = out.result} (record { sfits = out.type_inv }) in
+    subst (λ n. Made (IsNextOut n out.new.to out.new.room out.new.len) (Some c.args.held.now) (Some (Server out.new.server)))
+    (sym same) (subst (λ h. Made (IsNextOut out.result out.new.to out.new.room out.new.len) (Some h)
+    (Some (Server out.new.server))) (sym c.in-Server.is) (out.ensures.led (subst IsAnswered same answered)))
