@@ -6,7 +6,6 @@ mod downloads;
 pub(crate) mod fetches;
 mod flooding;
 mod limits;
-mod load;
 mod observations;
 mod refusals;
 mod uploads;

@@ -1,5 +1,0 @@
-//! Tests of `serve --journal`, by the public calls of `coap_commands`.
-#![tactic(auto)]
-
-#[cfg(test)]
-mod journals;
