@@ -1,20 +1,27 @@
 use Rattle.std.proofs.Common.{◌∙◌, ℕ, List, inl, inr, subst}
-use Rattle.coap_commands.specs.Kept.{AreWishes}
+use Rattle.coap_commands.specs.KeptWords.{AreWishesBy, said_beside}
 use Rattle.coap_commands.proofs.KeptCalls.{if_ok}
 use Rattle.coap_commands.proofs.keeping.keep_over.Goals as goal
 
 pub returns-in-Ok : goal.returns-in-Ok
 returns-in-Ok g c =
-    let wishes = c.keeping_of-keeping.result.wishes in
+    let keeping = c.keeping_of-keeping.result in
+    let inputs = c.as_slice.ensures.value ∙ c.in_ok-setup.ensures in
+    let said = c.keeping_of-keeping.ensures in
     if_ok c.go_on_kept.result
     (λ s gone. inr (
-      wishes,
-      subst (λ (inputs : List ℕ). AreWishes c.args.options.now c.args.journal inputs wishes)
-          (c.as_slice.ensures.value ∙ c.in_ok-setup.ensures) c.keeping_of-keeping.ensures,
+      keeping,
+      record {
+        wishes = ?;
+        drawn = ?;
+        setup = said.setup ∙ inputs;
+        renews = ?;
+      },
+      c.in-Ok.kept.silent,
       c.in-Ok.kept.first.0,
-      c.in-Ok.ensures.bytes,
+      c.in-Ok.ensures.kept.bytes,
       _,
-      c.in-Ok.ensures.alive,
+      c.in-Ok.ensures.kept.alive,
       gone,
     ))
     c.go_on_kept.ensures
