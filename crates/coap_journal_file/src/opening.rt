@@ -1,12 +1,11 @@
 //! The file of a journal is opened for this program alone.
 
-use std::fs;
 use std::fs::{File, OpenFile, OpenOptions, TryLockError};
-use std::io;
 use std::io::{ErrorKind, Read, Write};
 use std::os::unix::fs::OpenOptionsExt;
 use std::path::Path;
 use std::rt::Files;
+use std::{fs, io};
 use thiserror::Error;
 
 /// Who may read and write a journal that is made: its owner alone, since all bodies stand in it, and the seed.

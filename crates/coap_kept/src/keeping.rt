@@ -83,7 +83,17 @@ where
         return Ok(not_renewed(old));
     }
     let was = old.beginning;
-    let new = renew(rt, journal, keeping, was, &old.server, link, clock, told, second);
+    let new = renew(
+        rt,
+        journal,
+        keeping,
+        was,
+        &old.server,
+        link,
+        clock,
+        told,
+        second,
+    );
     put_away(old);
     new
 }
@@ -153,8 +163,16 @@ where
 {
     let mut told = told;
     let (mut journal, counts) = ready(rt, keeping)?;
-    let (server, first, silent) =
-        alive(rt, &mut journal, keeping, counts, link, clock, &mut told, hashers)?;
+    let (server, first, silent) = alive(
+        rt,
+        &mut journal,
+        keeping,
+        counts,
+        link,
+        clock,
+        &mut told,
+        hashers,
+    )?;
     let place = journal.bytes.len() as u64;
     let file = DiskFile::new(journal.file, syncs, told);
     let journaled = Journaled::new(rt.alloc(), server, file, place, first);

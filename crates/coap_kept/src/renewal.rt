@@ -145,7 +145,15 @@ fn renew_from<R: AllocGlobal + Files<File = File> + RandomSource, H: BuildHasher
     let paths = held_paths(alloc, journal.bytes.as_slice(), old)?;
     let bytes = renewed_bytes(rt, keeping, was, old, paths.as_slice())?;
     let new = revive(alloc, bytes.as_slice(), &keeping.wishes, hasher)?;
-    match put_in_place(rt, keeping.name, journal, bytes, old, &new.server, paths.as_slice()) {
+    match put_in_place(
+        rt,
+        keeping.name,
+        journal,
+        bytes,
+        old,
+        &new.server,
+        paths.as_slice(),
+    ) {
         Ok(()) => Ok(new),
         Err(why) => {
             put_away(new);
@@ -178,7 +186,10 @@ where
     ensures long { IfOk result (λ new. RENEWAL_SILENCE_MS ≤ new.silent) }
 {
     let name = keeping.name;
-    let _ = writeln!(told, "{name}: silent for {RENEWAL_SILENCE_MS} ms, then begun anew");
+    let _ = writeln!(
+        told,
+        "{name}: silent for {RENEWAL_SILENCE_MS} ms, then begun anew"
+    );
     let silent = be_silent(link, clock, RENEWAL_SILENCE_MS)?;
     let revived = renew_from(rt, journal, keeping, was, old, hasher)?;
     Ok(Renewed { revived, silent })

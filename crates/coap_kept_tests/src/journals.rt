@@ -42,7 +42,13 @@ fn check_said<R: Abort + AllocGlobal + Files<File = File> + Net + Clock + Random
 #[test]
 fn a_server_goes_on_from_its_journal(rt: HostRuntime) -> Result<(), AllocError> {
     check_said(&rt, "gone_on.journal", &["--remember", "512"], 0, "begun")?;
-    check_said(&rt, "gone_on.journal", &[], 0, "3 frames, 1 turns, 0 inputs replayed")?;
+    check_said(
+        &rt,
+        "gone_on.journal",
+        &[],
+        0,
+        "3 frames, 1 turns, 0 inputs replayed",
+    )?;
     check_said(
         &rt,
         "gone_on.journal",
@@ -73,7 +79,13 @@ fn what_words_say_otherwise_is_refused_by_name(rt: HostRuntime) -> Result<(), Al
     let said = "was begun with another --limit 100; nothing was changed\nfailed";
     let anew = &["--limit", "200", "--renew"];
     check_said(&rt, "other_words.journal", anew, 3, said)?;
-    check_said(&rt, "other_words.journal", begun, 0, "3 frames, 1 turns, 1 inputs replayed")
+    check_said(
+        &rt,
+        "other_words.journal",
+        begun,
+        0,
+        "3 frames, 1 turns, 1 inputs replayed",
+    )
 }
 
 #[test]
@@ -114,7 +126,8 @@ fn nothing_is_begun_anew_without_a_journal(rt: HostRuntime) -> Result<(), AllocE
     let mut out = Vec::new(rt.alloc());
     let mut err = Vec::new(rt.alloc());
     let ended = command(&rt, words.as_slice(), &mut out, &mut err);
-    let said = "error: unexpected argument '--renew' found\n\n  tip: serve takes --renew where it takes --journal\n";
+    let said =
+        "error: unexpected argument '--renew' found\n\n  tip: serve takes --renew where it takes --journal\n";
     assert_eq!(rt; err.as_slice(), said.as_bytes());
     assert_eq!(rt; ended, 2);
     Ok(())

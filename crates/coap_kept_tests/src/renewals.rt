@@ -9,14 +9,13 @@ use coap_resource::{MAX_CHANGES_PER_WINDOW, MapStore};
 use coap_types::{BodyLimit, Endpoint, Moment, Path, Remembered, Szx};
 use std::alloc::{AllocError, AllocGlobal, Global};
 use std::cell::RefCell;
-use std::fs;
 use std::fs::File;
 use std::hash::{BuildHasherDefault, FoldHasher};
-use std::io;
 use std::process::Abort;
 use std::random::RandomSource;
 use std::rt::Files;
 use std::test::*;
+use std::{fs, io};
 
 const OWN: Endpoint = Endpoint {
     ip: [127, 0, 0, 1],
