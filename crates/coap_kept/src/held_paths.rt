@@ -170,8 +170,8 @@ pub(crate) fn hold_the_same<H: BuildHasher + Drop>(
     ensures { result ≡ true
         → HoldsTheSame (state_of content_of old.now) (state_of content_of new.now) }
 {
-    are_distinct(paths)
-        && all_hold_alike(old, new, paths)
-        && held_count(old) == paths.len()
-        && held_count(new) == paths.len()
+    if !are_distinct(paths) || !all_hold_alike(old, new, paths) {
+        return false;
+    }
+    held_count(old) == paths.len() && held_count(new) == paths.len()
 }

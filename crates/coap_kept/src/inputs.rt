@@ -78,7 +78,8 @@ fn first_input(alloc: Global, bytes: &[u8]) -> Result<Option<(Handed<'_>, &[u8])
         [FEED, rest @ ..] => Ok(feed_in(rest)),
         [TICK, rest @ ..] => Ok(tick_in(rest)),
         [SET, rest @ ..] => set_in(alloc, rest),
-        [REMOVE | DELAY, rest @ ..] => numbered_in(alloc, rest),
+        [REMOVE, rest @ ..] => numbered_in(alloc, rest),
+        [DELAY, rest @ ..] => numbered_in(alloc, rest),
         [PLAIN, rest @ ..] => plain_in(alloc, rest),
         _ => Ok(None),
     }

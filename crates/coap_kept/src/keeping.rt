@@ -56,7 +56,7 @@ fn not_renewed<H: BuildHasher + Drop>(revived: Revived<H>) -> Renewed<H>
 }
 
 // The server of a journal, which is replayed, and begun anew where the words say so.
-fn made<R, L, T, W, H>(
+fn replayed_or_renewed<R, L, T, W, H>(
     rt: &R,
     journal: &mut OpenJournal,
     keeping: &Keeping<'_>,
@@ -118,7 +118,7 @@ where
     ensures alive { IfOk result (λ a. IsAlive keeping.now a.2 a.1.0 journal.new.bytes.items (state_of content_of a.0)) }
     ensures silent { IfOk result (λ a. IsSilent L.receives link.old link.new) }
 {
-    let made = made(rt, journal, keeping, counts, link, clock, told, hashers)?;
+    let made = replayed_or_renewed(rt, journal, keeping, counts, link, clock, told, hashers)?;
     let Renewed { revived, silent } = made;
     match wake(rt, journal, revived.replayed, link, clock, told) {
         Ok((first, boot)) => {
@@ -162,7 +162,8 @@ where
     ensures silent { IfOk result (λ kept. IsSilent L.receives link.old link.new) }
 {
     let mut told = told;
-    let (mut journal, counts) = ready(rt, keeping)?;
+    let (journal, counts) = ready(rt, keeping)?;
+    let mut journal = journal;
     let (server, first, silent) = alive(
         rt,
         &mut journal,
