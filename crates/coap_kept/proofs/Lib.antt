@@ -1,3 +1,3 @@
 pub mod Facts
 pub mod GoingOn
-mod Silences
+mod SilentOn

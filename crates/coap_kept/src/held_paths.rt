@@ -39,7 +39,8 @@ fn add_held<H: BuildHasher + Drop>(
     if server.get(&path).is_none() || has_path(paths, &path) {
         return Ok(());
     }
-    paths.push(path)
+    paths.push(path)?;
+    Ok(())
 }
 
 // The path that a datagram asks for (RFC 7252, section 5.10.1), where it can be one.

@@ -1,4 +1,4 @@
-use Rattle.coap_kept.proofs.Silences.{silent_on, still}
+use Rattle.coap_kept.proofs.SilentOn.{silent_on, still}
 use Rattle.coap_kept.proofs.silence.be_silent.Goals as goal
 
 pub loop-turn-init : goal.loop-turn-init

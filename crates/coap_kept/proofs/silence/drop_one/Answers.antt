@@ -1,4 +1,4 @@
-use Rattle.coap_kept.proofs.Silences.{received_one}
+use Rattle.coap_kept.proofs.SilentOn.{received_one}
 use Rattle.coap_kept.proofs.silence.drop_one.Goals as goal
 
 pub returns : goal.returns
