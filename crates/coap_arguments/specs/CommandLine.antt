@@ -58,11 +58,12 @@ abbrev pub asking : List Rule → List Rule
 asking rest = required_word (codes "PORT|URI") ∷ optional_word (codes "PATH") ∷ rest
 
 -- how a server is set up: `--address ADDRESS`, and `--hold PATH=BODY`, `--delay PATH=MS` and `--plain PATH`, each again
--- and again, `--trace`, `--changes`, `--json`, `--script FILE`, `--pcap FILE` and `--journal FILE`
+-- and again, `--trace`, `--changes`, `--json`, `--script FILE`, `--pcap FILE`, `--journal FILE` and `--renew`
 abbrev pub setting_up : List Rule → List Rule
 setting_up rest = option_of (codes "address") ∷ repeated_of (codes "hold") ∷ repeated_of (codes "delay")
     ∷ repeated_of (codes "plain") ∷ trace_flag ∷ flag_of (codes "changes") ∷ flag_of (codes "json")
-    ∷ option_of (codes "script") ∷ option_of (codes "pcap") ∷ option_of (codes "journal") ∷ rest
+    ∷ option_of (codes "script") ∷ option_of (codes "pcap") ∷ option_of (codes "journal")
+    ∷ flag_of (codes "renew") ∷ rest
 
 -- a command with these arguments and no subcommand; where it has no words, it may answer with its help
 abbrev pub leaf : Text → Bool → List Rule → App

@@ -85,6 +85,7 @@ pub record IsJournal (values : List Row) (journal : Journal) : Type 0 where
   pub word : journal.says_word ≡ is_some (first_of (codes "word") values)
   pub limit : journal.says_limit ≡ is_some (first_of (codes "limit") values)
   pub remembered : journal.says_remembered ≡ is_some (first_of (codes "remember") values)
+  pub renews : HasFlag (codes "renew") values journal.renews
 
 abbrev pub HasJournal : List Row → Option Journal → Type 0
 HasJournal values None = first_of (codes "journal") values ≡ None

@@ -4,7 +4,7 @@ use Rattle.clap.specs.Words.{Row, Text, first_of}
 use Rattle.coap_arguments.specs.Values.{IsValue}
 use Rattle.coap_arguments.specs.declared.refusals.TogetherRefusal.{TogetherRefusal}
 use Rattle.coap_arguments.specs.declared.refusals.TogetherRefusal.TheVariants.{Count, Etag, Hex, Json, Trace, Chart}
-use Rattle.coap_arguments.specs.declared.refusals.TogetherRefusal.TheVariants.{Script}
+use Rattle.coap_arguments.specs.declared.refusals.TogetherRefusal.TheVariants.{Renew, Script}
 
 -- the flag is given
 abbrev pub IsSet : Text → List Row → Type 0
@@ -28,8 +28,12 @@ GoTold values = (IsSet (codes "json") values → ⊥)
 abbrev pub GoKept : List Row → Type 0
 GoKept values = (first_of (codes "journal") values ≡ None) ⊎ (first_of (codes "script") values ≡ None)
 
+-- .. and what is begun anew is such a file
+abbrev pub GoRenewed : List Row → Type 0
+GoRenewed values = (IsSet (codes "renew") values → ⊥) ⊎ ((journal : Text) × IsValue (codes "journal") values journal)
+
 abbrev pub GoServed : List Row → Type 0
-GoServed values = GoTold values × GoKept values
+GoServed values = GoTold values × GoKept values × GoRenewed values
 
 -- this is there which does not go with what else is there, or is not
 abbrev pub AreApart : TogetherRefusal → Text → List Row → Type 0
@@ -47,3 +51,5 @@ AreApart Chart subcommand values = (subcommand ≡ codes "dump") × IsSet (codes
     × (first_of (codes "pcap") values ≡ None)
 AreApart Script subcommand values = (subcommand ≡ codes "serve") × (journal : Text) × (script : Text)
     × IsValue (codes "journal") values journal × IsValue (codes "script") values script
+AreApart Renew subcommand values = (subcommand ≡ codes "serve") × IsSet (codes "renew") values
+    × (first_of (codes "journal") values ≡ None)

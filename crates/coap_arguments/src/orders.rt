@@ -233,6 +233,8 @@ pub struct Journal<'a> {
     pub says_limit: bool,
     /// Whether they say how many messages it remembers.
     pub says_remembered: bool,
+    /// Whether the file is begun anew, after a silence, with what the paths hold.
+    pub renews: bool,
 }
 
 /// What a server holds at a path.

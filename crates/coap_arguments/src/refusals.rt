@@ -177,6 +177,9 @@ pub enum TogetherRefusal {
     /// A server that is set up by a script, and one that goes on from a file.
     #[error("--script does not go with --journal: give --hold, --delay and --plain")]
     Script,
+    /// A file that is begun anew, where there is none.
+    #[error("error: unexpected argument '--renew' found\n\n  tip: serve takes --renew where it takes --journal")]
+    Renew,
 }
 
 /// Why a URI says no resource that the program asks for (RFC 7252, sections 6.1 and 6.4).

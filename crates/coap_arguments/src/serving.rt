@@ -92,6 +92,7 @@ pub(crate) fn journal_of<'a>(given: &ArgMatches<'a>) -> Option<Journal<'a>>
         says_word: is_said(given, "word"),
         says_limit: is_said(given, "limit"),
         says_remembered: is_said(given, "remember"),
+        renews: is_set(given, "renew"),
     })
 }
 

@@ -291,6 +291,13 @@ pub(crate) const JOURNAL: Argument = Argument {
         configuration; --hold is for a path that holds nothing. With an address of IPv4",
 };
 
+pub(crate) const RENEW: Argument = Argument {
+    form: Form::Flag,
+    name: "renew",
+    help: "with --journal, is silent for 400 seconds, and begins the file anew then, with what the paths hold: it gets \
+        short, and observers and partial uploads are lost",
+};
+
 // --script of a server.
 pub(crate) const SCRIPT: Argument = Argument {
     form: Form::Single { value_name: "FILE" },

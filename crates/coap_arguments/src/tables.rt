@@ -5,8 +5,8 @@ use crate::table_words::{
     DRAWN_WORD, ETAG, EVERY, FILE, FORMAT, GIVE_UP, GIVE_UP_OBSERVING, GIVE_UP_PINGING, HELD_BODY,
     HEX, HOLD, HOST, IF_MATCH, IF_NONE_MATCH, IN_HEX, JOURNAL, JSON, LIMIT, OWN_PORT, OWN_WORD,
     PAIR_BODY, PAIR_WORD, PATH, PCAP, PINGS, PLAIN, READ_CHART, READ_PCAP, READINGS, REMEMBER,
-    SCRIPT, SECONDS, SENT_BODY, SERVER_ALONE, SERVER_END, SERVER_PATH, SERVER_PORT, SIZE, STORE,
-    TIMES, TRACE,
+    RENEW, SCRIPT, SECONDS, SENT_BODY, SERVER_ALONE, SERVER_END, SERVER_PATH, SERVER_PORT, SIZE,
+    STORE, TIMES, TRACE,
 };
 
 /// What help of the program says at its end: its subcommands by what they are for.
@@ -59,6 +59,7 @@ pub(crate) static OTHERS: [Subcommand; 6] = [
             SCRIPT,
             PCAP,
             JOURNAL,
+            RENEW,
             OWN_WORD,
             LIMIT,
             REMEMBER,

@@ -1,7 +1,7 @@
 //! Options that don't go together.
 ghost use Rattle.std.specs.Prelude.{MatchOption, MatchResult, codes};
 ghost use Rattle.clap.specs.Words.{found_of, rows_of};
-ghost use Rattle.coap_arguments.specs.Together.{AreApart, GoKept, GoObserved, GoServed, GoTold};
+ghost use Rattle.coap_arguments.specs.Together.{AreApart, GoKept, GoObserved, GoRenewed, GoServed, GoTold};
 ghost use Rattle.coap_arguments.specs.Words.{AsksForIn, IsWrongIn};
 
 use crate::asking::is_set;
@@ -26,9 +26,20 @@ pub(crate) fn served_apart(given: &ArgMatches<'_>) -> Option<TogetherRefusal>
     ensures { MatchOption result (GoServed (rows_of (found_of given.now)))
         (λ refusal. AreApart refusal (codes "serve") (rows_of (found_of given.now))) }
 {
-    match kept_apart(given) {
+    match file_apart(given) {
         Some(refusal) => Some(refusal),
         None => told_apart(given),
+    }
+}
+
+// What goes with the file that a server goes on from, and with none.
+fn file_apart(given: &ArgMatches<'_>) -> Option<TogetherRefusal>
+    ensures { MatchOption result (GoKept (rows_of (found_of given.now)) × GoRenewed (rows_of (found_of given.now)))
+        (λ refusal. AreApart refusal (codes "serve") (rows_of (found_of given.now))) }
+{
+    match kept_apart(given) {
+        Some(refusal) => Some(refusal),
+        None => renewed_apart(given),
     }
 }
 
@@ -39,6 +50,17 @@ fn kept_apart(given: &ArgMatches<'_>) -> Option<TogetherRefusal>
 {
     match (optional(given, "journal"), optional(given, "script")) {
         (Some(_), Some(_)) => Some(TogetherRefusal::Script),
+        _ => None,
+    }
+}
+
+// What is begun anew is such a file.
+fn renewed_apart(given: &ArgMatches<'_>) -> Option<TogetherRefusal>
+    ensures { MatchOption result (GoRenewed (rows_of (found_of given.now)))
+        (λ refusal. AreApart refusal (codes "serve") (rows_of (found_of given.now))) }
+{
+    match (is_set(given, "renew"), optional(given, "journal")) {
+        (true, None) => Some(TogetherRefusal::Renew),
         _ => None,
     }
 }

@@ -43,12 +43,12 @@ pub fn order<'a>(alloc: Global, words: &'a [String]) -> Result<Order<'a>, Wrong>
     // `Plains`: clap takes them, and `--plain` names more than 16 paths. `Ends`: clap takes them, and `--client` or
     // `--server` is no address of IPv4 with a port, or they are one. `Together`: clap takes them, and options don't go
     // together: of `get`, `--count` without `--every`, or both of `--every` and `--etag`; of `observe`, both of
-    // `--json` and `--hex`; of `serve`, `--json` without `--changes` or with `--trace`, or `--script` with
-    // `--journal`; of `dump`, `--chart` without `--pcap`. `NoPath`: clap takes them, and behind PORT there is no PATH.
-    // `Uri`: clap takes them, and the URI in the place of PORT names nothing that is asked for, for the reason that is
-    // given. `Beside`: clap takes them, and beside the URI there is a word too many, or `--host`; or `ping` and
-    // `discover` have one with a path. `Hex`: clap takes them, PATH is a path where there is one, and HEX is the hex
-    // of no bytes. `Memory` says nothing of the words.
+    // `--json` and `--hex`; of `serve`, `--json` without `--changes` or with `--trace`, `--script` with
+    // `--journal`, or `--renew` without it; of `dump`, `--chart` without `--pcap`. `NoPath`: clap takes them, and
+    // behind PORT there is no PATH. `Uri`: clap takes them, and the URI in the place of PORT names nothing that is
+    // asked for, for the reason that is given. `Beside`: clap takes them, and beside the URI there is a word too many,
+    // or `--host`; or `ping` and `discover` have one with a path. `Hex`: clap takes them, PATH is a path where there is
+    // one, and HEX is the hex of no bytes. `Memory` says nothing of the words.
     ensures wrong { IfErr result (IsWrong (map string_bytes words.now)) }
 {
     if is_version(words) {

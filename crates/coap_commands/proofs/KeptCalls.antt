@@ -10,7 +10,7 @@ use Rattle.coap_journal.specs.Input.{Feed, Tick}
 use Rattle.coap_journaled.specs.Journal.{IsNoted, IsTaken, Journal, Rests, is_open}
 use Rattle.coap_journaled.specs.Runs.{end_gives}
 use Rattle.coap_kept.specs.Keeping.{IsCommitted}
-use Rattle.coap_kept.proofs.GoingOn.{same_end}
+use Rattle.coap_kept.proofs.Facts.{same_end}
 use Rattle.coap_links.specs.Carried.{Packet}
 use Rattle.coap_links.specs.Turning.{Turns}
 use Rattle.coap_links.specs.declared.tally.Tally.{Tally}

@@ -337,7 +337,7 @@ gone_ends s count options at start (inr done) = inl done.0
 kept_ends : (s : Status) (count : ℕ) (options : ServeOptions) (journal : Journal)
     → IsServedOn count options journal s → IsCarriedOut s
 kept_ends s count options journal (inl refused) = inr refused
-kept_ends s count options journal (inr served) = gone_ends s count options served.2 served.4 served.6
+kept_ends s count options journal (inr served) = gone_ends s count options served.3 served.5 served.7
 
 kept_carried : (ended : Result Status Stop) (count : ℕ) (options : ServeOptions) (journal : Journal)
     → IfOk ended (IsServedOn count options journal) → IfOk ended IsCarriedOut

@@ -1,64 +1,21 @@
 -- What a server comes to that goes on from a journal.
-use Rattle.std.specs.Prelude.{◌≡◌, ◌⊎◌, ◌++◌, ℕ, Bool, true, false, List, [], ◌∷◌, Option, Some, None, Ok, codes, fold}
+use Rattle.std.specs.Prelude.{◌≡◌, ◌⊎◌, ℕ, List, [], ◌∷◌, Option, Some, None, Ok, codes}
 use Rattle.std.specs.Borrow.{Bor}
 use Rattle.coap_resource.specs.Content.{Content, Held}
 use Rattle.coap_server.specs.Led.{State, Step}
 use Rattle.coap_server.specs.Trace.{Gets, Sets}
 use Rattle.coap_arguments.specs.PathText.{IsPathText}
-use Rattle.coap_arguments.specs.declared.orders.Delay.{Delay}
 use Rattle.coap_arguments.specs.declared.orders.Hold.{Hold}
 use Rattle.coap_arguments.specs.declared.orders.Journal.{Journal}
 use Rattle.coap_arguments.specs.declared.orders.ServeOptions.{ServeOptions}
-use Rattle.coap_arguments.specs.declared.orders.WordChoice.{WordChoice}
-use Rattle.coap_arguments.specs.declared.orders.WordChoice.TheVariants.{Given, Random}
+use Rattle.coap_commands.specs.KeptWords.{IsKeepingBy, said_beside}
 use Rattle.coap_commands.specs.Served.{FedFrom, IsServed}
-use Rattle.coap_commands.specs.declared.keeping.Says.{Says}
-use Rattle.coap_journal.specs.Input.{spelled}
-use Rattle.coap_journal.specs.Input as input
-use Rattle.coap_journal_file.specs.declared.wishes.Wishes.{Wishes}
 use Rattle.coap_kept.specs.Kept.{IsAlive}
+use Rattle.coap_kept.specs.declared.keep_words.Keeping.{Keeping}
+use Rattle.coap_kept.specs.declared.keeping.Silences.{Silences}
 use Rattle.coap_scripts.specs.declared.status.Status.{Status}
 use Rattle.coap_scripts.specs.declared.status.Status.TheVariants as status
 use Rattle.coap_scripts.specs.declared.usual.TheConstants.{TEXT_PLAIN as text_plain}
-
--- the inputs that a server takes before any other: its delays and its plain paths
-abbrev pub with_delay_bytes : List ℕ → Delay → List ℕ
-with_delay_bytes before delay = before ++ spelled (input.Delay delay.path delay.ms)
-
-abbrev pub with_plain_bytes : List ℕ → List (List ℕ) → List ℕ
-with_plain_bytes before path = before ++ spelled (input.Plain path)
-
-abbrev pub setup_bytes : ServeOptions → List ℕ
-setup_bytes options = fold with_plain_bytes (fold with_delay_bytes [] options.delays.items) options.plains.items
-
--- the word that is said, if any
-abbrev pub said_word : WordChoice → Option ℕ
-said_word (Given word) = Some word
-said_word Random = None
-
--- what is wished for where it is said
-abbrev pub said : Bool → ℕ → Option ℕ
-said true n = Some n
-said false n = None
-
-abbrev pub word_if : Bool → WordChoice → Option ℕ
-word_if true choice = said_word choice
-word_if false choice = None
-
-abbrev pub IsSaidSetup : List ℕ → Option (Bor (List ℕ)) → Type 0
-IsSaidSetup inputs None = inputs ≡ []
-IsSaidSetup inputs (Some wish) = wish.now ≡ inputs
-
--- the words say this of how a server began, where they say such things
-pub record AreWishesBy (options : ServeOptions) (says : Says) (inputs : List ℕ) (wishes : Wishes) : Type 0 where
-  pub word : wishes.word ≡ word_if says.word options.word
-  pub limit : wishes.limit ≡ said says.limit options.limit
-  pub remembered : wishes.remembered ≡ said says.remembered options.remembered
-  pub setup : IsSaidSetup inputs wishes.setup
-
-abbrev pub AreWishes : ServeOptions → Journal → List ℕ → Wishes → Type 0
-AreWishes options journal inputs wishes = AreWishesBy options
-    (record { word = journal.says_word; limit = journal.says_limit; remembered = journal.says_remembered }) inputs wishes
 
 -- what is held stays, and where nothing is this text is set at the moment
 abbrev pub IsHeldOrSet : ℕ → List (List ℕ) → List ℕ → Option Held → State → State → Type 0
@@ -87,11 +44,12 @@ IsGoneOn count options at start s = (s ≡ status.Refused)
     ⊎ ((s ≡ status.Done) × (set : State) × IsSetMissing at options start set × (last : State)
     × FedFrom count set last)
 
--- .. and it is the one of a journal, which agrees with the words
+-- .. and it is the one of a journal, of which the words say this
 abbrev pub IsServedOn : ℕ → ServeOptions → Journal → Status → Type 0
 IsServedOn count options journal s = (s ≡ status.Refused)
-    ⊎ ((wishes : Wishes) × AreWishes options journal (setup_bytes options) wishes × (first : ℕ) × (bytes : List ℕ)
-    × (start : State) × IsAlive wishes first bytes start × IsGoneOn count options first start s)
+    ⊎ ((keeping : Keeping) × IsKeepingBy options (said_beside journal) keeping × (silent : Silences) × (first : ℕ)
+    × (bytes : List ℕ) × (start : State) × IsAlive keeping silent first bytes start
+    × IsGoneOn count options first start s)
 
 abbrev pub IsServedAsSaid : ℕ → ServeOptions → Option (Bor (List ℕ)) → Option Journal → Status → Type 0
 IsServedAsSaid count options script None s = IsServed count options script s

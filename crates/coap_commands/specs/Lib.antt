@@ -11,6 +11,7 @@ pub mod Hosts
 pub mod JsonLines
 pub mod JsonValues
 pub mod Kept
+pub mod KeptWords
 pub mod Observes
 pub mod Pairs
 pub mod Pinged

@@ -1,5 +1,5 @@
 //! `serve`: a server over a socket.
-ghost use Rattle.std.specs.Prelude.{◌≡◌, IfOk, map};
+ghost use Rattle.std.specs.Prelude.{◌≡◌, IfOk, OnOk, map};
 ghost use Rattle.coap_links.specs.Pumping.{SendsAll};
 ghost use Rattle.coap_links.specs.Turning.{Turns};
 ghost use Rattle.coap_resource.specs.Entries.{content_of};
@@ -29,10 +29,10 @@ use crate::tracing::{Tracing, teller_on};
 use crate::word::{Origin, origin_of};
 use coap_arguments::{Address, Journal, ServeOptions};
 use coap_ends::{End, Server};
-use coap_links::{Link, Trace, Udp6Link, UdpLink, fresh_tally, send_all, serve_turn};
+use coap_links::{Link, Tally, Trace, Udp6Link, UdpLink, fresh_tally, send_all, serve_turn};
 use coap_resource::MapStore;
 use coap_scripts::{Setting, Status, Stop};
-use coap_types::Endpoint;
+use coap_types::{Endpoint, Moment};
 use std::alloc::{Allocator, Global};
 use std::cell::RefCell;
 use std::fs::File;
@@ -47,6 +47,21 @@ use std::rt::{Clock, Files};
 const MAX_CLIENTS: u32 = 65_536;
 
 const _: () = prove!(MAX_CLIENTS == 65_536);
+
+/// A turn of a server of so many datagrams, which stops where more failed than the program bears.
+pub(crate) fn serve_once<A: Allocator + Copy, E: End<A>, L: Link>(
+    server: &mut E,
+    link: &mut L,
+    now: Moment,
+    tally: &mut Tally,
+    count: u64,
+) -> Result<(), Stop>
+    ensures { OnOk result (Turns E.waiting E.gives L.sends L.receives L.fault_count E.quiet_feed E.feeds E.quiet_tick
+        E.ticks (E.state server.old) link.old now.0 tally.old (E.state server.new) link.new tally.new) }
+{
+    serve_turn(server, link, now, tally);
+    bear_serving(link, tally, count)
+}
 
 // Takes turns until so many datagrams were fed.
 fn serve_until<A: Allocator + Copy, E: End<A>, L: Link, T: Timekeeper>(
@@ -66,8 +81,7 @@ fn serve_until<A: Allocator + Copy, E: End<A>, L: Link, T: Timekeeper>(
         if tally.fed >= count {
             return Ok(());
         }
-        serve_turn(server, link, time.now()?, &mut tally);
-        bear_serving(link, &tally, count)?;
+        serve_once(server, link, time.now()?, &mut tally, count)?;
     }
     Err(Stop::Failed)
 }

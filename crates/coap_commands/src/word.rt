@@ -33,7 +33,7 @@ pub(crate) fn word_of<R: RandomSource>(rt: &R, choice: WordChoice) -> Result<u64
 /// The version after which a server's versions begin: a random one, so that no entity-tag of a former life names
 /// another body (RFC 7252, section 5.10.6). With a word that is given it is 0: the server begins as it did with that
 /// word before.
-fn base_of<R: RandomSource>(rt: &R, choice: WordChoice) -> Result<VersionBase, Stop>
+pub(crate) fn base_of<R: RandomSource>(rt: &R, choice: WordChoice) -> Result<VersionBase, Stop>
     ensures { IfOk result (IsBaseOf choice) }
 {
     match choice {

@@ -1,11 +1,11 @@
 //! The file of a journal is opened for this program alone.
 
-use std::fs::{File, OpenOptions, TryLockError};
-use std::io;
-use std::io::{ErrorKind, Read};
+use std::fs::{File, OpenFile, OpenOptions, TryLockError};
+use std::io::{ErrorKind, Read, Write};
 use std::os::unix::fs::OpenOptionsExt;
 use std::path::Path;
 use std::rt::Files;
+use std::{fs, io};
 use thiserror::Error;
 
 /// Who may read and write a journal that is made: its owner alone, since all bodies stand in it, and the seed.
@@ -74,6 +74,24 @@ pub fn open_journal<R: AllocGlobal + Files<File = File>>(
     let mut bytes = Vec::new(rt.alloc());
     file.read_to_end(&mut bytes)?;
     Ok(OpenJournal { file, bytes })
+}
+
+/// Has the journal of this name be these bytes, in another file, which is open for this program alone. It is written
+/// beside the old one, under the other name, and synced; then it takes the name. Until then the old one stays.
+pub fn replace_journal<R: Files<File = File>>(
+    rt: &R,
+    name: &str,
+    beside: &str,
+    bytes: &[u8],
+) -> Result<File, OpenError> {
+    let mut file = open_or_make(rt, beside)?;
+    lock(&file)?;
+    file.set_len(0)?;
+    file.write_all(bytes)?;
+    file.sync_all()?;
+    fs::rename(rt, beside, name)?;
+    sync_folder(rt, name)?;
+    Ok(file)
 }
 
 /// Has the name of a file that was made stay, whatever happens.

@@ -4,6 +4,8 @@
 #[cfg(test)]
 mod bytes_of_records;
 #[cfg(test)]
+mod files;
+#[cfg(test)]
 mod journaled;
 #[cfg(test)]
 mod lives;

@@ -9,50 +9,34 @@ use Rattle.coap_journal.proofs.Facts.{length-frame}
 use Rattle.coap_journal.specs.declared.waking.Waking.{Waking}
 use Rattle.coap_journal.specs.declared.waking.Waking.TheVariants.{AfterSilence, At}
 use Rattle.coap_journaled.specs.Journal.{IsNoted, IsTaken, Journal}
-use Rattle.coap_journaled.specs.Runs.{Act, Commits, Does, Gives, Runs, Takes}
-use Rattle.coap_journaled.specs.declared.journaled.CommitError.{CommitError}
+use Rattle.coap_journaled.specs.Runs.{Act, Does, Gives, Runs, Takes}
 use Rattle.coap_kept.specs.Keeping.{GoesOn, IsCommitted}
 
-module _ {S F : Type 0} (appends : F → List ℕ → Bool → F → Type 0) (syncs : F → Bool → F → Type 0) where
-  same_by : (old new : Journal S F) (result : Result (Unit {0}) CommitError) (acts : List Act)
-      → Commits appends syncs old result acts new → new.end ≡ old.end
-  same_by old new result acts (Commits.nothing r going none are same) = ap (λ (j : Journal S F). j.end) same
-  same_by old new result acts (Commits.done between r going some few one two are is) =
-      ap (λ (j : Journal S F). j.end) is
-  same_by old new result acts (Commits.unsynced between r going one two are is) = ap (λ (j : Journal S F). j.end) is
-  same_by old new result acts (Commits.unwritten r going one are is) = ap (λ (j : Journal S F). j.end) is
-  same_by old new result acts (Commits.full r going some full are is) = ap (λ (j : Journal S F). j.end) is
-  same_by old new result acts (Commits.refused r going some are same) = ap (λ (j : Journal S F). j.end) same
-  same_by old new result acts (Commits.over r going are same) = ap (λ (j : Journal S F). j.end) same
+module _ {S F : Type 0} (appends : F → List ℕ → Bool → F → Type 0) (syncs : F → Bool → F → Type 0)
+    (takes : S → Input → S → Type 0) (gives : S → Packet → S → Type 0) (start : Journal S F) where
+  pub noted_on : (old between new : Journal S F) (t : List Act) (input : Input)
+      → Runs takes gives appends syncs start t old → IsNoted old input between → takes old.end input between.end
+      → IsCommitted appends syncs between new → GoesOn takes gives appends syncs start t new
+  noted_on old between new t input runs is one done = (
+    done.1 ++ Takes input ∷ [],
+    subst (λ (u : List Act). Runs takes gives appends syncs start u new)
+        (sym (append_assoc done.1 (Takes input ∷ []) t))
+        (Runs.further (Takes input ∷ t) between done.1 new
+        (Runs.further t old (Takes input ∷ []) between runs (Does.noted input is one))
+        (Does.committed done.0 done.1 done.2)),
+  )
 
-  -- a commit leaves the end as it is
-  pub same_end : (old new : Journal S F) → IsCommitted appends syncs old new → new.end ≡ old.end
-  same_end old new is = same_by old new is.0 is.1 is.2
+  pub rested_on : (old between new : Journal S F) (t : List Act) → Runs takes gives appends syncs start t old
+      → between ≡ old → IsCommitted appends syncs between new → GoesOn takes gives appends syncs start t new
+  rested_on old between new t runs is done = (
+    done.1,
+    Runs.further t between done.1 new (subst (Runs takes gives appends syncs start t) (sym is) runs)
+        (Does.committed done.0 done.1 done.2),
+  )
 
-  module _ (takes : S → Input → S → Type 0) (gives : S → Packet → S → Type 0) (start : Journal S F) where
-    pub noted_on : (old between new : Journal S F) (t : List Act) (input : Input)
-        → Runs takes gives appends syncs start t old → IsNoted old input between → takes old.end input between.end
-        → IsCommitted appends syncs between new → GoesOn takes gives appends syncs start t new
-    noted_on old between new t input runs is one done = (
-      done.1 ++ Takes input ∷ [],
-      subst (λ (u : List Act). Runs takes gives appends syncs start u new)
-          (sym (append_assoc done.1 (Takes input ∷ []) t))
-          (Runs.further (Takes input ∷ t) between done.1 new
-          (Runs.further t old (Takes input ∷ []) between runs (Does.noted input is one))
-          (Does.committed done.0 done.1 done.2)),
-    )
-
-    pub rested_on : (old between new : Journal S F) (t : List Act) → Runs takes gives appends syncs start t old
-        → between ≡ old → IsCommitted appends syncs between new → GoesOn takes gives appends syncs start t new
-    rested_on old between new t runs is done = (
-      done.1,
-      Runs.further t between done.1 new (subst (Runs takes gives appends syncs start t) (sym is) runs)
-          (Does.committed done.0 done.1 done.2),
-    )
-
-    pub given_on : (old new : Journal S F) (t : List Act) (p : Packet) → Runs takes gives appends syncs start t old
-        → IsTaken old new → gives old.end p new.end → GoesOn takes gives appends syncs start t new
-    given_on old new t p runs is one = (Gives p ∷ [], Runs.further t old (Gives p ∷ []) new runs (Does.given p is one))
+  pub given_on : (old new : Journal S F) (t : List Act) (p : Packet) → Runs takes gives appends syncs start t old
+      → IsTaken old new → gives old.end p new.end → GoesOn takes gives appends syncs start t new
+  given_on old new t p runs is one = (Gives p ∷ [], Runs.further t old (Gives p ∷ []) new runs (Does.given p is one))
 
 -- what holds of a value, if there is one, and what follows from that
 pub if_some : {X : Type 0} {P Q : X → Type 0} (r : Option X) → ((x : X) → P x → Q x) → IfSome r P → IfSome r Q

@@ -33,8 +33,8 @@ pub record IsReplayed (place : ℕ) (bytes : List ℕ) (life : Life) (old : Stat
   pub latest_is : r.latest.0 ≡ latest_moment life.moment.0 records
 
 -- the bytes are a first frame, as which the server began, and others, which it has done; and the words agree with it
-pub record IsRevived (bytes : List ℕ) (wishes : Wishes) (r : Replayed) (s : State) : Type 0 where
-  pub beginning : Beginning
+pub record IsRevived (bytes : List ℕ) (wishes : Wishes) (beginning : Beginning) (r : Replayed) (s : State)
+    : Type 0 where
   pub born : Life
   pub rest : List ℕ
   pub first : State

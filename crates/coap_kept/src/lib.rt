@@ -4,21 +4,32 @@
 //! end: what is handed to it is in the file, and the file is synced, before a datagram that comes of it is given out.
 #![tactic(auto)]
 
+mod counts;
 mod disk_file;
+mod held_paths;
+mod inputs;
+mod keep_error;
+mod keep_words;
 mod keeping;
 mod kept;
 mod kept_time;
 mod laws;
 mod machine;
 mod put_away;
+mod renewal;
 mod revival;
 mod silence;
+mod waking;
+mod whole_file;
 
 pub use disk_file::{DiskFile, SLOW_SYNC_MS};
-pub use keeping::{KeepError, Keeping, KeptServer, keep};
+pub use keep_error::KeepError;
+pub use keep_words::Keeping;
+pub use keeping::{KeptServer, Silences, keep};
 pub use kept::Kept;
 pub use kept_time::KeptTime;
 pub use laws::kept_law;
 pub use machine::{Machine, machine_now};
-pub use revival::{RevivalError, revive};
+pub use renewal::RENEWAL_SILENCE_MS;
+pub use revival::{RevivalError, Revived, revive};
 pub use silence::be_silent;

@@ -35,6 +35,17 @@ pub enum RevivalError {
     Unreplayed(ReplayError),
 }
 
+/// The server of a journal.
+#[derive(Drop)]
+pub struct Revived<H: BuildHasher + Drop> {
+    /// The server, which was replayed.
+    pub server: Server<MapStore, Global, H>,
+    /// How it began.
+    pub beginning: Beginning,
+    /// Its last life and its latest moment.
+    pub replayed: Replayed,
+}
+
 // The first frame of a journal: how its server began, and its first life; and what follows.
 fn beginning_in(bytes: &[u8]) -> Result<(Beginning, Life, &[u8]), BeginError>
     ensures { IfOk result (λ p. bytes.now ≡ frame 0 (record_bytes (Begun p.0 p.1)) ++ p.2.now) }
@@ -74,15 +85,15 @@ fn fresh_server<H: BuildHasher + Drop>(
     Some(Server::with_setup(alloc, store, configuration.szx, setup, hasher))
 }
 
-/// The server of a journal of these bytes, which is replayed, and its last life; it began with what the words say.
+/// The server of a journal of these bytes, which is replayed; it began with what the words say.
 pub fn revive<H: BuildHasher + Drop>(
     alloc: Global,
     bytes: &[u8],
     wishes: &Wishes<'_>,
     hasher: H,
-) -> Result<(Server<MapStore, Global, H>, Replayed), RevivalError>
+) -> Result<Revived<H>, RevivalError>
     // The server that is made of a journal began as its first frame says, and then did all that its other frames hold.
-    ensures { IfOk result (λ r. IsRevived bytes.now wishes.now r.1 (state_of content_of r.0)) }
+    ensures { IfOk result (λ r. IsRevived bytes.now wishes.now r.beginning r.replayed (state_of content_of r.server)) }
 {
     let (beginning, life, rest) = match beginning_in(bytes) {
         Ok(begun) => begun,
@@ -94,7 +105,14 @@ pub fn revive<H: BuildHasher + Drop>(
     let Some(server) = fresh_server(alloc, &beginning, hasher) else {
         return Err(RevivalError::Unbegun(BeginError::Unreadable));
     };
-    replay_all(alloc, server, bytes, rest, life)
+    match replay_all(alloc, server, bytes, rest, life) {
+        Ok((server, replayed)) => Ok(Revived {
+            server,
+            beginning,
+            replayed,
+        }),
+        Err(why) => Err(why),
+    }
 }
 
 // Has a server do what all frames hold that follow the first one.

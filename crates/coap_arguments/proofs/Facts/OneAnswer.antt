@@ -118,6 +118,8 @@ together_hexless together.Trace name v fine apart =
     no_hex (alone (codes "serve")) name v refl fine (is_alone (codes "serve") name apart.0)
 together_hexless together.Script name v fine apart =
     no_hex (alone (codes "serve")) name v refl fine (is_alone (codes "serve") name apart.0)
+together_hexless together.Renew name v fine apart =
+    no_hex (alone (codes "serve")) name v refl fine (is_alone (codes "serve") name apart.0)
 together_hexless together.Chart name v fine apart =
     no_hex (alone (codes "dump")) name v refl fine (is_alone (codes "dump") name apart.0)
 

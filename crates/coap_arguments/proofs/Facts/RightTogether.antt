@@ -13,7 +13,7 @@ use Rattle.coap_arguments.specs.declared.orders.What.TheVariants.{Get, Put, Post
 use Rattle.coap_arguments.specs.declared.orders.Wrong.TheVariants.{Together}
 use Rattle.coap_arguments.specs.declared.refusals.TogetherRefusal.{TogetherRefusal}
 use Rattle.coap_arguments.specs.declared.refusals.TogetherRefusal.TheVariants.{Count, Etag, Hex, Json, Trace, Chart}
-use Rattle.coap_arguments.specs.declared.refusals.TogetherRefusal.TheVariants.{Script}
+use Rattle.coap_arguments.specs.declared.refusals.TogetherRefusal.TheVariants.{Renew, Script}
 
 -- ---- what is asked for
 
@@ -191,4 +191,8 @@ not_together order Chart name v h apart = of_dump order name v h apart
 not_together order Script name v h (serves, journal, script, kept, said) = elim (of_serve order name v h serves).1 [
   | inl none ↦ absurd (cc (sym none ∙ kept))
   | inr none ↦ absurd (cc (sym none ∙ said))
+]
+not_together order Renew name v h (serves, renew, none) = elim (of_serve order name v h serves).2 [
+  | inl no_renew ↦ no_renew renew
+  | inr kept ↦ absurd (cc (sym none ∙ kept.1))
 ]

@@ -1,20 +1,31 @@
-use Rattle.std.proofs.Common.{◌∙◌, ℕ, List, inl, inr, subst}
-use Rattle.coap_commands.specs.Kept.{AreWishes}
+use Rattle.std.proofs.Common.{◌∙◌, ℕ, List, inl, inr, subst, sym}
+use Rattle.coap_commands.specs.KeptWords.{AreWishesBy, IsDrawnBy, IsKeepingBy}
+use Rattle.coap_commands.specs.declared.journal_words.Says.{Says}
 use Rattle.coap_commands.proofs.KeptCalls.{if_ok}
 use Rattle.coap_commands.proofs.keeping.keep_over.Goals as goal
+use Rattle.coap_journal.specs.declared.beginning.Beginning.{Beginning}
 
 pub returns-in-Ok : goal.returns-in-Ok
 returns-in-Ok g c =
-    let wishes = c.keeping_of-keeping.result.wishes in
+    let options = c.args.options.now in
+    let says = c.says_of-says.result in
+    let keeping = c.keeping_of-keeping.result in
+    let inputs = c.as_slice.ensures.value ∙ c.in_ok-setup.ensures in
+    let of = c.keeping_of-keeping.ensures in
     if_ok c.go_on_kept.result
     (λ s gone. inr (
-      wishes,
-      subst (λ (inputs : List ℕ). AreWishes c.args.options.now c.args.journal inputs wishes)
-          (c.as_slice.ensures.value ∙ c.in_ok-setup.ensures) c.keeping_of-keeping.ensures,
+      keeping,
+      subst (λ (says : Says). IsKeepingBy options says keeping) c.says_of-says.ensures record {
+        wishes = subst (λ (inputs : List ℕ). AreWishesBy options says inputs keeping.wishes) inputs of.wishes;
+        drawn = subst (λ (b : Beginning). IsDrawnBy options says b) (sym of.drawn) c.in_ok-drawn.ensures;
+        setup = of.setup ∙ inputs;
+        renews = of.renews;
+      },
+      c.in-Ok.kept.silent,
       c.in-Ok.kept.first.0,
-      c.in-Ok.ensures.bytes,
+      c.in-Ok.ensures.kept.bytes,
       _,
-      c.in-Ok.ensures.alive,
+      c.in-Ok.ensures.kept.alive,
       gone,
     ))
     c.go_on_kept.ensures

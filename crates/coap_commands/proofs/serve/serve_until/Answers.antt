@@ -17,4 +17,4 @@ loop-turn-init g c =
 
 pub loop-turn-preserved : goal.loop-turn-preserved
 loop-turn-preserved g c =
-    further _ _ _ _ _ _ _ c.loop-turn.invariant (omega (arith, c.if-tally-count.false)) c.serve_turn.ensures
+    further _ _ _ _ _ _ _ c.loop-turn.invariant (omega (arith, c.if-tally-count.false)) c.in_ok-serve_once.ensures

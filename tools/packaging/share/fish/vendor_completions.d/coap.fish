@@ -48,6 +48,7 @@ complete -c coap -n '__coap_is serve' -l json -d 'with --changes, tells of each 
 complete -c coap -n '__coap_is serve' -l script -r -F -d 'sets the server up by the lines of this file'
 complete -c coap -n '__coap_is serve' -l pcap -r -F -d 'writes each datagram that goes and comes to this file, which tshark and coap dump --pcap read'
 complete -c coap -n '__coap_is serve' -l journal -r -F -d 'keeps in this file what the server takes, before it answers, and goes on from there'
+complete -c coap -n '__coap_is serve' -l renew -d 'with --journal, is silent for 400 seconds, and begins the file anew then, with what the paths hold'
 complete -c coap -n '__coap_is serve' -l word -x -a 'random' -d 'the word that the server begins with'
 complete -c coap -n '__coap_is serve' -l limit -x -d 'the longest body in bytes, from 1 to 1048576, 65536 where it is left out'
 complete -c coap -n '__coap_is serve' -l remember -x -d 'how many messages an end remembers to tell duplicates, from 1 to 1048576, 4096 where it is left out'

@@ -3,7 +3,7 @@ use Rattle.coap_resource.specs.Entries.{content_of}
 use Rattle.coap_server.specs.Led.{Step}
 use Rattle.coap_server.specs.Object.Shown.{state_of}
 use Rattle.coap_server.specs.Trace.{Gets}
-use Rattle.coap_commands.proofs.keeping.hold_missing.Goals as goal
+use Rattle.coap_commands.proofs.missing_paths.hold_missing.Goals as goal
 
 pub returns-in-Ok : goal.returns-in-Ok
 returns-in-Ok g c = (

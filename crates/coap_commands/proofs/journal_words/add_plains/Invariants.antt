@@ -1,6 +1,6 @@
 use Rattle.std.proofs.Common.{◌≡◌, drop, fold}
-use Rattle.coap_commands.specs.Kept.{with_plain_bytes}
-use Rattle.coap_commands.proofs.keeping.add_plains.Given as goal
+use Rattle.coap_commands.specs.KeptWords.{with_plain_bytes}
+use Rattle.coap_commands.proofs.journal_words.add_plains.Given as goal
 
 abbrev pub invariant-loop-path : goal.invariant-loop-path
 invariant-loop-path l =

@@ -6,7 +6,7 @@ use Rattle.coap_server.specs.Object.Shown.{state_of}
 use Rattle.coap_commands.specs.Kept.{HoldsEach, HoldsMissing}
 use Rattle.coap_commands.proofs.KeptCalls.{one_each}
 use Rattle.coap_commands.proofs.SettingUpCalls.{none_is}
-use Rattle.coap_commands.proofs.keeping.hold_each.Goals as goal
+use Rattle.coap_commands.proofs.missing_paths.hold_each.Goals as goal
 
 pub loop-held-init : goal.loop-held-init
 loop-held-init g c = refl

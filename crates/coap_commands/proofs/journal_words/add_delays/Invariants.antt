@@ -1,6 +1,6 @@
 use Rattle.std.proofs.Common.{◌≡◌, drop, fold}
-use Rattle.coap_commands.specs.Kept.{with_delay_bytes}
-use Rattle.coap_commands.proofs.keeping.add_delays.Given as goal
+use Rattle.coap_commands.specs.KeptWords.{with_delay_bytes}
+use Rattle.coap_commands.proofs.journal_words.add_delays.Given as goal
 
 abbrev pub invariant-loop-delay : goal.invariant-loop-delay
 invariant-loop-delay l =

@@ -2,7 +2,7 @@ use Rattle.std.proofs.Common.{take}
 use Rattle.coap_resource.specs.Entries.{content_of}
 use Rattle.coap_server.specs.Object.Shown.{state_of}
 use Rattle.coap_commands.specs.Kept.{HoldsEach}
-use Rattle.coap_commands.proofs.keeping.hold_each.Given as goal
+use Rattle.coap_commands.proofs.missing_paths.hold_each.Given as goal
 
 -- so far it holds the first of them
 abbrev pub invariant-loop-held : goal.invariant-loop-held

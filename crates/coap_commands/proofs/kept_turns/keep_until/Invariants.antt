@@ -1,7 +1,7 @@
 use Rattle.coap_resource.specs.Entries.{content_of}
 use Rattle.coap_server.specs.Object.Shown.{state_of}
 use Rattle.coap_commands.proofs.ServedCalls.{FedMost}
-use Rattle.coap_commands.proofs.keeping.keep_until.Given as goal
+use Rattle.coap_commands.proofs.kept_turns.keep_until.Given as goal
 
 -- so far the tally counts no more than was fed
 abbrev pub invariant-loop-turn : goal.invariant-loop-turn

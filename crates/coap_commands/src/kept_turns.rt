@@ -1,0 +1,182 @@
+//! The turns of a server that goes on from a journal.
+ghost use Rattle.std.specs.Prelude.{◌≡◌, ◌⊎◌, IfNone, IfOk};
+ghost use Rattle.coap_resource.specs.Entries.{content_of};
+ghost use Rattle.coap_server.specs.Led.{State};
+ghost use Rattle.coap_server.specs.Object.Shown.{state_of};
+ghost use Rattle.coap_commands.specs.Kept.{IsGoneOn};
+ghost use Rattle.coap_commands.specs.Served.{FedFrom};
+ghost use Rattle.coap_scripts.specs.declared.status.Status.TheVariants.{Done, Refused};
+
+use crate::changes::{ChangeTeller, TellingEnd};
+use crate::ends::tell_refusal;
+use crate::missing_paths::set_up_missing;
+use crate::put_away::put_away;
+use crate::serve::{serve_once, warn};
+use crate::timekeeper::Timekeeper;
+use coap_arguments::ServeOptions;
+use coap_ends::Server;
+use coap_journaled::{CommitError, JournalFile, Journaled};
+use coap_kept::{Kept, KeptServer, KeptTime};
+use coap_links::{Link, fresh_tally, send_all};
+use coap_resource::MapStore;
+use coap_scripts::{Status, Stop};
+use coap_types::Moment;
+use std::alloc::Global;
+use std::hash::BuildHasher;
+use std::io::Write;
+
+// Takes turns until so many datagrams were fed, or an input isn't kept, and says why then.
+fn keep_until<H: BuildHasher + Drop, F, C, L, T>(
+    server: &mut TellingEnd<Kept<Server<MapStore, Global, H>, F, Global>, C>,
+    link: &mut L,
+    time: &mut T,
+    count: u64,
+    word: u64,
+) -> Result<Option<CommitError>, Stop>
+where
+    F: JournalFile + Drop,
+    C: ChangeTeller<Global> + Drop,
+    L: Link,
+    T: Timekeeper,
+    ensures { IfOk result (λ failure. IfNone failure (FedFrom count (state_of content_of server.old.end.journaled.end)
+        (state_of content_of server.new.end.journaled.end))) }
+{
+    let mut tally = fresh_tally(word);
+    // More turns than a program lives.
+    for _turn in 0..u64::MAX {
+        if let Some(why) = server.end.failure() {
+            return Ok(Some(why));
+        }
+        if tally.fed >= count {
+            return Ok(None);
+        }
+        serve_once(server, link, time.now()?, &mut tally, count)?;
+    }
+    Err(Stop::Failed)
+}
+
+// Says why a server with a journal has ended.
+fn tell_failure<E: Write>(name: &str, why: CommitError, err: &mut E) -> Result<Status, Stop>
+    ensures { IfOk result (λ status. status ≡ Refused) }
+{
+    let _ = writeln!(err, "{name}: {why}: what came since counts as lost");
+    Err(Stop::Failed)
+}
+
+// Serves with this server until so many datagrams were fed, and puts it away.
+fn serve_kept<H: BuildHasher + Drop, F, C, L, T, W, E>(
+    journaled: Journaled<Server<MapStore, Global, H>, F, Global>,
+    changes: Option<C>,
+    link: &mut L,
+    time: &mut T,
+    turns: (u64, u64),
+    name: &str,
+    out: &mut W,
+    err: &mut E,
+) -> Result<Status, Stop>
+where
+    F: JournalFile + Drop,
+    C: ChangeTeller<Global> + Drop,
+    L: Link,
+    T: Timekeeper,
+    W: Write,
+    E: Write,
+    ensures { IfOk result (λ status. (status ≡ Refused) ⊎ ((status ≡ Done)
+        × (last : State) × FedFrom turns.0 (state_of content_of journaled.end) last)) }
+{
+    let (count, word) = turns;
+    let mut server = TellingEnd::new(Kept::new(journaled), changes);
+    let ended = keep_until(&mut server, link, time, count, word);
+    send_all(&mut server, link);
+    put_away(server);
+    match ended? {
+        None => {
+            writeln!(out, "served {count}")?;
+            Ok(Status::Done)
+        }
+        Some(why) => tell_failure(name, why, err),
+    }
+}
+
+// Sets a server up that goes on, and serves with it.
+fn go_on_with<H: BuildHasher + Drop, F, C, L, T, W, E>(
+    alloc: Global,
+    journaled: Journaled<Server<MapStore, Global, H>, F, Global>,
+    first: Moment,
+    options: &ServeOptions,
+    changes: Option<C>,
+    link: &mut L,
+    time: &mut T,
+    turns: (u64, u64),
+    name: &str,
+    out: &mut W,
+    err: &mut E,
+) -> Result<Status, Stop>
+where
+    F: JournalFile + Drop,
+    C: ChangeTeller<Global> + Drop,
+    L: Link,
+    T: Timekeeper,
+    W: Write,
+    E: Write,
+    ensures { IfOk result (IsGoneOn turns.0 options.now first.0 (state_of content_of journaled.end)) }
+{
+    let mut journaled = journaled;
+    match set_up_missing(alloc, &mut journaled, first, options) {
+        Ok(None) => serve_kept(journaled, changes, link, time, turns, name, out, err),
+        Ok(Some(refusal)) => {
+            put_away(journaled);
+            tell_refusal(refusal, out)
+        }
+        Err(stop) => {
+            put_away(journaled);
+            Err(stop)
+        }
+    }
+}
+
+/// Serves with a server that goes on, by the clock of the program.
+pub(crate) fn go_on_kept<H: BuildHasher + Drop, S, V, C, L, T, W, E>(
+    alloc: Global,
+    kept: KeptServer<H, S, V>,
+    serving: (u16, u64),
+    options: &ServeOptions,
+    changes: Option<C>,
+    link: &mut L,
+    time: T,
+    word: u64,
+    name: &str,
+    out: &mut W,
+    err: &mut E,
+) -> Result<Status, Stop>
+where
+    S: Timekeeper + Drop,
+    V: Write + Drop,
+    C: ChangeTeller<Global> + Drop,
+    L: Link,
+    T: Timekeeper + Drop,
+    W: Write,
+    E: Write,
+    ensures { IfOk result (IsGoneOn serving.1 options.now kept.first.0 (state_of content_of kept.journaled.end)) }
+{
+    let (port, count) = serving;
+    warn(options, port, err);
+    let mut clock = time;
+    let begin = clock.now()?;
+    let first = kept.first;
+    let mut time = KeptTime::new(clock, begin, first);
+    let turns = (count, word);
+    go_on_with(
+        alloc,
+        kept.journaled,
+        first,
+        options,
+        changes,
+        link,
+        &mut time,
+        turns,
+        name,
+        out,
+        err,
+    )
+}

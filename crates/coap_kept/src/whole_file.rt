@@ -1,0 +1,136 @@
+//! The file of a journal is made whole: a torn frame is cut off, and where no server began in it one begins.
+ghost use Rattle.std.specs.Prelude.{◌≡◌, ◌++◌, IfNone, IfOk, IfSome, OnOk, take};
+ghost use Rattle.coap_journal_file.specs.Judging.{IsTornBeginning, IsWhole};
+ghost use Rattle.coap_kept.specs.Renewal.{first_bytes};
+
+use crate::counts::{Counts, no_counts};
+use crate::inputs::read_turns;
+use crate::keep_error::KeepError;
+use crate::keep_words::Keeping;
+use crate::machine::{Machine, machine_now};
+use crate::waking::life_at;
+use coap_journal::{Beginning, Life, Whole};
+use coap_journal_file::{
+    Began, Differing, Judged, OpenJournal, begun_frame, differing_beginning, judge, open_journal,
+    setup_frame, sync_folder, what_differs,
+};
+use coap_types::Moment;
+use std::alloc::Global;
+use std::fs::{File, OpenFile};
+use std::io::Write;
+use std::random::RandomSource;
+use std::rt::Files;
+
+// What a server began with that the words say otherwise. Where it is to be begun anew, it takes another setup then.
+fn differing_in(began: &Began<'_>, keeping: &Keeping<'_>) -> Option<Differing> {
+    if keeping.renews {
+        differing_beginning(&began.beginning, &keeping.wishes)
+    } else {
+        what_differs(began, &keeping.wishes)
+    }
+}
+
+// How much of a file is whole in which a server began as the words say; None where none began.
+fn looked_at(bytes: &[u8], keeping: &Keeping<'_>) -> Result<Option<Whole>, KeepError>
+    ensures begun { IfOk result (λ looked. IfSome looked (IsWhole bytes.now)) }
+    ensures empty { IfOk result (λ looked. IfNone looked (IsTornBeginning bytes.now)) }
+{
+    match judge(bytes) {
+        Ok(Judged::Empty) => Ok(None),
+        Ok(Judged::Begun(began)) => match differing_in(&began, keeping) {
+            Some(differing) => Err(KeepError::Differs(differing)),
+            None => Ok(Some(began.whole)),
+        },
+        Err(why) => Err(KeepError::File(why)),
+    }
+}
+
+/// Adds bytes to a file, which are to be synced.
+pub(crate) fn add(journal: &mut OpenJournal, bytes: &[u8]) -> Result<(), KeepError>
+    ensures { OnOk result (journal.new.bytes.items ≡ journal.old.bytes.items ++ bytes.now) }
+{
+    journal.bytes.extend_from_slice(bytes)?;
+    journal.file.write_all(bytes)?;
+    Ok(())
+}
+
+// Cuts a file off at this place.
+fn cut(journal: &mut OpenJournal, end: usize) -> Result<(), KeepError>
+    ensures { OnOk result (journal.new.bytes.items ≡ take end journal.old.bytes.items) }
+{
+    journal.file.set_len(end as u64)?;
+    journal.bytes.truncate(end);
+    Ok(())
+}
+
+// Adds the frame of the inputs that a server takes first.
+fn add_setup(alloc: Global, journal: &mut OpenJournal, setup: &[u8]) -> Result<(), KeepError> {
+    let place = journal.bytes.len() as u64;
+    let frame = setup_frame(alloc, place, setup)?;
+    add(journal, frame.as_slice())
+}
+
+/// The first two frames of a journal: how its server begins and its first life, and the inputs that it takes first.
+pub(crate) fn first_frames(
+    alloc: Global,
+    beginning: Beginning,
+    life: Life,
+    setup: &[u8],
+) -> Result<Vec<u8>, KeepError>
+    ensures { IfOk result (λ v. v.items ≡ first_bytes beginning life setup.now) }
+{
+    let mut bytes = begun_frame(alloc, beginning, life)?;
+    let place = bytes.len() as u64;
+    let frame = setup_frame(alloc, place, setup)?;
+    bytes.extend_from_slice(frame.as_slice())?;
+    Ok(bytes)
+}
+
+// Begins a journal in a file in which none stands.
+fn begin(
+    alloc: Global,
+    journal: &mut OpenJournal,
+    keeping: &Keeping<'_>,
+    machine: Machine,
+) -> Result<(), KeepError> {
+    let life = life_at(machine, Moment(0));
+    let frames = first_frames(alloc, keeping.drawn, life, keeping.setup)?;
+    cut(journal, 0)?;
+    add(journal, frames.as_slice())
+}
+
+// Has a file be whole frames, of which the second one is there.
+fn make_whole(
+    alloc: Global,
+    journal: &mut OpenJournal,
+    keeping: &Keeping<'_>,
+    machine: Machine,
+) -> Result<Counts, KeepError> {
+    let Some(whole) = looked_at(journal.bytes.as_slice(), keeping)? else {
+        let torn = journal.bytes.len() as u64;
+        begin(alloc, journal, keeping, machine)?;
+        return Ok(no_counts(0, torn));
+    };
+    if whole.torn > 0 {
+        cut(journal, whole.end as usize)?;
+    }
+    let mut counts = no_counts(whole.frames, whole.torn);
+    read_turns(alloc, journal.bytes.as_slice(), &mut counts)?;
+    if whole.frames <= 1 {
+        add_setup(alloc, journal, keeping.setup)?;
+    }
+    Ok(counts)
+}
+
+/// The file of a journal, opened, with whole frames alone, and how much of it there was.
+pub(crate) fn ready<R: AllocGlobal + Files<File = File> + RandomSource>(
+    rt: &R,
+    keeping: &Keeping<'_>,
+) -> Result<(OpenJournal, Counts), KeepError> {
+    let mut journal = open_journal(rt, keeping.name)?;
+    let machine = machine_now(rt)?;
+    let counts = make_whole(rt.alloc(), &mut journal, keeping, machine)?;
+    journal.file.sync_all()?;
+    sync_folder(rt, keeping.name)?;
+    Ok((journal, counts))
+}
