@@ -17,6 +17,7 @@ use coap_kept::{KeepError, keep};
 use coap_links::{Link, Trace, UdpLink};
 use coap_scripts::{Status, Stop};
 use coap_types::Endpoint;
+use std::alloc::Global;
 use std::cell::RefCell;
 use std::fs::File;
 use std::hash::RandomState;
