@@ -8,12 +8,12 @@
 //!
 //! ```
 //! use knifesilver::{Client, Config, Report, Request, Server, MAX_DATAGRAM, TEXT_PLAIN};
-//! use std::net::{Ipv4Addr, SocketAddrV4};
+//! use std::net::{Ipv6Addr, SocketAddr};
 //! use std::time::Instant;
 //!
 //! let now = Instant::now();
-//! let here = SocketAddrV4::new(Ipv4Addr::LOCALHOST, 40_001);
-//! let there = SocketAddrV4::new(Ipv4Addr::LOCALHOST, 5683);
+//! let here = SocketAddr::from((Ipv6Addr::LOCALHOST, 40_001));
+//! let there = SocketAddr::from((Ipv6Addr::LOCALHOST, 5683));
 //! let mut server = Server::new(&Config::default(), now)?;
 //! let mut client = Client::new(&Config::default(), there, now)?;
 //! server.set(now, "temperature", Some(TEXT_PLAIN), b"22.3 C")?;
@@ -56,6 +56,7 @@ pub mod exchange;
 mod journal;
 mod load;
 mod message;
+mod peers;
 mod raw;
 mod raw_exchange;
 mod server;
@@ -66,6 +67,7 @@ pub use errors::{CallError, CancelError, DelayError, NewError, OutOfMemory, Peek
 pub use journal::{Boot, Journal, JournalError, Replayed};
 pub use load::{Load, Would};
 pub use message::{peek, refusal, Code, Kind, Message, Method, Tag};
+pub use peers::{Key, Peer};
 pub use server::{Applied, Ended, Representation, Server};
 pub use setting::{Config, Transmit};
 
