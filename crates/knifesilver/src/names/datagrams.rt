@@ -49,8 +49,8 @@ pub extern "C" fn ks_names_fed(
     key: &[u8],
     name: &mut KsAddress,
 ) -> i32
-    // A datagram that is answered makes just that call of the table in the handle, and tells the name of its peer, that
-    // each place is taken, or that all names are used up.
+    // A datagram that is answered makes just that call of the table in the handle, and tells the name of its peer,
+    // that each place is taken, or that all names are used up.
     ensures led { IsAnswered result → Goes (IsNamed now (peer_key key.now) result name.new)
         handle.old.held handle.new.held }
     // Where no name is told, none is written.
@@ -103,8 +103,8 @@ pub extern "C" fn ks_names_sent(
     room: &mut [u8],
     len: &mut usize,
 ) -> i32
-    // A datagram to a name makes just that call of the table in the handle, and tells the key that has the name, byte for
-    // byte, or that none has it.
+    // A datagram to a name makes just that call of the table in the handle, and tells the key that has the name, byte
+    // for byte, or that none has it.
     ensures led { IsAnswered result
         → Goes (IsSent now (record { ip = name.now.ip; port = name.now.port }) result room.new len.new)
         handle.old.held handle.new.held }
@@ -114,8 +114,8 @@ pub extern "C" fn ks_names_sent(
     ensures small { (result ≡ SMALL_ROOM) ↔ (length room.old < KEY_ROOM) }
     // `ks_names_sent` never says of a handle with a table that it holds none.
     ensures live { HoldsNames handle.old.held → result ≢ NOT_LIVE }
-    // A datagram to a name is refused for a room that is too small or for want of a table in the handle, and for nothing
-    // else.
+    // A datagram to a name is refused for a room that is too small or for want of a table in the handle, and for
+    // nothing else.
     ensures why { IsRefused result → (result ≡ SMALL_ROOM) ⊎ (result ≡ NOT_LIVE) }
 {
     if room.len() < KEY_ROOM {

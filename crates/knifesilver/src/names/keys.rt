@@ -45,8 +45,8 @@ pub extern "C" fn ks_names_key(
     ensures small { (result ≡ SMALL_ROOM) ↔ (length room.old < KEY_ROOM) }
     // `ks_names_key` never says of a handle with a table that it holds none.
     ensures live { HoldsNames handle.old.held → result ≢ NOT_LIVE }
-    // To ask for the key of a name is refused for a room that is too small or for want of a table in the handle, and for
-    // nothing else.
+    // To ask for the key of a name is refused for a room that is too small or for want of a table in the handle, and
+    // for nothing else.
     ensures why { IsRefused result → (result ≡ SMALL_ROOM) ⊎ (result ≡ NOT_LIVE) }
 {
     if room.len() < KEY_ROOM {

@@ -13,5 +13,8 @@ returns-in-Ok-clause-led c = λ _.
     (Some (Names c.name_of.new.self)))) (sym c.in-Names.is) (
       Named c.in-Ok.endpoint,
       (refl, c.address.ensures),
-      record { step = named.step (λ is. subst (λ r. OnErr r ⊥) is tt); leads = named.led (λ is. subst (λ r. OnErr r ⊥) is tt) },
+      record {
+        step = named.step (λ is. subst (λ r. OnErr r ⊥) is tt);
+        leads = named.led (λ is. subst (λ r. OnErr r ⊥) is tt);
+      },
     )
