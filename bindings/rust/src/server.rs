@@ -264,7 +264,7 @@ impl<P: Peer> Server<P> {
     }
 
     /// Forgets a peer at once, from which nothing can come any more, as a DTLS session that is closed. Whether it was known.
-    /// One that is an IPv4 address is never forgotten so.
+    /// A request of it that still waits for its delay is carried out, and not told. An IPv4 address is never forgotten so.
     pub fn retire(&mut self, peer: &P) -> bool {
         let Some(name) = self.names.find(peer).filter(is_name) else { return false };
         self.held.retain(|held| *held != name);
