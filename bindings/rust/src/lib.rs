@@ -39,6 +39,9 @@
 //! The library below is proved to meet its contracts; `docs/EMBEDDING.md` says what they promise, of which calls, and
 //! what this crate promises without proof. An end is [`Send`] and not [`Sync`].
 //!
+//! Datagrams come from the addresses of sockets, IPv4 and IPv6, or from peers of a type of yours, as DTLS sessions are:
+//! see [`Peer`].
+//!
 //! A server stores values, and calls no function of yours. In [`exchange`] your code computes the answers, and a
 //! client asks for anything that one datagram can ask.
 //!
