@@ -10,7 +10,6 @@ import re
 HERE = pathlib.Path(__file__).resolve().parent
 TOP = HERE.parent
 HEADER = "bindings/include/knifesilver.h"
-NAMES = "bindings/include/ks_names.h"
 RAW = "bindings/rust/src/raw.rs"
 RAW_EXCHANGE = "bindings/rust/src/raw_exchange.rs"
 LIBRARY = "crates/knifesilver/src/"
@@ -30,7 +29,7 @@ IN_C = {rattle: c for rattle, (c, _, _) in PLAIN.items()}
 RUST_OF = {"void": "c_void", "char": "c_char", **{c: rust for c, rust, _ in PLAIN.values()}}
 POINTER = "*mut ()"
 POINTER_LEN = 8
-WRAPPERS = ("ks_server", "ks_client")
+WRAPPERS = ("ks_server", "ks_client", "ks_names")
 EXCHANGE_WRAPPERS = ("ks_answerer", "ks_asker", "ks_fetch", "ks_upload", "ks_assembly")
 # Answers and kinds of the exchanges that refuse nothing.
 EXCHANGE_ANSWERS = ("KS_READY", "KS_JOINED", "KS_AGAIN", "KS_RESPONSE", "KS_NOTIFICATION")
@@ -40,7 +39,7 @@ TEXTS = {("ks_server_applied", "room"), ("ks_peek", "room")}
 
 def read_all():
     """The texts that are compared, by file."""
-    files = [HEADER, EXCHANGE_HEADER, NAMES, RAW, RAW_EXCHANGE]
+    files = [HEADER, EXCHANGE_HEADER, RAW, RAW_EXCHANGE]
     for folder in (LIBRARY, EXCHANGE, TYPES, CODEC):
         files += sorted(str(file.relative_to(TOP)) for file in (TOP / folder).glob("**/*.rt"))
     return {file: (TOP / file).read_text() for file in files}
@@ -274,6 +273,7 @@ def library_numbers(texts):
     found["KS_PATH_ROOM"] = number_in(path, "MAX_SEGMENTS") * (1 + 3 * number_in(path, "MAX_SEGMENT_LEN"))
     head, token = texts[CODEC + "head.rt"], texts[TYPES + "token.rt"]
     found["KS_REFUSAL_ROOM"] = number_in(head, "HEADER_LEN") + number_in(token, "MAX_TOKEN_LEN")
+    found["KS_KEY_ROOM"] = number_in(texts[LIBRARY + "names/peer_key.rt"], "KEY_ROOM")
     # (RFC 7252, section 12.1.1)
     found.update({"KS_GET": 1, "KS_POST": 2, "KS_PUT": 3, "KS_DELETE": 4})
     return found
@@ -288,10 +288,8 @@ def number_faults(texts):
     for name, n in raw_numbers(texts, RAW):
         if numbers.get(name) != n:
             yield f"{name} is {n} in raw.rs, and {numbers.get(name)} in the header"
-    # (a header without proofs has refusals of its own)
-    more, more_refusals = header_numbers(texts[NAMES])
     owners = {0: "KS_OK", 1: "KS_DONE"}
-    for name, n in [(it, numbers[it]) for it in refusals] + [(it, more[it]) for it in more_refusals]:
+    for name, n in [(it, numbers[it]) for it in refusals]:
         owner = owners.setdefault(n, name)
         if owner != name:
             yield f"{name} and {owner} are both {n}"
@@ -376,7 +374,10 @@ WRONG = (
     (HEADER, "#define KS_PATH_ROOM 12256", "#define KS_PATH_ROOM 4096"),
     (HEADER, "case KS_CANCEL_UNKNOWN:", "case KS_CANCEL_QUEUE_FULL:"),
     (HEADER, "ks_server_due(ks_server *handle, uint64_t *at)", "ks_server_due(ks_server *handle, uint32_t *at)"),
-    (NAMES, "KS_NAMES_FULL = 96", "KS_NAMES_FULL = 49"),
+    (HEADER, "KS_NAMES_FULL = 96", "KS_NAMES_FULL = 49"),
+    (HEADER, "#define KS_KEY_ROOM 60", "#define KS_KEY_ROOM 61"),
+    (HEADER, "bool this_network, ", "uint32_t this_network, "),
+    (RAW, "places: u32, this_network: bool,", "places: u64, this_network: bool,"),
     (EXCHANGE_HEADER, "KS_ANSWER_GIVEN = 113", "KS_ANSWER_GIVEN = 112"),
     (EXCHANGE_HEADER, "uint64_t delay_ms);", "uint32_t delay_ms);"),
     (EXCHANGE + "crossing.rt", "pub id: u16,", "pub id: u32,"),

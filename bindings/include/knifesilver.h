@@ -1,4 +1,5 @@
-/* knifesilver.h: a client and a server of CoAP (RFC 7252, RFC 7641, RFC 7959) with no input or output of their own.
+/* knifesilver.h: a client and a server of CoAP (RFC 7252, RFC 7641, RFC 7959) with no input or output of their own, and
+ * names for peers at any kind of address.
  *
  * An end is a value behind a handle. You hand it what arrived and what you want, with the moment; it hands you the
  * datagrams to send, what a client had it do and what it reports. It opens no socket, reads no clock, starts no thread
@@ -54,7 +55,8 @@ enum {
     KS_BAD_PATH = -3,       /* over 16 segments, one of over 255 bytes, or a % without two hexadecimal digits */
     KS_SMALL_ROOM = -4,     /* the buffer is too small: nothing was taken, call again with a larger one */
     KS_BAD_ARGUMENT = -5,   /* an entity-tag of 0 or over 8 bytes, over 4 of them, a method or an error that is none; a
-                             * place of 2^62 or a turn of 2^32 bytes or more */
+                             * place of 2^62 or a turn of 2^32 bytes or more; a key of 0 or over 60 bytes, or no places
+                             * or over 1,048,576 */
     KS_BAD_SIZE = -6,       /* ks_config.size is neither 0 nor sizeof (ks_config); ks_end_load.size is not sizeof (ks_end_load) */
     KS_BAD_BLOCK_SIZE = -7, /* ks_config.block_size is none of 0, 16, 32, 64, 128, 256, 512 and 1,024 */
     KS_BAD_BODY_LIMIT = -8, /* ks_config.body_limit is over 1,048,576 */
@@ -501,6 +503,78 @@ int32_t ks_server_ended(ks_server *handle, ks_ended *ended);
  * by itself, 247 s after the peer's last message. After both, a name of the peer can be given to another. */
 int32_t ks_server_knows(ks_server *handle, uint64_t now, const ks_address *peer);
 
+/* ---- Names for peers --------------------------------------------------------------------------------------------- */
+
+/* An end compares addresses and reads nothing in them. So a ks_address can be the name of anything that sends datagrams:
+ * an IPv6 address with its scope, a DTLS session, a radio. This table gives such names to peers, and finds the peer of a
+ * name again. A peer is the bytes of a key that you choose; two spellings are two peers.
+ *
+ *     while (a datagram came from the peer of `key`)
+ *         if (ks_names_fed(&names, now, key, key_len, &name) == KS_OK) ks_server_feed(&server, now, &name, ..);
+ *     while (ks_server_next_out(&server, &name, room, ..) == KS_DONE)
+ *         if (ks_names_sent(&names, now, &name, key, sizeof key, &key_len) == KS_DONE) send to the peer of `key`;
+ *
+ * What is kept, for as long as the table lives, and what rests on it:
+ *  - No two peers have one name, and no name is given again. Else one is answered with what another asked.
+ *  - A peer keeps its name for 247 s after the last datagram from it or to it, and while the name is held. In that time
+ *    an end forgets what it remembers of the peer's messages, so no copy of one is served twice.
+ *  - A peer is refused a name only where each place is taken so. Else whose last datagram is the oldest makes room.
+ * Yours are these rules:
+ *  - Drop a datagram from a peer that gets no name, and one to a name that is nobody's. It counts as lost.
+ *  - Hold the name of a peer to which an end may send by itself: that of a client's server; and of a server each for
+ *    which ks_server_knows answers KS_DONE behind a feed. Release it once that answers KS_OK.
+ *  - A table begins with its end. One that begins anew under an end that goes on gives names twice.
+ * A moment before the last one counts as the last. A table goes with an end in one place of your program, and takes its
+ * moments from the same clock. */
+typedef struct { ks_handle handle; } ks_names;
+
+#define KS_KEY_ROOM 60          /* a key has 1 to 60 bytes */
+
+/* Why a peer gets no name. */
+enum ks_names_refusal {
+    KS_NAMES_FULL = 96,         /* each place is taken: by a name that is held, or that had a datagram in the last 247 s */
+    KS_NAMES_SPENT = 97         /* all names are used up: 65,535 * 2^32, or of "this network" 65,535 * 2^24 */
+};
+
+/* Makes a table in which no peer has a name, for at most so many peers at once, 1 to 1,048,576; what the handle held is
+ * freed. With `this_network` all names are in 0.0.0.0/8, from which no IPv4 datagram comes (RFC 1122, section 3.2.1.3):
+ * then IPv4 peers can go by their own addresses beside them. The keys of the seed are those of the hash by which peers are
+ * found. KS_OK; KS_BAD_ARGUMENT (the number of places), KS_NO_MEMORY, after which the handle holds what it held. */
+int32_t ks_names_new(ks_names *handle, uint32_t places, bool this_network, const ks_seed *seed);
+
+/* Frees it. The handle is empty then: it may be freed again, and used for a new table. */
+void ks_names_free(ks_names *handle);
+
+/* A datagram came from this peer: KS_OK with the name that it has, or a new one; ks_names_refusal; KS_BAD_ARGUMENT (the
+ * key), KS_NO_MEMORY (never of a peer that has a name), KS_NOT_LIVE. */
+int32_t ks_names_fed(ks_names *handle, uint64_t now, const void *key, size_t key_len, ks_address *name);
+
+/* A datagram goes to this name: KS_DONE with the peer's key at the front of the room; KS_OK where it is nobody's;
+ * KS_SMALL_ROOM (under KS_KEY_ROOM bytes), KS_NOT_LIVE. It takes no memory. */
+int32_t ks_names_sent(ks_names *handle, uint64_t now, const ks_address *name, void *room, size_t room_len, size_t *len);
+
+/* The name of a peer: KS_DONE; KS_OK where it has none; KS_BAD_ARGUMENT (the key), KS_NOT_LIVE. Nothing changes, and it
+ * takes no memory. So what asks nothing can be dropped where its peer has no name, and takes no place. */
+int32_t ks_names_of(ks_names *handle, const void *key, size_t key_len, ks_address *name);
+
+/* As ks_names_sent, but nothing goes there, and nothing changes. */
+int32_t ks_names_key(ks_names *handle, const ks_address *name, void *room, size_t room_len, size_t *len);
+
+/* Holds a name: it is kept until it is released or retired. KS_DONE, also where it is held already; KS_OK where it is
+ * nobody's; KS_NO_MEMORY (never of a name that is held, or nobody's), KS_NOT_LIVE. */
+int32_t ks_names_hold(ks_names *handle, const ks_address *name);
+
+/* Holds it no more; that counts as a datagram. KS_DONE; KS_OK where it was not held; KS_NO_MEMORY (never of a name that is
+ * not held), KS_NOT_LIVE. */
+int32_t ks_names_release(ks_names *handle, uint64_t now, const ks_address *name);
+
+/* Forgets a name at once. Only where nothing can come from its peer any more, as from a DTLS session that is closed; the
+ * key may come again, and gets another name. KS_DONE; KS_OK where it is nobody's; KS_NOT_LIVE. */
+int32_t ks_names_retire(ks_names *handle, const ks_address *name);
+
+/* How many peers have a name: KS_OK with *taken written; KS_NOT_LIVE. */
+int32_t ks_names_load(ks_names *handle, uint64_t *taken);
+
 /* ---- What an answer says ----------------------------------------------------------------------------------------- */
 
 /* Whether a call refused. (Not of ks_peek, which answers KS_OK or what is wrong with the datagram, and not of
@@ -516,7 +590,7 @@ static inline const char *ks_answer_text(int32_t answer) {
     case KS_NO_MEMORY: return "out of memory";
     case KS_BAD_PATH: return "the text is no path";
     case KS_SMALL_ROOM: return "the buffer is too small";
-    case KS_BAD_ARGUMENT: return "a method, an entity-tag or a code that is none";
+    case KS_BAD_ARGUMENT: return "a method, an entity-tag, a code, a key or a number of places that is none";
     case KS_BAD_SIZE: return "the size of the struct is none";
     case KS_BAD_BLOCK_SIZE: return "the block size is none of 16, 32, .. 1,024";
     case KS_BAD_BODY_LIMIT: return "the limit of bodies is not 1 to 1,048,576";
@@ -545,6 +619,8 @@ static inline const char *ks_answer_text(int32_t answer) {
     case KS_WOULD_NO_ID: return "the datagram would not be served, as no Message ID is free";
     case KS_WOULD_ACKNOWLEDGE: return "the datagram would acknowledge what is outstanding";
     case KS_WOULD_RESET: return "the datagram would be a Reset";
+    case KS_NAMES_FULL: return "each place of the names is taken";
+    case KS_NAMES_SPENT: return "all names are used up";
     case KS_JOURNAL_DAMAGED: return "whole frames of the journal stand behind one that isn't";
     case KS_JOURNAL_NOT_BEGUN: return "no frame of the journal is whole";
     case KS_JOURNAL_OTHER_FORMAT: return "a journal of another format";

@@ -72,7 +72,7 @@ static int copies(const uint8_t *bytes, size_t len) {
 }
 
 static bool up(caller *c) {
-    uint8_t peer[KS_NAMES_KEY], room[2048];
+    uint8_t peer[KS_KEY_ROOM], room[2048];
     size_t peer_len, len;
     bool any = false;
     while (dtls_next_cipher(c->d, peer, &peer_len, room, sizeof room, &len)) {
@@ -85,7 +85,7 @@ static bool up(caller *c) {
 }
 
 static bool down(caller *all, size_t n) {
-    uint8_t peer[KS_NAMES_KEY], room[2048];
+    uint8_t peer[KS_KEY_ROOM], room[2048];
     size_t peer_len, len;
     bool any = false;
     while (dtls_next_cipher(server, peer, &peer_len, room, sizeof room, &len)) {
@@ -134,7 +134,7 @@ static int twice(long n, const uint8_t *b, size_t len) {
 /* What the parts share: the clients, whose names, and what came last. */
 static caller a, again, all[9];
 static ks_address name, old;
-static uint8_t room[2048], peer[KS_NAMES_KEY];
+static uint8_t room[2048], peer[KS_KEY_ROOM];
 static size_t len, peer_len;
 
 /* A session, its identity, both ways; nothing in the clear; a repeated ciphertext is given out once. */
@@ -368,7 +368,7 @@ static unsigned long fed;
 
 /* What the client sends comes with bits turned, cut, made up, from another address; and then, mostly, as it is. */
 static void feed_damaged_up(void) {
-    uint8_t of[KS_NAMES_KEY], bad[2048];
+    uint8_t of[KS_KEY_ROOM], bad[2048];
     while (dtls_next_cipher(a.d, peer, &peer_len, room, sizeof room, &len)) {
         for (int k = 0; k < 20; k++) {
             size_t bad_len = rnd() % 4 ? len : rnd() % (len + 1);

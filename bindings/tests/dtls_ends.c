@@ -79,7 +79,7 @@ static void leave(struct caller *c) {
 static void live(struct caller *c) {
     static const uint8_t secret[32];
     char identity[32];
-    uint8_t out[1400], peer[KS_NAMES_KEY];
+    uint8_t out[1400], peer[KS_KEY_ROOM];
     size_t len, peer_len;
     ks_address to;
     long me = c - callers;
@@ -136,7 +136,7 @@ static void live(struct caller *c) {
 }
 
 static void serve(void) {
-    uint8_t in[1400], out[1400], peer[KS_NAMES_KEY];
+    uint8_t in[1400], out[1400], peer[KS_KEY_ROOM];
     char path[2000];
     size_t len, peer_len;
     ks_address name;

@@ -1,186 +1,290 @@
-/* A randomized test of ks_names.h against a model that keeps all that ever happened: names [STEPS] [SEED [knows]].
- * With `knows` an end is asked in place of looking at what goes out; which names it knows is made up.
- * It ends with status 1 and what was wrong. Time is made up; no library is called. */
-#include "ks_names.h"
-#include <stdio.h>
-#include <stdlib.h>
+/* names: a table of names (ks_names) against a model that does what its contract says, for random calls, now and then
+ * with an allocation that is refused: names [STEPS] [SEED]. Built with -DMISTAKE=n the model has a mistake, which has to
+ * be noticed. Time is made up. Ends with status 0, or says what differs. */
+#include "both_ends.h"
 
+#ifndef MISTAKE
+#define MISTAKE 0
+#endif
 #define PEERS 1200u
 #define PLACES 64u
-#define WATCH 3600000u
-#define KEEP 247000u /* its own, and not the header's */
+#define PORTS 65535u
 
-static uint64_t s = 88172645463325252u;
-static uint64_t rnd(void) { return s ^= s << 13, s ^= s >> 7, s ^= s << 17; }
+/* A mistake of the model: it is there where it is that one. */
+static bool is_wrong(int mistake) { return MISTAKE == mistake; }
 
-/* The model: of each peer its name, when something came or went last, whether it was sent an Observe, whether it is
- * held. */
+/* Of each peer: its key, and its name as a number. Who came or was sent to last has the greatest turn. */
 static struct peer {
-    uint8_t key[KS_NAMES_KEY];
+    uint8_t key[KS_KEY_ROOM];
     size_t len;
-    bool named, watched, held, known;
-    ks_address name;
-    uint64_t at;
+    bool named, held;
+    uint64_t number, at, turn;
 } peers[PEERS];
-/* And of each name ever given, whose it was. */
-static struct given {
-    ks_address name;
-    uint32_t peer;
-} * all;
-static size_t all_len, all_room;
+static uint32_t owners[4000000]; /* of each number: whose name it was */
+static uint64_t given, taken, at, turns, full, lost;
+static ks_names names;
 
-static void broken(const char *rule, long step) { printf("names: %s, at step %ld\n", rule, step), exit(1); }
-static bool same(ks_address a, ks_address b) { return memcmp(a.ip, b.ip, 4) == 0 && a.port == b.port; }
-static bool asks;
-static bool over(const struct peer *p, uint64_t now) {
-    return p->named && !p->held && !(asks && p->known) && now - p->at > KEEP + (p->watched && !asks ? WATCH : 0);
+static ks_address name_of(uint64_t number) {
+    uint64_t ip = number / PORTS;
+    return (ks_address){{(uint8_t)(ip >> 24), (uint8_t)(ip >> 16), (uint8_t)(ip >> 8), (uint8_t)ip},
+                        (uint16_t)(number % PORTS + 1)};
 }
 
-/* Names are looked up in a set of 2^22 slots, by their 48 bits. */
-static uint32_t *slots;
-static size_t slot(ks_address n) {
-    uint64_t x = ((uint64_t)n.ip[0] << 24 | (uint64_t)n.ip[1] << 16 | (uint64_t)n.ip[2] << 8 | n.ip[3]) << 16 | n.port;
-    size_t at = (x * 0x9e3779b97f4a7c15u) >> 42;
-    while (slots[at] != 0 && !same(all[slots[at] - 1].name, n)) at = (at + 1) & ((1u << 22) - 1);
-    return at;
+/* Whose name it is, or nobody. */
+static struct peer *owner(uint64_t number) {
+    struct peer *p = number < given ? &peers[owners[number]] : NULL;
+    return p != NULL && p->named && p->number == number ? p : NULL;
 }
 
-static bool knows(void *end, const ks_address *name) {
-    return (void)end, peers[all[slots[slot(*name)] - 1].peer].known;
+static void pass(uint64_t to) {
+    if (to > at || is_wrong(1)) at = to;
 }
 
-static ks_names t;
-static uint64_t now, full, taken;
+static void touch(struct peer *p) {
+    if (p->held) return;
+    p->at = at;
+    p->turn = ++turns;
+}
 
-static void begin(void) {
-    static ks_name_place places[PLACES];
-    ks_names_init(&t, places, PLACES, WATCH, rnd(), rnd());
-    if (asks) t.knows = knows;
-    slots = calloc(1u << 22, sizeof *slots);
+static uint64_t kept_ms(void) { return is_wrong(3) ? 246999 : is_wrong(4) ? 247001 : 247000; }
+
+/* The peer whose name is lost where another needs its place: whose last datagram is the oldest. */
+static struct peer *oldest(void) {
+    struct peer *it = NULL;
     for (uint32_t i = 0; i < PEERS; i++) {
         struct peer *p = &peers[i];
-        p->len = 1 + rnd() % KS_NAMES_KEY;
-        for (size_t j = 0; j < p->len; j++) p->key[j] = (uint8_t)(rnd() % 2);
-        if (i > 0 && rnd() % 2) memcpy(p->key, peers[i - 1].key, p->len = peers[i - 1].len); /* close to another's */
-        if (p->len < 4) p->len = 4;
+        bool comes_first = it == NULL || (is_wrong(5) ? p->turn > it->turn : p->turn < it->turn);
+        if (p->named && (!p->held || is_wrong(6)) && comes_first) it = p;
+    }
+    return it != NULL && (at - it->at > kept_ms() || is_wrong(7)) ? it : NULL;
+}
+
+static void forget(struct peer *p) {
+    p->named = p->held = false;
+    taken--;
+}
+
+/* What a datagram from it is answered. */
+static int32_t comes(struct peer *p) {
+    if (p->named) {
+        if (!is_wrong(8)) touch(p);
+        return KS_OK;
+    }
+    if (taken >= PLACES) {
+        struct peer *gone = oldest();
+        if (gone == NULL) return full++, KS_NAMES_FULL;
+        lost++;
+        forget(gone);
+    }
+    p->named = true;
+    p->held = false;
+    p->number = is_wrong(9) ? given % 256 : given;
+    owners[given++] = (uint32_t)(p - peers);
+    taken++;
+    touch(p);
+    return KS_OK;
+}
+
+static void refuse_some(void) { refuse_at = word() % 64 == 0 ? allocated + 1 + (long)(word() % 3) : -1; }
+
+static void told(const ks_address *name, const struct peer *p) {
+    ks_address is = name_of(p->number);
+    IS(memcmp(name->ip, is.ip, 4), 0);
+    IS(name->port, is.port);
+}
+
+static void feed(struct peer *p, uint64_t now_told) {
+    ks_address name = {{9, 9, 9, 9}, 9};
+    bool had = p->named;
+    refuse_some();
+    int32_t answer = ks_names_fed(&names, now_told, p->key, p->len, &name);
+    refuse_at = -1;
+    if (answer == KS_NO_MEMORY) {
+        no_memory++;
+        IS(had, false);
+        IS(name.port, 9);
+        return;
+    }
+    pass(now_told);
+    IS(answer, comes(p));
+    if (answer == KS_OK) told(&name, p);
+    else IS(name.port, 9);
+}
+
+/* To a name that is told, or was. */
+static uint64_t drawn(void) {
+    struct peer *p = &peers[word() % PEERS];
+    return p->named || word() % 4 ? p->number : word() % (given + 3);
+}
+
+static void key_is(int32_t answer, const uint8_t *key, size_t len, const struct peer *p) {
+    IS(answer, p != NULL ? KS_DONE : KS_OK);
+    if (p == NULL) return;
+    IS(len, p->len);
+    IS(memcmp(key, p->key, len), 0);
+}
+
+static void look(uint64_t number) {
+    ks_address name = name_of(number);
+    uint8_t key[KS_KEY_ROOM];
+    uint64_t load = 0;
+    size_t len = 0;
+    int32_t answer = ks_names_key(&names, &name, key, sizeof key, &len);
+    key_is(answer, key, len, owner(number));
+    if (answer == KS_DONE) {
+        IS(ks_names_of(&names, key, len, &name), KS_DONE);
+        told(&name, owner(number));
+    }
+    struct peer *p = &peers[word() % PEERS];
+    IS(ks_names_of(&names, p->key, p->len, &name), p->named ? KS_DONE : KS_OK);
+    IS(ks_names_load(&names, &load), KS_OK);
+    IS(load, taken);
+}
+
+static void send_to(uint64_t number, uint64_t now_told) {
+    ks_address name = name_of(number);
+    uint8_t key[KS_KEY_ROOM];
+    size_t len = 0;
+    struct peer *p = owner(number);
+    int32_t answer = ks_names_sent(&names, now_told, &name, key, sizeof key, &len);
+    pass(now_told);
+    key_is(answer, key, len, p);
+    if (p != NULL && !is_wrong(10)) touch(p);
+}
+
+static void hold(uint64_t number) {
+    ks_address name = name_of(number);
+    struct peer *p = owner(number);
+    refuse_some();
+    int32_t answer = ks_names_hold(&names, &name);
+    refuse_at = -1;
+    if (answer == KS_NO_MEMORY) {
+        no_memory++;
+        IS(p != NULL && !p->held, true);
+        return;
+    }
+    IS(answer, p != NULL ? KS_DONE : KS_OK);
+    if (p != NULL) p->held = true;
+}
+
+static void release(uint64_t number, uint64_t now_told) {
+    ks_address name = name_of(number);
+    struct peer *p = owner(number);
+    refuse_some();
+    int32_t answer = ks_names_release(&names, now_told, &name);
+    refuse_at = -1;
+    if (answer == KS_NO_MEMORY) {
+        no_memory++;
+        IS(p != NULL && p->held, true);
+        return;
+    }
+    pass(now_told);
+    bool was_held = p != NULL && p->held;
+    IS(answer, was_held ? KS_DONE : KS_OK);
+    if (!was_held && (p == NULL || !is_wrong(2))) return;
+    p->held = false;
+    if (!is_wrong(11)) touch(p);
+}
+
+static void retire(uint64_t number) {
+    ks_address name = name_of(number);
+    struct peer *p = owner(number);
+    IS(ks_names_retire(&names, &name), p != NULL ? KS_DONE : KS_OK);
+    if (p != NULL && !is_wrong(12)) forget(p);
+}
+
+/* Keys of every length, many of them close to another's. */
+static void draw_keys(void) {
+    for (uint32_t i = 0; i < PEERS; i++) {
+        struct peer *p = &peers[i];
+        p->len = 4 + word() % (KS_KEY_ROOM - 3);
+        for (size_t j = 0; j < p->len; j++) p->key[j] = (uint8_t)(word() % 2);
+        if (i > 0 && word() % 2) memcpy(p->key, peers[i - 1].key, p->len = peers[i - 1].len);
         memcpy(p->key + p->len - 4, &i, 4);
     }
 }
 
 /* Time goes on, at times just to the edge of what is kept. */
 static void go_on(void) {
-    uint64_t r = rnd() % 1000;
-    if (r == 3 && peers[r = rnd() % 70].named && peers[r].at + KEEP > now)
-        now = peers[r].at + KEEP + (peers[r].watched ? WATCH : 0) + rnd() % 2;
-    else if (r < 3) now += rnd() % 400000;
-    else if (r < 500) now += rnd() % 4000;
+    uint64_t by = word() % 1000;
+    struct peer *p = &peers[word() % 70];
+    if (by == 3 && p->named && p->at + 247000 > now) now = p->at + 247000 + word() % 2;
+    else if (by < 3) now += word() % 400000;
+    else if (by < 500) now += word() % 4000;
 }
 
-/* A new name was given: no one had it before, and its place was that of one who is over, or free. */
-static void note_given(uint32_t i, ks_address name, uint64_t clock, long step) {
-    size_t at = slot(name);
-    if (slots[at] != 0) broken(all[slots[at] - 1].peer == i ? "a name is its own again" : "a name is another's", step);
-    if (all_len == all_room) all = realloc(all, (all_room = all_room * 2 + 1024) * sizeof *all);
-    all[all_len++] = (struct given){name, i}, slots[at] = (uint32_t)all_len;
-    if (all_len > 2000000) broken("too many names", step);
-    peers[i].named = true, peers[i].watched = peers[i].held = false, peers[i].name = name;
-    taken++;
-    for (uint32_t j = 0; j < PEERS && taken > t.taken; j++) {
-        ks_address n;
-        if (j == i || !peers[j].named || ks_names_find(&t, peers[j].key, peers[j].len, &n) == KS_DONE) continue;
-        if (!over(&peers[j], clock)) broken("another's place is taken too early", step);
-        peers[j].named = false, taken--;
-    }
-    if (taken != t.taken) broken("places in use", step);
-}
-
-/* It is lawful only where no place is free, and nobody is over. */
-static void note_full(struct peer *p, uint64_t clock, long step) {
-    if (p->named && !over(p, clock)) broken("forgotten too early, and no place", step);
-    if (p->named) taken--;
-    p->named = false, full++;
-    for (uint32_t j = 0; j < PEERS && !asks; j++) /* (who is not known any more is asked for again later) */
-        if (over(&peers[j], clock)) broken("a place is free, and is not given", step);
-    if (taken < PLACES) broken("a place is free", step);
-}
-
-static void receive(uint32_t i, uint64_t told, long step) {
-    struct peer *p = &peers[i];
-    ks_address name = {{0}, 0};
-    int32_t got = ks_names_from(&t, told, p->key, p->len, &name);
-    uint64_t clock = t.now;
-    if (got == KS_NAMES_FULL) {
-        note_full(p, clock, step);
-        return;
-    }
-    if (p->named && got == KS_OK && !same(p->name, name)) broken("a peer has another name", step);
-    if (p->named && got == KS_DONE) { /* it was forgotten meanwhile */
-        if (!over(p, clock)) broken("forgotten too early", step);
-        p->named = false;
-    }
-    if (got == KS_DONE) note_given(i, name, clock, step);
-    else if (!p->named) broken("a name that nobody was given", step);
-    p->at = clock;
-}
-
-/* To the peer's name, or to any that was ever given. */
-static void answer(struct peer *p, uint64_t told, long step) {
-    static const uint8_t notification[] = {0x51, 0x45, 1, 2, 9, 0x61, 5, 0xff, 'x'};
-    static const uint8_t plain[] = {0x61, 0x45, 1, 2, 9, 0xff, 'x'};
-    bool observe = rnd() % 4 == 0;
-    uint8_t key[KS_NAMES_KEY];
-    size_t len = 0;
-    if (all_len == 0) return;
-    ks_address to = p->named ? p->name : all[rnd() % all_len].name;
-    struct peer *of = &peers[all[slots[slot(to)] - 1].peer];
-    uint64_t clock = told > t.now ? told : t.now;
-    bool live = of->named && same(of->name, to);
-    bool got = observe ? ks_names_to(&t, told, &to, notification, sizeof notification, key, &len)
-                       : ks_names_to(&t, told, &to, plain, sizeof plain, key, &len);
-    if (got != live && !(live && over(of, clock))) broken("an old name is known", step);
-    if (got && (len != of->len || memcmp(key, of->key, len) != 0)) broken("another's identity", step);
-    if (got) of->at = clock, of->watched = of->watched || observe;
-}
-
-/* All that have names have different ones, and the table finds them. */
-static void look_at_all(uint64_t clock, long step) {
-    ks_address name;
-    for (uint32_t j = 0; j < PEERS; j++) {
-        if (!peers[j].named) continue;
-        bool found = ks_names_find(&t, peers[j].key, peers[j].len, &name) == KS_DONE;
-        if (found ? !same(name, peers[j].name) : !over(&peers[j], clock)) broken("not found by its identity", step);
-        for (uint32_t k = 0; k < j; k++)
-            if (peers[k].named && same(peers[k].name, peers[j].name)) broken("two peers have one name", step);
-    }
-}
-
-static void step_once(long step) {
+static void step(void) {
     go_on();
-    uint64_t told = rnd() % 50 == 0 && now > 9 ? now - rnd() % 9 : now; /* a clock that jumps back */
-    uint32_t i = (uint32_t)(rnd() % 3 ? rnd() % 70 : rnd() % PEERS);
-    struct peer *p = &peers[i];
-    uint64_t what = rnd() % 16, clock = t.now;
-    if (what < 8) receive(i, told, step);
-    else if (what < 12) answer(p, told, step);
-    else if (what == 12 && p->named && rnd() % 4 == 0 && ks_names_hold(&t, &p->name)) p->held = true, p->at = t.now;
-    else if (what == 13 && p->named && ks_names_release(&t, &p->name))
-        p->held = false, p->watched = true, p->at = t.now;
-    else if (what == 14 && p->named && rnd() % 4 == 0 && ks_names_retire(&t, &p->name))
-        p->named = p->held = false, taken--;
-    else if (what == 15) {
-        if (asks) p->known = rnd() % 4 == 0;
-        if (step % 64 == 0) look_at_all(clock, step);
-    }
+    uint64_t now_told = word() % 50 == 0 && now > 300000 ? now - word() % 300000 : now; /* a clock that jumps back */
+    struct peer *p = &peers[word() % 3 ? word() % 70 : word() % PEERS];
+    uint64_t what = word() % 16;
+    if (what < 8) feed(p, now_told);
+    else if (what < 12) send_to(drawn(), now_told);
+    else if (what == 12 && word() % 4 == 0) hold(drawn());
+    else if (what == 13) release(drawn(), now_told);
+    else if (what == 14 && word() % 4 == 0) retire(drawn());
+    else if (what == 15) look(drawn());
+}
+
+/* What is refused, and leaves the table as it is. */
+static void refusals(const ks_seed *seed) {
+    ks_names none = {{0}};
+    ks_address name = {{0, 0, 0, 0}, 1};
+    uint8_t key[KS_KEY_ROOM + 1] = {0};
+    uint64_t load = 7;
+    size_t len = 7;
+    IS(ks_names_new(&none, 0, true, seed), KS_BAD_ARGUMENT);
+    IS(ks_names_new(&none, 1048577, true, seed), KS_BAD_ARGUMENT);
+    IS(ks_names_fed(&none, 0, key, 1, &name), KS_NOT_LIVE);
+    IS(ks_names_sent(&none, 0, &name, key, sizeof key, &len), KS_NOT_LIVE);
+    IS(ks_names_key(&none, &name, key, sizeof key, &len), KS_NOT_LIVE);
+    IS(ks_names_of(&none, key, 1, &name), KS_NOT_LIVE);
+    IS(ks_names_hold(&none, &name), KS_NOT_LIVE);
+    IS(ks_names_release(&none, 0, &name), KS_NOT_LIVE);
+    IS(ks_names_retire(&none, &name), KS_NOT_LIVE);
+    IS(ks_names_load(&none, &load), KS_NOT_LIVE);
+    IS(ks_names_fed(&names, 0, key, 0, &name), KS_BAD_ARGUMENT);
+    IS(ks_names_fed(&names, 0, key, KS_KEY_ROOM + 1, &name), KS_BAD_ARGUMENT);
+    IS(ks_names_of(&names, key, 0, &name), KS_BAD_ARGUMENT);
+    IS(ks_names_sent(&names, 0, &name, key, KS_KEY_ROOM - 1, &len), KS_SMALL_ROOM);
+    IS(ks_names_key(&names, &name, key, KS_KEY_ROOM - 1, &len), KS_SMALL_ROOM);
+    IS(load, 7);
+    IS(len, 7);
+    IS(ks_names_load(&names, &load), KS_OK);
+    IS(load, 0);
+}
+
+/* A handle of the one kind holds nothing for calls of the other; and all names, where they are not confined, begin alike. */
+static void other_kinds(const ks_seed *seed) {
+    ks_config usual = {0};
+    ks_names other = {{0}};
+    ks_address name = {{0}, 0};
+    union { ks_server server; ks_names names; } both = {.names = {{0}}};
+    IS(ks_server_new(&both.server, &usual, seed), KS_OK);
+    IS(ks_names_fed(&both.names, 0, "a", 1, &name), KS_NOT_LIVE);
+    IS(ks_names_new(&both.names, 1, false, seed), KS_OK);
+    IS(ks_server_feed(&both.server, 0, &name, "", 0, 0), KS_NOT_LIVE);
+    IS(ks_names_fed(&both.names, 0, "a", 1, &name), KS_OK);
+    IS(name.port, 1);
+    ks_names_free(&both.names);
+    ks_names_free(&both.names);
+    for (refuse_at = allocated + 1; ks_names_new(&other, 64, true, seed) != KS_OK; refuse_at = allocated + 1 + no_memory)
+        IS(++no_memory < 9, true);
+    refuse_at = -1;
+    ks_names_free(&other);
 }
 
 int main(int argc, char **argv) {
-    long steps = argc > 1 ? atol(argv[1]) : 1000000;
-    if (argc > 2) s ^= strtoull(argv[2], NULL, 10) * 0x9e3779b97f4a7c15u;
-    asks = argc > 3;
-    begin();
-    for (long step = 0; step < steps; step++) step_once(step);
-    printf("names%s: %ld steps, %u peers, %u places: %zu names given, %llu forgotten, %llu times no place\n",
-           asks ? " with knows" : "", steps, PEERS, PLACES, all_len, (unsigned long long)t.forgotten,
-           (unsigned long long)full);
+    long steps = argc > 1 ? atol(argv[1]) : 400000;
+    ks_seed seed = {word(), word(), word()};
+    for (int skip = argc > 2 ? atoi(argv[2]) : 0; skip > 0; skip--) word();
+    IS(ks_names_new(&names, PLACES, true, &seed), KS_OK);
+    refusals(&seed);
+    other_kinds(&seed);
+    draw_keys();
+    while (steps-- > 0) step();
+    printf("names: %llu given, %llu lost to others, %llu times no place, %ld times no memory\n",
+           (unsigned long long)given, (unsigned long long)lost, (unsigned long long)full, no_memory);
+    ks_names_free(&names);
     return 0;
 }

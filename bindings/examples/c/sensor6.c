@@ -3,29 +3,29 @@
  * it. Both are read-only (4.05); whatever else a client makes is stored. KNIFESILVER_PCAP names a capture of all
  * messages. SIGTERM ends it; its last line says what it did. */
 #define _GNU_SOURCE
-#include "ks_names.h"
+#include "ks_places.h"
 #include "ks_udp6.h"
 #include "running.h"
 #include <poll.h>
 
 #define PEERS 4096
-/* The temperature is measured once a day at least, so that an observer of it keeps its name (ks_names.h). What clients
+/* The temperature is measured once a day at least, so that an observer of it keeps its name (ks_places.h). What clients
  * store need not change: who observes that and hears nothing for a day can lose its name, and the observation. */
 #define DAY_MS 86400000u
 
 static ks_server server;
-static ks_names names;
+static ks_places names;
 static ks_name_place places[PEERS];
 static int udp;
 static unsigned long fed, refused, dropped, sent, unknown;
 
 static void send_all(void) {
     static uint8_t out[KS_DATAGRAM_ROOM];
-    uint8_t key[KS_NAMES_KEY];
+    uint8_t key[KS_KEY_ROOM];
     ks_address to;
     size_t len, key_len;
     while (ks_server_next_out(&server, &to, out, sizeof out, &len) == KS_DONE) {
-        if (!ks_names_to(&names, now_ms(), &to, out, len, key, &key_len)) {
+        if (!ks_places_to(&names, now_ms(), &to, out, len, key, &key_len)) {
             unknown++;
             continue;
         }
@@ -39,8 +39,8 @@ static void send_all(void) {
  * reject: it gets a name for a request, or for what a CON says that is none. */
 static bool is_named(const uint8_t key[KS_UDP6_KEY], const ks_message *m, int32_t fault, ks_address *name) {
     bool asks = m->kind == KS_CON || (fault == KS_OK && m->kind == KS_NON && m->code != 0);
-    if (!asks && ks_names_find(&names, key, KS_UDP6_KEY, name) != KS_DONE) return false;
-    return !ks_refused(ks_names_from(&names, now_ms(), key, KS_UDP6_KEY, name));
+    if (!asks && ks_places_find(&names, key, KS_UDP6_KEY, name) != KS_DONE) return false;
+    return !ks_refused(ks_places_from(&names, now_ms(), key, KS_UDP6_KEY, name));
 }
 
 static void receive(void) {
@@ -75,7 +75,7 @@ int main(int argc, char **argv) {
     ks_config config = {.size = sizeof config, .base = ks_base(random_word())};
     ks_seed seed = random_seed();
     if (ks_server_new(&server, &config, &seed) != KS_OK || !tell_links(&server)) return 1;
-    ks_names_init(&names, places, PEERS, DAY_MS, random_word(), random_word());
+    ks_places_init(&names, places, PEERS, DAY_MS, random_word(), random_word());
     begin_capture();
     end_by_signal();
     while (!is_over) {

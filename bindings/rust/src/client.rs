@@ -1,23 +1,31 @@
 //! A client of one server.
 
-use crate::errors::{called, cancelled, made, ticked, CallError, CancelError, NewError, OutOfMemory};
+use crate::errors::{called, cancelled, made, ticked, CallError, CancelError, NamesError, NewError, OutOfMemory};
 use crate::load::{self, Load, Would};
 use crate::message::{Code, Method, Tag};
+use crate::peers::{is_name, Peer, Table};
 use crate::raw;
-use crate::setting::{address, format_number, format_of, socket_address, Config, Surroundings, Transmit};
+use crate::setting::{format_number, format_of, Config, Surroundings, Transmit};
 use crate::MAX_DATAGRAM;
 use std::fmt;
-use std::net::SocketAddrV4;
+use std::net::SocketAddr;
 use std::time::Instant;
 
-/// A client of one server. One call runs at a time, 8 wait; 16 observations may be live.
+/// A client of one server, which is a peer of any kind (see [`Peer`]), as a rule the address of a socket. One call runs at
+/// a time, 8 wait; 16 observations may be live.
 ///
 /// A call starts in [`Client::handle_timeout`]: call that after each `call`, `observe`, `cancel` and `handle`.
-pub struct Client {
+pub struct Client<P = SocketAddr> {
     raw: raw::Client,
     around: Surroundings,
+    names: Table<P>,
+    // The last moment at which something was handed in.
+    latest: u64,
     room: Vec<u8>,
 }
+
+// So many peers have names at once, strangers among them.
+const PLACES: u32 = 64;
 
 /// The number of a call or of an observation.
 #[derive(Clone, Copy, Debug, PartialEq, Eq, Hash)]
@@ -121,12 +129,31 @@ pub enum Report {
 }
 
 impl Client {
-    /// A client of that server, to which nothing has happened.
-    pub fn new(config: &Config, server: SocketAddrV4, now: Instant) -> Result<Client, NewError> {
+    /// A client of the server at that address of a socket, to which nothing has happened.
+    pub fn new(config: &Config, server: impl Into<SocketAddr>, now: Instant) -> Result<Client, NewError> {
+        Client::of_peer(config, server.into(), now)
+    }
+}
+
+impl<P: Peer> Client<P> {
+    /// A client of a server that is a peer of another kind.
+    pub fn of_peer(config: &Config, server: P, now: Instant) -> Result<Client<P>, NewError> {
         let mut around = Surroundings::new(config, now);
         let mut raw = raw::Client::empty();
-        made(raw.make(&address(server), &config.raw(), &around.seed()))?;
-        Ok(Client { raw, around, room: Vec::new() })
+        let seed = around.seed();
+        let mut names = Table::new(PLACES, &around.seed())?;
+        let server = names.fed(0, &server).map_err(|_| NewError::Memory)?;
+        if is_name(&server) {
+            names.hold(&server).map_err(|_| NewError::Memory)?;
+        }
+        made(raw.make(&server, &config.raw(), &seed))?;
+        Ok(Client { raw, around, names, latest: 0, room: Vec::new() })
+    }
+
+    // The milliseconds of a moment at which something is handed in.
+    fn pass(&mut self, now: Instant) -> u64 {
+        self.latest = self.latest.max(self.around.moment(now));
+        self.latest
     }
 
     /// Takes a request, which starts in `handle_timeout`. Its number.
@@ -160,10 +187,14 @@ impl Client {
         self.raw.forget(id.0) == raw::KS_DONE
     }
 
-    /// Takes a datagram that arrived.
-    pub fn handle(&mut self, now: Instant, from: SocketAddrV4, datagram: &[u8]) -> Result<(), OutOfMemory> {
-        let (now, word) = (self.around.moment(now), self.around.word());
-        ticked(self.raw.feed(now, &address(from), datagram, word)).map(|_| ())
+    /// Takes a datagram that arrived. One from a stranger for whom no place is left is dropped, and counts as lost.
+    pub fn handle(&mut self, now: Instant, from: impl Into<P>, datagram: &[u8]) -> Result<(), OutOfMemory> {
+        let (now, word) = (self.pass(now), self.around.word());
+        match self.names.fed(now, &from.into()) {
+            Ok(from) => ticked(self.raw.feed(now, &from, datagram, word)).map(|_| ()),
+            Err(NamesError::Memory) => Err(OutOfMemory),
+            Err(_) => Ok(()),
+        }
     }
 
     /// When to call `handle_timeout`, unless something is handed in before. None: never.
@@ -178,7 +209,7 @@ impl Client {
 
     /// Does all that is due: starts what waits, sends again, ends waits.
     pub fn handle_timeout(&mut self, now: Instant) -> Result<(), OutOfMemory> {
-        let now = self.around.moment(now);
+        let now = self.pass(now);
         loop {
             let word = self.around.word();
             if !ticked(self.raw.tick(now, word))? {
@@ -189,10 +220,15 @@ impl Client {
 
     /// The datagram that is to be sent next, in the buffer.
     #[must_use = "a datagram that is not sent is lost"]
-    pub fn poll_transmit(&mut self, buffer: &mut [u8; MAX_DATAGRAM]) -> Option<Transmit> {
+    pub fn poll_transmit(&mut self, buffer: &mut [u8; MAX_DATAGRAM]) -> Option<Transmit<P>> {
         let (mut to, mut size) = (raw::ks_address::default(), 0);
-        let answer = self.raw.next_out(&mut to, buffer, &mut size);
-        (answer == raw::KS_DONE).then(|| Transmit { destination: socket_address(to), size })
+        while self.raw.next_out(&mut to, buffer, &mut size) == raw::KS_DONE {
+            // (what goes to a stranger that was forgotten goes nowhere)
+            if let Some(destination) = self.names.sent(self.latest, &to) {
+                return Some(Transmit { destination, size });
+            }
+        }
+        None
     }
 
     /// How much the client has at this moment.
@@ -203,8 +239,10 @@ impl Client {
     }
 
     /// What `handle` would make of the datagram at this moment.
-    pub fn would(&self, now: Instant, from: SocketAddrV4, datagram: &[u8]) -> Would {
-        Would::of(self.raw.would(self.around.moment(now), &address(from), datagram))
+    pub fn would(&self, now: Instant, from: impl Into<P>, datagram: &[u8]) -> Would {
+        // (nobody has the name that stands for a peer that is not known)
+        let from = self.names.find(&from.into()).unwrap_or_default();
+        Would::of(self.raw.would(self.around.moment(now), &from, datagram))
     }
 
     /// What became of a call or an observation, in order.
@@ -243,7 +281,7 @@ impl Client {
     }
 }
 
-impl fmt::Debug for Client {
+impl<P: Peer> fmt::Debug for Client<P> {
     fn fmt(&self, f: &mut fmt::Formatter<'_>) -> fmt::Result {
         f.debug_struct("Client").field("due", &self.poll_timeout()).finish_non_exhaustive()
     }

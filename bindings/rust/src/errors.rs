@@ -41,6 +41,18 @@ errors! {
         Changes = "the number of changes is not 1 to 4,194,303",
         /// No versions begin after this one.
         Base = "the base of versions is no multiple of 2^24 below 2^63",
+        /// So many peers can't have names at once.
+        Peers = "the number of peers is not 1 to 1,048,576",
+    }
+
+    /// Why a peer gets no name: what came from it is dropped, and counts as lost.
+    NamesError {
+        /// An allocation was refused.
+        Memory = "out of memory",
+        /// Each place is taken: by a name that is held, or that had a datagram in the last 247 s.
+        Full = "each place is taken",
+        /// All names are used up.
+        Spent = "all names are used up",
     }
 
     /// Why a server's resource is not changed.

@@ -155,7 +155,7 @@ impl Replayed {
     }
 
     /// Waits for the end of the silence, and begins the life. Then look at what the paths hold: what was applied before is
-    /// not told again.
+    /// not told again. What comes from a peer that is no IPv4 address is dropped.
     pub fn begin(mut self) -> Result<(Server, Journal), JournalError> {
         std::thread::sleep(self.silence().saturating_sub(self.read.elapsed()));
         let mut moment = 0;

@@ -8,12 +8,12 @@
 //!
 //! ```
 //! use knifesilver::{Client, Config, Report, Request, Server, MAX_DATAGRAM, TEXT_PLAIN};
-//! use std::net::{Ipv4Addr, SocketAddrV4};
+//! use std::net::{Ipv6Addr, SocketAddr};
 //! use std::time::Instant;
 //!
 //! let now = Instant::now();
-//! let here = SocketAddrV4::new(Ipv4Addr::LOCALHOST, 40_001);
-//! let there = SocketAddrV4::new(Ipv4Addr::LOCALHOST, 5683);
+//! let here = SocketAddr::from((Ipv6Addr::LOCALHOST, 40_001));
+//! let there = SocketAddr::from((Ipv6Addr::LOCALHOST, 5683));
 //! let mut server = Server::new(&Config::default(), now)?;
 //! let mut client = Client::new(&Config::default(), there, now)?;
 //! server.set(now, "temperature", Some(TEXT_PLAIN), b"22.3 C")?;
@@ -39,6 +39,9 @@
 //! The library below is proved to meet its contracts; `docs/EMBEDDING.md` says what they promise, of which calls, and
 //! what this crate promises without proof. An end is [`Send`] and not [`Sync`].
 //!
+//! Datagrams come from the addresses of sockets, IPv4 and IPv6, or from peers of a type of yours, as DTLS sessions are:
+//! see [`Peer`].
+//!
 //! A server stores values, and calls no function of yours. In [`exchange`] your code computes the answers, and a
 //! client asks for anything that one datagram can ask.
 //!
@@ -56,6 +59,7 @@ pub mod exchange;
 mod journal;
 mod load;
 mod message;
+mod peers;
 mod raw;
 mod raw_exchange;
 mod server;
@@ -66,6 +70,7 @@ pub use errors::{CallError, CancelError, DelayError, NewError, OutOfMemory, Peek
 pub use journal::{Boot, Journal, JournalError, Replayed};
 pub use load::{Load, Would};
 pub use message::{peek, refusal, Code, Kind, Message, Method, Tag};
+pub use peers::{Key, Peer};
 pub use server::{Applied, Ended, Representation, Server};
 pub use setting::{Config, Transmit};
 

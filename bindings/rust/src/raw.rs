@@ -47,6 +47,8 @@ pub const KS_FAULT_DELTA_RESERVED: i32 = 86;
 pub const KS_FAULT_LENGTH_RESERVED: i32 = 87;
 pub const KS_FAULT_OPTION_CUT: i32 = 88;
 pub const KS_FAULT_NUMBER_TOO_LARGE: i32 = 89;
+pub const KS_NAMES_FULL: i32 = 96;
+pub const KS_NAMES_SPENT: i32 = 97;
 pub const KS_JOURNAL_DAMAGED: i32 = 145;
 pub const KS_JOURNAL_NOT_BEGUN: i32 = 146;
 pub const KS_JOURNAL_OTHER_FORMAT: i32 = 147;
@@ -58,6 +60,7 @@ pub const KS_NO_FORMAT: i32 = -1;
 pub const KS_DATAGRAM_ROOM: usize = 1152;
 pub const KS_PATH_ROOM: usize = 12256;
 pub const KS_REFUSAL_ROOM: usize = 12;
+pub const KS_KEY_ROOM: usize = 60;
 
 pub const KS_GET: u8 = 1;
 pub const KS_POST: u8 = 2;
@@ -98,7 +101,12 @@ pub struct ks_client {
 }
 
 #[repr(C)]
-#[derive(Clone, Copy, Default)]
+pub struct ks_names {
+    handle: ks_handle,
+}
+
+#[repr(C)]
+#[derive(Clone, Copy, Default, PartialEq, Eq)]
 pub struct ks_address {
     pub ip: [u8; 4],
     pub port: u16,
@@ -274,6 +282,16 @@ extern "C" {
     fn ks_client_would(handle: *mut ks_client, now: u64, from: *const ks_address, datagram: *const c_void, datagram_len: usize) -> i32;
     fn ks_server_knows(handle: *mut ks_server, now: u64, peer: *const ks_address) -> i32;
     fn ks_server_ended(handle: *mut ks_server, ended: *mut ks_ended) -> i32;
+    fn ks_names_new(handle: *mut ks_names, places: u32, this_network: bool, seed: *const ks_seed) -> i32;
+    fn ks_names_free(handle: *mut ks_names);
+    fn ks_names_fed(handle: *mut ks_names, now: u64, key: *const c_void, key_len: usize, name: *mut ks_address) -> i32;
+    fn ks_names_sent(handle: *mut ks_names, now: u64, name: *const ks_address, room: *mut c_void, room_len: usize, len: *mut usize) -> i32;
+    fn ks_names_of(handle: *mut ks_names, key: *const c_void, key_len: usize, name: *mut ks_address) -> i32;
+    fn ks_names_key(handle: *mut ks_names, name: *const ks_address, room: *mut c_void, room_len: usize, len: *mut usize) -> i32;
+    fn ks_names_hold(handle: *mut ks_names, name: *const ks_address) -> i32;
+    fn ks_names_release(handle: *mut ks_names, now: u64, name: *const ks_address) -> i32;
+    fn ks_names_retire(handle: *mut ks_names, name: *const ks_address) -> i32;
+    fn ks_names_load(handle: *mut ks_names, taken: *mut u64) -> i32;
     fn ks_peek(datagram: *const c_void, datagram_len: usize, shown: *mut ks_message, room: *mut c_char, room_len: usize) -> i32;
 }
 
@@ -422,6 +440,60 @@ impl Server {
 impl Drop for Server {
     fn drop(&mut self) {
         unsafe { ks_server_free(self.0.get_mut()) }
+    }
+}
+
+/// The handle of a table of names, or of nothing.
+pub struct Names(UnsafeCell<ks_names>);
+
+// SAFETY: as of `Server`.
+unsafe impl Send for Names {}
+
+impl Names {
+    pub fn empty() -> Names {
+        Names(UnsafeCell::new(ks_names { handle: EMPTY }))
+    }
+
+    pub fn make(&mut self, places: u32, this_network: bool, seed: &ks_seed) -> i32 {
+        unsafe { ks_names_new(self.0.get_mut(), places, this_network, seed) }
+    }
+
+    pub fn fed(&mut self, now: u64, key: &[u8], name: &mut ks_address) -> i32 {
+        unsafe { ks_names_fed(self.0.get_mut(), now, key.as_ptr().cast(), key.len(), name) }
+    }
+
+    pub fn sent(&mut self, now: u64, name: &ks_address, room: &mut [u8], len: &mut usize) -> i32 {
+        unsafe { ks_names_sent(self.0.get_mut(), now, name, room.as_mut_ptr().cast(), room.len(), len) }
+    }
+
+    pub fn of(&self, key: &[u8], name: &mut ks_address) -> i32 {
+        unsafe { ks_names_of(self.0.get(), key.as_ptr().cast(), key.len(), name) }
+    }
+
+    pub fn key(&self, name: &ks_address, room: &mut [u8], len: &mut usize) -> i32 {
+        unsafe { ks_names_key(self.0.get(), name, room.as_mut_ptr().cast(), room.len(), len) }
+    }
+
+    pub fn hold(&mut self, name: &ks_address) -> i32 {
+        unsafe { ks_names_hold(self.0.get_mut(), name) }
+    }
+
+    pub fn release(&mut self, now: u64, name: &ks_address) -> i32 {
+        unsafe { ks_names_release(self.0.get_mut(), now, name) }
+    }
+
+    pub fn retire(&mut self, name: &ks_address) -> i32 {
+        unsafe { ks_names_retire(self.0.get_mut(), name) }
+    }
+
+    pub fn load(&self, taken: &mut u64) -> i32 {
+        unsafe { ks_names_load(self.0.get(), taken) }
+    }
+}
+
+impl Drop for Names {
+    fn drop(&mut self) {
+        unsafe { ks_names_free(self.0.get_mut()) }
     }
 }
 

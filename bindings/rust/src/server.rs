@@ -1,21 +1,24 @@
 //! A server.
 
-use crate::errors::{changed, delayed, made, made_plain, ticked, DelayError, NewError, OutOfMemory, PlainError, SetError};
+use crate::errors::{changed, delayed, made, made_plain, ticked};
+use crate::errors::{DelayError, NamesError, NewError, OutOfMemory, PlainError, SetError};
 use crate::load::{self, Load, Would};
 use crate::message::{Code, Method};
+use crate::peers::{is_name, Peer, Table};
 use crate::raw;
-use crate::setting::{address, format_number, format_of, socket_address, Config, Surroundings, Transmit};
+use crate::setting::{format_number, format_of, Config, Surroundings, Transmit};
 use crate::MAX_DATAGRAM;
 use std::collections::VecDeque;
 use std::fmt;
-use std::net::SocketAddrV4;
+use std::net::SocketAddr;
 use std::time::{Duration, Instant};
 
 /// A server of CoAP: paths that hold representations, which whoever reaches its port may get, put, post to and delete.
+/// Datagrams come from peers of any kind (see [`Peer`]), as a rule from the addresses of sockets.
 ///
 /// ```
 /// use knifesilver::{Config, Server, MAX_DATAGRAM};
-/// use std::net::{SocketAddr, UdpSocket};
+/// use std::net::UdpSocket;
 /// use std::time::Instant;
 ///
 /// # fn once(socket: &UdpSocket, server: &mut Server) -> Result<(), Box<dyn std::error::Error>> {
@@ -23,7 +26,7 @@ use std::time::{Duration, Instant};
 /// let mut buffer = [0; MAX_DATAGRAM];
 /// let wait = server.poll_timeout().map(|at| at.saturating_duration_since(Instant::now()));
 /// socket.set_read_timeout(wait.map(|wait| wait.max(std::time::Duration::from_millis(1))))?;
-/// if let Ok((len, SocketAddr::V4(from))) = socket.recv_from(&mut arrived) {
+/// if let Ok((len, from)) = socket.recv_from(&mut arrived) {
 ///     server.handle(Instant::now(), from, &arrived[..len])?;
 /// }
 /// server.handle_timeout(Instant::now())?;
@@ -36,11 +39,18 @@ use std::time::{Duration, Instant};
 /// # Ok(())
 /// # }
 /// ```
-pub struct Server {
+pub struct Server<P = SocketAddr> {
     raw: raw::Server,
     around: Surroundings,
-    applied: VecDeque<Applied>,
-    ended: Vec<Ended>,
+    names: Table<P>,
+    // The names that are held, as the server may have something of their peers; and how many of them are new.
+    held: VecDeque<raw::ks_address>,
+    fresh: usize,
+    // The last moment at which something was handed in.
+    latest: u64,
+    dropped: u64,
+    applied: VecDeque<Applied<P>>,
+    ended: Vec<Ended<P>>,
     room: Vec<u8>,
 }
 
@@ -59,11 +69,11 @@ pub struct Representation {
 /// A request of a client that was applied: one that was answered with 2.01, 2.02 or 2.04.
 #[derive(Clone, Debug, PartialEq, Eq)]
 #[non_exhaustive]
-pub struct Applied {
+pub struct Applied<P = SocketAddr> {
     /// The version that it made, 0 where it changed nothing.
     pub version: u64,
     /// Whose request it was.
-    pub from: SocketAddrV4,
+    pub from: P,
     /// What it asked for.
     pub method: Method,
     /// Its token.
@@ -78,9 +88,9 @@ pub struct Applied {
 /// A separate response or a notification that was rejected by a Reset, or was not acknowledged.
 #[derive(Clone, Debug, PartialEq, Eq)]
 #[non_exhaustive]
-pub struct Ended {
+pub struct Ended<P = SocketAddr> {
     /// Where it went.
-    pub to: SocketAddrV4,
+    pub to: P,
     /// Its token.
     pub token: Vec<u8>,
     /// It was a notification: whom it went to is no longer notified.
@@ -90,19 +100,36 @@ pub struct Ended {
 // The text by which the path of one empty segment is told; read, it is the root.
 const ONE_EMPTY_SEGMENT: &[u8] = b"/";
 
+// So many of the names that are held are looked at in one `handle_timeout`, beside as many as are new.
+const LOOKS: usize = 8;
+
 impl Server {
-    /// A server that holds nothing.
+    /// A server that holds nothing, whose peers are the addresses of sockets.
     pub fn new(config: &Config, now: Instant) -> Result<Server, NewError> {
+        Server::of_peers(config, now)
+    }
+}
+
+impl<P: Peer> Server<P> {
+    /// A server that holds nothing, and whose peers are of another kind.
+    pub fn of_peers(config: &Config, now: Instant) -> Result<Server<P>, NewError> {
         let mut around = Surroundings::new(config, now);
         let mut raw = raw::Server::empty();
         made(raw.make(&config.raw(), &around.seed()))?;
-        Ok(Server { raw, around, applied: VecDeque::new(), ended: Vec::new(), room: vec![0; raw::KS_PATH_ROOM] })
+        let names = Table::new(config.peers, &around.seed())?;
+        Ok(Server::around(raw, around, names, 0))
     }
 
-    // A server that was replayed, and whose milliseconds at this moment are so many.
-    pub(crate) fn replayed(raw: raw::Server, config: &Config, now: Instant, moment: u64) -> Server {
-        let around = Surroundings::from(config, now, moment);
-        Server { raw, around, applied: VecDeque::new(), ended: Vec::new(), room: vec![0; raw::KS_PATH_ROOM] }
+    // A server that was replayed, and whose milliseconds at this moment are so many. The names of its former lives are in
+    // no file. So none is given: else a peer could have the name of one that is remembered.
+    pub(crate) fn replayed(raw: raw::Server, config: &Config, now: Instant, moment: u64) -> Server<P> {
+        Server::around(raw, Surroundings::from(config, now, moment), Table::closed(), moment)
+    }
+
+    fn around(raw: raw::Server, around: Surroundings, names: Table<P>, latest: u64) -> Server<P> {
+        let (held, applied, ended) = (VecDeque::new(), VecDeque::new(), Vec::new());
+        let room = vec![0; raw::KS_PATH_ROOM];
+        Server { raw, around, names, held, fresh: 0, latest, dropped: 0, applied, ended, room }
     }
 
     // What it took since this was asked last, in the room, which grows to hold it.
@@ -170,26 +197,78 @@ impl Server {
         made_plain(self.raw.set_plain(path))
     }
 
-    /// Takes a datagram that arrived.
-    pub fn handle(&mut self, now: Instant, from: SocketAddrV4, datagram: &[u8]) -> Result<(), OutOfMemory> {
-        let (now, word) = (self.around.moment(now), self.around.word());
-        self.ended.clear();
-        ticked(self.raw.feed(now, &address(from), datagram, word))?;
-        self.keep_applied();
-        self.keep_ended();
-        Ok(())
+    /// Takes a datagram that arrived. One from a peer for which no place is left is dropped, and counts as lost.
+    pub fn handle(&mut self, now: Instant, from: impl Into<P>, datagram: &[u8]) -> Result<(), OutOfMemory> {
+        self.take(now, &from.into(), |raw, now, from, word| raw.feed(now, from, datagram, word))
     }
 
     /// Takes a datagram that arrived from somebody who may not have what it asks for. A request is answered with 4.05 and
     /// not served; what is none is taken as it is. A copy gets the same answer, and a copy of what was served gets that
     /// reply: so your rules may change at any moment.
-    pub fn refuse(&mut self, now: Instant, from: SocketAddrV4, datagram: &[u8]) -> Result<(), OutOfMemory> {
-        let (now, word) = (self.around.moment(now), self.around.word());
+    pub fn refuse(&mut self, now: Instant, from: impl Into<P>, datagram: &[u8]) -> Result<(), OutOfMemory> {
+        self.take(now, &from.into(), |raw, now, from, word| raw.refuse(now, from, datagram, word))
+    }
+
+    fn take(
+        &mut self,
+        now: Instant,
+        from: &P,
+        feed: impl FnOnce(&mut raw::Server, u64, &raw::ks_address, u64) -> i32,
+    ) -> Result<(), OutOfMemory> {
+        let (now, word) = (self.pass(now), self.around.word());
         self.ended.clear();
-        ticked(self.raw.refuse(now, &address(from), datagram, word))?;
+        let from = match self.names.fed(now, from) {
+            Ok(from) => from,
+            Err(NamesError::Memory) => return Err(OutOfMemory),
+            Err(_) => {
+                self.dropped += 1;
+                return Ok(());
+            }
+        };
+        // (what is served of a peer has a name that stays, so that who it was can be told)
+        if is_name(&from) && !self.held.contains(&from) && self.names.hold(&from)? {
+            self.held.push_back(from);
+            self.fresh += 1;
+        }
+        ticked(feed(&mut self.raw, now, &from, word))?;
         self.keep_applied();
         self.keep_ended();
         Ok(())
+    }
+
+    // The milliseconds of a moment at which something is handed in.
+    fn pass(&mut self, now: Instant) -> u64 {
+        self.latest = self.latest.max(self.around.moment(now));
+        self.latest
+    }
+
+    // Holds no more what the server has nothing of.
+    fn let_go(&mut self) {
+        for _ in 0..(LOOKS + std::mem::take(&mut self.fresh)).min(self.held.len()) {
+            let Some(name) = self.held.pop_front() else { return };
+            // (a release that finds no memory is tried again)
+            if self.raw.knows(self.latest, &name) == raw::KS_DONE || self.names.release(self.latest, &name).is_err() {
+                self.held.push_back(name);
+            }
+        }
+    }
+
+    /// How many datagrams were dropped since no place was left for their peers.
+    pub fn dropped(&self) -> u64 {
+        self.dropped
+    }
+
+    /// How many peers that are no IPv4 addresses are known.
+    pub fn peers(&self) -> u64 {
+        self.names.len()
+    }
+
+    /// Forgets a peer at once, from which nothing can come any more, as a DTLS session that is closed. Whether it was known.
+    /// A request of it that still waits for its delay is carried out, and not told. An IPv4 address is never forgotten so.
+    pub fn retire(&mut self, peer: &P) -> bool {
+        let Some(name) = self.names.find(peer).filter(is_name) else { return false };
+        self.held.retain(|held| *held != name);
+        self.names.retire(&name)
     }
 
     /// When to call `handle_timeout`, unless something is handed in before. None: never.
@@ -204,11 +283,12 @@ impl Server {
 
     /// Does all that is due: retransmissions, notifications, responses that were delayed.
     pub fn handle_timeout(&mut self, now: Instant) -> Result<(), OutOfMemory> {
-        let now = self.around.moment(now);
+        let now = self.pass(now);
         self.ended.clear();
         loop {
             let word = self.around.word();
             if !ticked(self.raw.tick(now, word))? {
+                self.let_go();
                 return Ok(());
             }
             self.keep_applied();
@@ -219,15 +299,20 @@ impl Server {
     /// The datagram that is to be sent next, in the buffer. None, too, where a server with a journal took something that
     /// [`Journal::keep`](crate::Journal::keep) hasn't kept yet.
     #[must_use = "a datagram that is not sent is lost"]
-    pub fn poll_transmit(&mut self, buffer: &mut [u8; MAX_DATAGRAM]) -> Option<Transmit> {
+    pub fn poll_transmit(&mut self, buffer: &mut [u8; MAX_DATAGRAM]) -> Option<Transmit<P>> {
         let (mut to, mut size) = (raw::ks_address::default(), 0);
-        let answer = self.raw.next_out(&mut to, buffer, &mut size);
-        (answer == raw::KS_DONE).then(|| Transmit { destination: socket_address(to), size })
+        while self.raw.next_out(&mut to, buffer, &mut size) == raw::KS_DONE {
+            // (what goes to a peer that was forgotten goes nowhere)
+            if let Some(destination) = self.names.sent(self.latest, &to) {
+                return Some(Transmit { destination, size });
+            }
+        }
+        None
     }
 
     /// What a client had this server do, each once, in order. It waits here until it is taken.
     #[must_use = "each request that was applied is told once"]
-    pub fn poll_applied(&mut self) -> Option<Applied> {
+    pub fn poll_applied(&mut self) -> Option<Applied<P>> {
         self.applied.pop_front()
     }
 
@@ -240,18 +325,21 @@ impl Server {
 
     /// What `handle` would make of the datagram at this moment. So new messages can be charged to whom they come from
     /// before they are handed in.
-    pub fn would(&self, now: Instant, from: SocketAddrV4, datagram: &[u8]) -> Would {
-        Would::of(self.raw.would(self.around.moment(now), &address(from), datagram))
+    pub fn would(&self, now: Instant, from: impl Into<P>, datagram: &[u8]) -> Would {
+        // (nobody has the name that stands for a peer that is not known)
+        let from = self.names.find(&from.into()).unwrap_or_default();
+        Would::of(self.raw.would(self.around.moment(now), &from, datagram))
     }
 
     /// Whether the server has something of this peer that it may send, or may still need: an observation, an upload that is
     /// not whole, a request that waits, a message that is not acknowledged. What tells repeats is not counted.
-    pub fn knows(&self, now: Instant, peer: SocketAddrV4) -> bool {
-        self.raw.knows(self.around.moment(now), &address(peer)) == raw::KS_DONE
+    pub fn knows(&self, now: Instant, peer: impl Into<P>) -> bool {
+        let name = self.names.find(&peer.into());
+        name.is_some_and(|name| self.raw.knows(self.around.moment(now), &name) == raw::KS_DONE)
     }
 
     /// What the last `handle`, `refuse` or `handle_timeout` ended, in order.
-    pub fn ended(&self) -> &[Ended] {
+    pub fn ended(&self) -> &[Ended<P>] {
         &self.ended
     }
 
@@ -259,11 +347,9 @@ impl Server {
     fn keep_ended(&mut self) {
         let mut told = raw::ks_ended::default();
         if self.raw.ended(&mut told) == raw::KS_DONE {
-            self.ended.push(Ended {
-                to: socket_address(told.to),
-                token: told.token[..usize::from(told.token_len.min(8))].to_vec(),
-                observe: told.observe,
-            });
+            let token = told.token[..usize::from(told.token_len.min(8))].to_vec();
+            // (one that was retired is told of no more)
+            self.ended.extend(self.names.peer(&told.to).map(|to| Ended { to, token, observe: told.observe }));
         }
     }
 
@@ -273,19 +359,19 @@ impl Server {
         if self.raw.applied(&mut done, &mut self.room) == raw::KS_DONE {
             let path = self.room[..done.path_len].to_vec();
             let held = if path == ONE_EMPTY_SEGMENT { None } else { self.held(&path) };
-            self.applied.push_back(Applied {
+            self.applied.extend(self.names.peer(&done.from).map(|from| Applied {
                 version: done.version,
-                from: socket_address(done.from),
+                from,
                 method: Method::of(Code(done.method)).unwrap_or(Method::Post),
                 token: done.token[..usize::from(done.token_len.min(8))].to_vec(),
                 path,
                 held,
-            });
+            }));
         }
     }
 }
 
-impl fmt::Debug for Server {
+impl<P: Peer> fmt::Debug for Server<P> {
     fn fmt(&self, f: &mut fmt::Formatter<'_>) -> fmt::Result {
         let mut shown = f.debug_struct("Server");
         shown.field("due", &self.poll_timeout()).field("applied", &self.applied.len()).finish_non_exhaustive()

@@ -3,7 +3,7 @@
 use crate::raw;
 use std::collections::hash_map::RandomState;
 use std::hash::{BuildHasher, Hasher};
-use std::net::{Ipv4Addr, SocketAddrV4};
+use std::net::{Ipv4Addr, SocketAddr, SocketAddrV4};
 use std::time::{Duration, Instant};
 
 /// What an end is made with. `Config::default()` is the usual; change its fields for another. What an end can't be made
@@ -27,13 +27,24 @@ pub struct Config {
     pub changes: u32,
     /// The version after which a server's versions begin: a multiple of 2^24 below 2^63. With 0 the first is 1.
     pub base: u64,
+    /// How many peers that are no IPv4 addresses a server knows at once: 1 to 1,048,576. One is known for 247 s after its
+    /// last datagram, and as long as the server may send to it. What comes from others meanwhile is dropped.
+    pub peers: u32,
     /// Where the end's random numbers come from: the operating system, or for tests this seed.
     pub rng_seed: Option<u64>,
 }
 
 impl Default for Config {
     fn default() -> Config {
-        Config { block_size: 1024, body_limit: 65_536, remembered: 4_096, changes: 4_194_303, base: 0, rng_seed: None }
+        Config {
+            block_size: 1024,
+            body_limit: 65_536,
+            remembered: 4_096,
+            changes: 4_194_303,
+            base: 0,
+            peers: 4_096,
+            rng_seed: None,
+        }
     }
 }
 
@@ -77,6 +88,12 @@ impl Config {
         self.with_base(raw::base(word))
     }
 
+    /// The same with so many peers known at once that are no IPv4 addresses.
+    #[must_use]
+    pub fn with_peers(self, peers: u32) -> Config {
+        Config { peers, ..self }
+    }
+
     /// The same with random numbers from this seed, for tests: whoever knows it can guess Message IDs and tokens.
     #[must_use]
     pub fn with_rng_seed(self, seed: u64) -> Config {
@@ -98,9 +115,9 @@ impl Config {
 /// A datagram to be sent: its bytes are the first `size` of the buffer that was lent.
 #[derive(Clone, Copy, Debug, PartialEq, Eq)]
 #[non_exhaustive]
-pub struct Transmit {
+pub struct Transmit<P = SocketAddr> {
     /// Where it is to go.
-    pub destination: SocketAddrV4,
+    pub destination: P,
     /// How many bytes it has.
     pub size: usize,
 }

@@ -85,7 +85,7 @@ fn each_method() {
         let applied = running.applied.recv_timeout(PATIENCE).unwrap();
         assert_eq!((applied.method, applied.path.as_slice()), (method, &b"/lamp"[..]));
         assert_eq!(applied.held.as_ref().map(|it| it.body.as_slice()), held);
-        assert_eq!(applied.from.ip(), &Ipv4Addr::LOCALHOST);
+        assert_eq!(applied.from.ip(), Ipv4Addr::LOCALHOST);
     }
     assert!(running.applied.try_recv().is_err());
 }

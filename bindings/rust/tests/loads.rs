@@ -46,7 +46,7 @@ fn a_notification_that_is_rejected_is_told() {
     assert_eq!(server.would(now, HERE, &reset), Would::Reset);
     server.handle(now, HERE, &reset).unwrap();
     let ended = &server.ended()[0];
-    assert_eq!((ended.to, ended.token.as_slice(), ended.observe), (HERE, [9].as_slice(), true));
+    assert_eq!((ended.to, ended.token.as_slice(), ended.observe), (HERE.into(), [9].as_slice(), true));
     server.handle_timeout(now).unwrap();
     assert!(server.ended().is_empty());
 }

@@ -74,11 +74,11 @@ impl Run {
         self.client.handle_timeout(self.now).unwrap();
         self.server.handle_timeout(self.now).unwrap();
         while let Some(transmit) = self.client.poll_transmit(&mut buffer) {
-            assert_eq!(transmit.destination, THERE);
+            assert_eq!(transmit.destination, THERE.into());
             self.send(true, &buffer[..transmit.size]);
         }
         while let Some(transmit) = self.server.poll_transmit(&mut buffer) {
-            assert_eq!(transmit.destination, HERE);
+            assert_eq!(transmit.destination, HERE.into());
             self.send(false, &buffer[..transmit.size]);
         }
         while let Some(applied) = self.server.poll_applied() {
@@ -144,7 +144,7 @@ fn each_body_is_applied_as_its_report_says() {
                 _ => assert!(times <= 1),
             }
         }
-        assert!(run.applied.iter().all(|(applied, _)| applied.method == Method::Put && applied.from == HERE));
+        assert!(run.applied.iter().all(|(applied, _)| applied.method == Method::Put && applied.from == HERE.into()));
         let versions: Vec<_> = run.applied.iter().map(|(applied, _)| applied.version).collect();
         assert!(versions.windows(2).all(|pair| pair[0] < pair[1]), "{versions:?}");
     }

@@ -143,6 +143,17 @@ impl<K: Eq + Hash + Copy + Drop, S: BuildHasher + Copy + Drop, A: Allocator + Co
         self.keys.get(name)
     }
 
+    /// The name of a key, where it has one. Nothing changes.
+    pub fn find(&self, key: &K) -> Option<Endpoint>
+        // The name that is found is the one that the key has.
+        ensures { result ≡ named K.eq self.now key.now }
+    {
+        match self.idle.peek(key) {
+            Some(place) => Some(place.name),
+            None => held_name(&self.held, *key),
+        }
+    }
+
     /// The name of a key from which a datagram came: the one that it has, or a new one. Where each place is taken, the
     /// oldest name that is not held is forgotten, if it had no datagram in the last 247 s. After `Memory` the table is
     /// as before.

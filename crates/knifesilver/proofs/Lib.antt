@@ -5,4 +5,5 @@ pub mod Either
 pub mod HandleValues
 pub mod NeverBoth
 pub mod ReleasedValues
+pub mod SameKeys
 pub mod Walking

@@ -6,12 +6,13 @@ use Rattle.coap_layer.specs.declared.setup.Setup.{Setup}
 use Rattle.coap_client.specs.Led.{Led, State}
 use Rattle.coap_client.specs.Trace.{Call}
 use Rattle.knifesilver.specs.declared.held.Held.{Held}
-use Rattle.knifesilver.specs.declared.held.Held.TheVariants.{Server, Client}
+use Rattle.knifesilver.specs.declared.held.Held.TheVariants.{Server, Client, Names}
 
 -- it is a client
 abbrev pub IsClient : Held → Type 0
 IsClient (Server s) = ⊥
 IsClient (Client c) = ⊤
+IsClient (Names t) = ⊥
 
 abbrev pub HoldsClient : Option Held → Type 0
 HoldsClient None = ⊥
@@ -21,6 +22,7 @@ HoldsClient (Some held) = IsClient held
 abbrev pub IsClientIn : (State → Type 0) → Held → Type 0
 IsClientIn P (Server s) = ⊥
 IsClientIn P (Client c) = P c.client
+IsClientIn P (Names t) = ⊥
 
 abbrev pub HoldsClientIn : (State → Type 0) → Option Held → Type 0
 HoldsClientIn P None = ⊥

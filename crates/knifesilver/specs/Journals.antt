@@ -18,7 +18,7 @@ use Rattle.coap_noted.specs.Notes.{Note, told_in}
 use Rattle.knifesilver.specs.declared.config.KsConfig.{KsConfig}
 use Rattle.knifesilver.specs.declared.config.TheConstants.{USUAL_BLOCK as usual_block}
 use Rattle.knifesilver.specs.declared.held.Held.{Held}
-use Rattle.knifesilver.specs.declared.held.Held.TheVariants.{Server, Client}
+use Rattle.knifesilver.specs.declared.held.Held.TheVariants.{Server, Client, Names}
 use Rattle.knifesilver.specs.declared.journal.KsLife.{KsLife}
 use Rattle.knifesilver.specs.declared.seed.KsSeed.{KsSeed}
 use Rattle.knifesilver.specs.declared.server.replaying.KsReplayed.{KsReplayed}
@@ -95,8 +95,13 @@ IsTurnLong room len (Some turn) = (len ≡ length turn) × (room < len)
 abbrev pub AreSameServer : Held → Held → Type 0
 AreSameServer (Server s) (Server n) = n.server ≡ s.server
 AreSameServer (Server s) (Client n) = ⊥
+AreSameServer (Server s) (Names n) = ⊥
 AreSameServer (Client c) (Server n) = ⊥
 AreSameServer (Client c) (Client n) = ⊤
+AreSameServer (Client c) (Names n) = ⊥
+AreSameServer (Names t) (Server n) = ⊥
+AreSameServer (Names t) (Client n) = ⊥
+AreSameServer (Names t) (Names n) = ⊤
 
 abbrev pub HoldSameServer : Option Held → Option Held → Type 0
 HoldSameServer None None = ⊤

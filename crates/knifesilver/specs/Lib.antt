@@ -10,10 +10,13 @@ pub mod Fresh
 pub mod Journals
 pub mod Known
 pub mod Loads
+pub mod NamesCalls
+pub mod NamesHeld
 pub mod Outgoing
 pub mod Owned
 pub mod PathRefusals
 pub mod Peeks
+pub mod PeerKeys
 pub mod Quiet
 pub mod Refusing
 pub mod Reports

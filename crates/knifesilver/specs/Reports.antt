@@ -9,7 +9,7 @@ use Rattle.coap_client.specs.Trace.{Call, NextReport, Report, Reported, Body, Va
 use Rattle.coap_client.specs.Trace.{Failed, Timeout, Reset, NoResponse, Changed, BadBlock, NoTag, TooLarge, NoIds}
 use Rattle.knifesilver.specs.declared.client.reports.KsReport.{KsReport}
 use Rattle.knifesilver.specs.declared.held.Held.{Held}
-use Rattle.knifesilver.specs.declared.held.Held.TheVariants.{Server, Client}
+use Rattle.knifesilver.specs.declared.held.Held.TheVariants.{Server, Client, Names}
 use Rattle.knifesilver.specs.ClientHeld.{HoldsLed, Made}
 use Rattle.knifesilver.specs.Formats.{number_of}
 use Rattle.knifesilver.specs.ShortBytes.{AreIn}
@@ -84,6 +84,7 @@ abbrev pub beside : Option Held → Option Reported
 beside None = None
 beside (Some (Server s)) = None
 beside (Some (Client c)) = option_map shown_reported c.report
+beside (Some (Names t)) = None
 
 -- no call was made of the client that was held
 abbrev pub Unmoved : Option Held → Option Held → Type 0

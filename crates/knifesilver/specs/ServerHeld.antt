@@ -9,12 +9,13 @@ use Rattle.coap_server.specs.Trace.{Call}
 use Rattle.coap_journal.specs.Input.{Input}
 use Rattle.coap_noted.specs.Notes.{Note, noted_with}
 use Rattle.knifesilver.specs.declared.held.Held.{Held}
-use Rattle.knifesilver.specs.declared.held.Held.TheVariants.{Server, Client}
+use Rattle.knifesilver.specs.declared.held.Held.TheVariants.{Server, Client, Names}
 
 -- it is a server
 abbrev pub IsServer : Held → Type 0
 IsServer (Server s) = ⊤
 IsServer (Client c) = ⊥
+IsServer (Names t) = ⊥
 
 abbrev pub HoldsServer : Option Held → Type 0
 HoldsServer None = ⊥
@@ -24,6 +25,7 @@ HoldsServer (Some held) = IsServer held
 abbrev pub IsServerIn : (State → Type 0) → Held → Type 0
 IsServerIn P (Server s) = P (state_of content_of s.server)
 IsServerIn P (Client c) = ⊥
+IsServerIn P (Names t) = ⊥
 
 abbrev pub HoldsServerIn : (State → Type 0) → Option Held → Type 0
 HoldsServerIn P None = ⊥
@@ -44,6 +46,7 @@ abbrev pub notes_in : Option Held → Option Note
 notes_in None = None
 notes_in (Some (Server s)) = s.notes
 notes_in (Some (Client c)) = None
+notes_in (Some (Names t)) = None
 
 -- this input, which was handed in at this moment, is noted, where notes are kept
 abbrev pub IsNoted : Input → ℕ → Option Held → Option Held → Type 0

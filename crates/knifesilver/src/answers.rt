@@ -15,7 +15,7 @@ pub(crate) const NO_MEMORY: i32 = -2;
 pub(crate) const BAD_PATH: i32 = -3;
 /// The room that was lent is too small; nothing was taken.
 pub(crate) const SMALL_ROOM: i32 = -4;
-/// A method, an entity-tag, a number of entity-tags or an error that is none.
+/// A method, an entity-tag, a number of entity-tags, an error, a key of a peer or a number of places that is none.
 pub(crate) const BAD_ARGUMENT: i32 = -5;
 /// The size of a configuration is none.
 pub(crate) const BAD_SIZE: i32 = -6;

@@ -1,6 +1,8 @@
 //! What a handle holds.
+use crate::names::peer_key::PeerKey;
 use crate::seed::SeededHash;
 use coap_ends::{CallId, Client, Report, Server};
+use coap_names::Names;
 use coap_noted::Noted;
 use coap_resource::MapStore;
 use std::alloc::Global;
@@ -9,6 +11,9 @@ use std::alloc::Global;
 pub(crate) type MapServer = Server<MapStore, Global, SeededHash>;
 /// .. and the notes of what it took, where these are kept.
 pub(crate) type OurServer = Noted<MapStore, Global, SeededHash>;
+
+/// Names for peers, by their keys.
+pub(crate) type OurNames = Names<PeerKey, SeededHash, Global>;
 
 /// A client, and the report that was taken from it and is still to be given out.
 #[derive(Drop)]
@@ -26,4 +31,6 @@ pub enum Held {
     Server(OurServer),
     /// A client.
     Client(OurClient),
+    /// Names for peers.
+    Names(OurNames),
 }

@@ -82,6 +82,14 @@ const FAULT_NUMBER_TOO_LARGE: i32 = 89;
 
 const FAULT_NO_PAYLOAD: i32 = 90;
 
+// A peer that is not named: 96, and which of these refusals it is.
+/// Each place is taken.
+pub(crate) const NAMES_FULL: i32 = 96;
+/// All names are used up.
+pub(crate) const NAMES_SPENT: i32 = 97;
+
+const _: () = prove!(NAMES_FULL == 96 && NAMES_SPENT == 97);
+
 // A journal that is not replayed: 144, and the number of its refusal.
 /// Whole frames stand behind one that isn't.
 pub(crate) const JOURNAL_DAMAGED: i32 = 145;

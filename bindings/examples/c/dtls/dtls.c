@@ -20,27 +20,27 @@ enum role { BEGUN = 'p', OPEN = 'o' };
 /* ---- Sessions ---- */
 
 static session *of_peer(const dtls *d, const void *peer, size_t peer_len, enum role role) {
-    uint8_t key[KS_NAMES_KEY];
+    uint8_t key[KS_KEY_ROOM];
     ks_address by;
     if (peer_len == 0 || peer_len >= sizeof key) return NULL;
     memcpy(key, peer, peer_len);
     key[peer_len] = (uint8_t)role;
-    if (ks_names_find(&d->peers, key, peer_len + 1, &by) != KS_DONE) return NULL;
+    if (ks_places_find(&d->peers, key, peer_len + 1, &by) != KS_DONE) return NULL;
     return &d->sessions[d->session_of[by.port - 1]];
 }
 
 static session *of_name(const dtls *d, const ks_address *name) {
-    uint32_t at = ks_names_place(&d->names, name);
+    uint32_t at = ks_places_place(&d->names, name);
     return at != 0 ? &d->sessions[at - 1] : NULL;
 }
 
 static void file_by(dtls *d, session *s, enum role role) {
-    uint8_t key[KS_NAMES_KEY];
+    uint8_t key[KS_KEY_ROOM];
     memcpy(key, s->peer, s->peer_len);
     key[s->peer_len] = (uint8_t)role;
     /* (there are as many places) */
-    if (ks_names_from(&d->peers, d->now, key, s->peer_len + 1, &s->by) != KS_DONE) abort();
-    ks_names_hold(&d->peers, &s->by);
+    if (ks_places_from(&d->peers, d->now, key, s->peer_len + 1, &s->by) != KS_DONE) abort();
+    ks_places_hold(&d->peers, &s->by);
     d->session_of[s->by.port - 1] = (uint32_t)(s - d->sessions);
 }
 
@@ -48,8 +48,8 @@ static void close_session(dtls *d, session *s) {
     if (s->open) SSL_shutdown(s->ssl); /* close_notify is queued */
     else d->begun--;
     SSL_free(s->ssl);
-    ks_names_retire(&d->names, &s->name);
-    ks_names_retire(&d->peers, &s->by);
+    ks_places_retire(&d->names, &s->name);
+    ks_places_retire(&d->peers, &s->by);
     OPENSSL_cleanse(s, sizeof *s);
 }
 
@@ -89,8 +89,8 @@ static session *place(dtls *d, const void *peer, size_t peer_len) {
     uint64_t serial = ++d->serial;
     if (d->begun >= d->config.handshakes || begun_with(d, peer, peer_len) >= d->config.handshakes_each) return NULL;
     if (!makes_room(d)) return NULL;
-    if (ks_names_from(&d->names, d->now, &serial, sizeof serial, &name) != KS_DONE) return NULL;
-    ks_names_hold(&d->names, &name);
+    if (ks_places_from(&d->names, d->now, &serial, sizeof serial, &name) != KS_DONE) return NULL;
+    ks_places_hold(&d->names, &name);
     session *s = of_name(d, &name);
     *s = (session){.name = name, .at = d->now, .began = d->now, .peer_len = peer_len};
     memcpy(s->peer, peer, peer_len);
@@ -146,7 +146,7 @@ static bool is_shaken(dtls *d, session *s) {
     s->at = d->now;
     d->begun--;
     d->told.opened++;
-    ks_names_retire(&d->peers, &s->by);
+    ks_places_retire(&d->peers, &s->by);
     file_by(d, s, OPEN);
     return true;
 }
@@ -226,7 +226,7 @@ void dtls_feed(dtls *d, uint64_t now, const void *peer, size_t peer_len, const v
     const uint8_t *c = cipher;
     session *begun = of_peer(d, peer, peer_len, BEGUN), *open = of_peer(d, peer, peer_len, OPEN);
     if (now > d->now) d->now = now;
-    if (peer_len == 0 || peer_len >= KS_NAMES_KEY || !is_record(c, len)) {
+    if (peer_len == 0 || peer_len >= KS_KEY_ROOM || !is_record(c, len)) {
         d->told.dropped++;
         return;
     }
@@ -249,7 +249,7 @@ void dtls_feed(dtls *d, uint64_t now, const void *peer, size_t peer_len, const v
 bool dtls_open(dtls *d, uint64_t now, const void *peer, size_t peer_len, const char *identity, const void *key,
                size_t key_len, ks_address *name) {
     if (now > d->now) d->now = now;
-    if (peer_len == 0 || peer_len >= KS_NAMES_KEY) return false;
+    if (peer_len == 0 || peer_len >= KS_KEY_ROOM) return false;
     if (strlen(identity) >= IDENTITY_ROOM || key_len > KEY_ROOM) return false;
     session *s = of_peer(d, peer, peer_len, BEGUN) == NULL ? place(d, peer, peer_len) : NULL;
     if (s == NULL) return false;
@@ -308,7 +308,7 @@ bool dtls_next_plain(dtls *d, ks_address *name, void *room, size_t room_len, siz
     return false;
 }
 
-bool dtls_next_cipher(dtls *d, uint8_t peer[KS_NAMES_KEY], size_t *peer_len, void *room, size_t room_len, size_t *len) {
+bool dtls_next_cipher(dtls *d, uint8_t peer[KS_KEY_ROOM], size_t *peer_len, void *room, size_t room_len, size_t *len) {
     for (item *it; (it = dtls_take(&d->cipher)) != NULL;) {
         bool given = it->len <= room_len;
         if (given) {
@@ -369,8 +369,8 @@ static void fill_in(dtls_config *c) {
     if (c->handshakes == 0) c->handshakes = 64;
     if (c->handshakes_each == 0) c->handshakes_each = 8;
     if (c->source_len == 0) c->source_len = 16;
-    if (c->idle_ms == 0) c->idle_ms = 86400000u + KS_NAMES_KEEP_MS;
-    if (c->spare_ms == 0) c->spare_ms = KS_NAMES_KEEP_MS;
+    if (c->idle_ms == 0) c->idle_ms = 86400000u + KS_PLACES_KEEP_MS;
+    if (c->spare_ms == 0) c->spare_ms = KS_PLACES_KEEP_MS;
     if (c->late_ms == 0) c->late_ms = 100000;
     if (c->handshake_ms == 0) c->handshake_ms = 60000;
     if (c->first_ms == 0) c->first_ms = 1000;
@@ -396,8 +396,8 @@ dtls *dtls_new(const dtls_config *config, const uint8_t secret[DTLS_SECRET]) {
         dtls_free(d);
         return NULL;
     }
-    ks_names_init(&d->names, d->places, count, 0, keys[0], keys[1]);
-    ks_names_init(&d->peers, d->places + count, count, 0, keys[1], keys[0]);
+    ks_places_init(&d->names, d->places, count, 0, keys[0], keys[1]);
+    ks_places_init(&d->peers, d->places + count, count, 0, keys[1], keys[0]);
     return d;
 }
 

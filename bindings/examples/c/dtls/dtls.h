@@ -1,6 +1,6 @@
 /* dtls.h: DTLS 1.2 with pre-shared keys under an end of knifesilver, over OpenSSL 3. It has no socket. Ciphertexts go
  * in and out as datagrams with the identity of the UDP peer (bytes, as of ks_udp6.h); plaintexts have the name of the
- * session (as of ks_names.h).
+ * session (as of ks_places.h).
  *
  *     a datagram came from `peer`:
  *         dtls_feed(d, now, peer, peer_len, bytes, len);
@@ -30,7 +30,7 @@
 #ifndef DTLS_H
 #define DTLS_H
 
-#include "ks_names.h"
+#include "ks_places.h"
 
 typedef struct dtls dtls;
 
@@ -82,7 +82,7 @@ void dtls_feed(dtls *d, uint64_t now, const void *peer, size_t peer_len, const v
 bool dtls_next_plain(dtls *d, ks_address *name, void *room, size_t room_len, size_t *len);
 /* False: there is no such session. */
 bool dtls_send(dtls *d, uint64_t now, const ks_address *name, const void *plain, size_t len);
-bool dtls_next_cipher(dtls *d, uint8_t peer[KS_NAMES_KEY], size_t *peer_len, void *room, size_t room_len, size_t *len);
+bool dtls_next_cipher(dtls *d, uint8_t peer[KS_KEY_ROOM], size_t *peer_len, void *room, size_t room_len, size_t *len);
 bool dtls_due(dtls *d, uint64_t *at);
 void dtls_tick(dtls *d, uint64_t now);
 

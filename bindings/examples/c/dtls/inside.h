@@ -18,7 +18,7 @@ typedef struct {
     const uint8_t *in;          /* the datagram that is being read, or NULL */
     size_t in_len, peer_len;
     bool open, is_client;
-    uint8_t peer[KS_NAMES_KEY - 1];
+    uint8_t peer[KS_KEY_ROOM - 1];
     uint8_t random[RANDOM_LEN]; /* of the ClientHello that began it */
     uint8_t key[KEY_ROOM];      /* a client's */
     size_t key_len;
@@ -33,7 +33,7 @@ typedef struct item {
     struct item *next;
     ks_address name;
     size_t peer_len, len;
-    uint8_t peer[KS_NAMES_KEY];
+    uint8_t peer[KS_KEY_ROOM];
     uint8_t bytes[];
 } item;
 
@@ -45,7 +45,7 @@ struct dtls {
     SSL_CTX *of_server, *of_client;
     BIO_METHOD *datagrams;
     session *sessions, listener;    /* a session has the number of its name's place, less 1; the listener is none */
-    ks_names names, peers;          /* a session's number to its name; a peer, begun or open, to its session */
+    ks_places names, peers;          /* a session's number to its name; a peer, begun or open, to its session */
     ks_name_place *places;
     uint32_t *session_of;           /* by the place in `peers` */
     uint64_t now, serial, begun;

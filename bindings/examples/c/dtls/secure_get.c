@@ -19,7 +19,7 @@ static ks_address server;       /* the name of the session */
 
 static void send_ciphers(void) {
     static uint8_t out[DTLS_ROOM];
-    uint8_t peer[KS_NAMES_KEY];
+    uint8_t peer[KS_KEY_ROOM];
     size_t len, peer_len;
     while (dtls_next_cipher(sessions, peer, &peer_len, out, sizeof out, &len)) (void)!send(udp, out, len, 0);
 }

@@ -33,7 +33,7 @@ static size_t key_of(void *of, const char *identity, uint8_t *key, size_t room) 
 
 static void send_all(void) {
     static uint8_t out[DTLS_ROOM];
-    uint8_t peer[KS_NAMES_KEY];
+    uint8_t peer[KS_KEY_ROOM];
     ks_address to;
     size_t len, peer_len;
     while (ks_server_next_out(&server, &to, out, sizeof out, &len) == KS_DONE) {

@@ -3,7 +3,7 @@
 use crate::{until, Error, OpenError, MAX_ARRIVED};
 use knifesilver::{CallError, CallId, Code, Config, Fetched, Method, Report, Request, MAX_DATAGRAM};
 use std::collections::{HashMap, VecDeque};
-use std::net::{Ipv4Addr, SocketAddr, SocketAddrV4};
+use std::net::{Ipv4Addr, SocketAddrV4};
 use std::time::Instant;
 use tokio::net::UdpSocket;
 use tokio::sync::{mpsc, oneshot, watch};
@@ -135,7 +135,7 @@ impl Task {
                 },
                 got = self.socket.recv_from(&mut arrived) => {
                     // (an error tells of a datagram that nobody took; one that finds no memory is lost)
-                    if let Ok((len, SocketAddr::V4(from))) = got {
+                    if let Ok((len, from)) = got {
                         let _ = self.end.handle(Instant::now(), from, &arrived[..len]);
                     }
                 }
@@ -154,7 +154,7 @@ impl Task {
             let _ = self.end.handle_timeout(Instant::now());
             while let Some(transmit) = self.end.poll_transmit(&mut buffer) {
                 // What the socket does not take is lost, and sent again if it is to be.
-                let _ = self.socket.send_to(&buffer[..transmit.size], SocketAddr::V4(transmit.destination)).await;
+                let _ = self.socket.send_to(&buffer[..transmit.size], transmit.destination).await;
             }
             let mut told = false;
             while let Some((id, report)) = self.end.poll_report() {

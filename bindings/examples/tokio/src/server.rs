@@ -91,7 +91,7 @@ impl Task {
                 },
                 got = self.socket.recv_from(&mut arrived) => {
                     // (an error tells of a datagram that nobody took; one that finds no memory is lost)
-                    if let (Ok((len, SocketAddr::V4(from))), true) = (got, self.left.is_empty()) {
+                    if let (Ok((len, from)), true) = (got, self.left.is_empty()) {
                         let _ = self.end.handle(Instant::now(), from, &arrived[..len]);
                     }
                 }
@@ -130,7 +130,7 @@ impl Task {
         }
         while let Some(transmit) = self.end.poll_transmit(&mut buffer) {
             // What the socket does not take is lost, and sent again if it is to be.
-            let _ = self.socket.send_to(&buffer[..transmit.size], SocketAddr::V4(transmit.destination)).await;
+            let _ = self.socket.send_to(&buffer[..transmit.size], transmit.destination).await;
         }
     }
 }

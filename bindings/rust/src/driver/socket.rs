@@ -4,7 +4,7 @@ use super::OpenError;
 use crate::{fits_library, MAX_DATAGRAM};
 use std::fmt;
 use std::io::{self, ErrorKind};
-use std::net::{SocketAddr, SocketAddrV4, UdpSocket};
+use std::net::{SocketAddr, SocketAddrV4, ToSocketAddrs, UdpSocket};
 use std::time::{Duration, Instant};
 
 /// No datagram that arrives is longer, in bytes.
@@ -55,7 +55,10 @@ impl Socket {
     }
 
     /// Sends what the end has to be sent. What the socket does not take is lost; the end sends it again if it is to be.
-    pub(super) fn send_all(&self, mut next: impl FnMut(&mut [u8; MAX_DATAGRAM]) -> Option<crate::Transmit>) {
+    pub(super) fn send_all<P: ToSocketAddrs>(
+        &self,
+        mut next: impl FnMut(&mut [u8; MAX_DATAGRAM]) -> Option<crate::Transmit<P>>,
+    ) {
         let mut buffer = [0; MAX_DATAGRAM];
         while let Some(transmit) = next(&mut buffer) {
             let _ = self.udp.send_to(&buffer[..transmit.size], transmit.destination);

@@ -96,7 +96,7 @@ impl Asker {
 
     /// The datagram that is to be sent next, in the buffer.
     #[must_use = "a datagram that is not sent is lost"]
-    pub fn poll_transmit(&mut self, buffer: &mut [u8; MAX_DATAGRAM]) -> Option<Transmit> {
+    pub fn poll_transmit(&mut self, buffer: &mut [u8; MAX_DATAGRAM]) -> Option<Transmit<SocketAddrV4>> {
         let (mut to, mut size) = (raw::ks_address::default(), 0);
         let answer = self.raw.next_out(&mut to, buffer, &mut size);
         (answer == raw::KS_DONE).then(|| Transmit { destination: socket_address(to), size })

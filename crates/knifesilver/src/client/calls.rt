@@ -150,7 +150,7 @@ fn call(held: &mut Held, now: u64, request: Request, id: &mut u64) -> i32
 {
     match held {
         Held::Client(client) => taken(client.client.call(Moment(now), request), id),
-        Held::Server(_) => NOT_LIVE,
+        Held::Server(_) | Held::Names(_) => NOT_LIVE,
     }
 }
 
@@ -214,7 +214,7 @@ fn observe(held: &mut Held, now: u64, path: Path, id: &mut u64) -> i32
 {
     match held {
         Held::Client(client) => taken(client.client.observe(Moment(now), path), id),
-        Held::Server(_) => NOT_LIVE,
+        Held::Server(_) | Held::Names(_) => NOT_LIVE,
     }
 }
 
@@ -266,7 +266,7 @@ fn cancel(held: &mut Held, now: u64, id: u64) -> i32
             Ok(()) => NOTHING,
             Err(why) => cancel_number(why),
         },
-        Held::Server(_) => NOT_LIVE,
+        Held::Server(_) | Held::Names(_) => NOT_LIVE,
     }
 }
 
@@ -308,7 +308,7 @@ fn forget(held: &mut Held, id: u64) -> i32
                 NOTHING
             }
         }
-        Held::Server(_) => NOT_LIVE,
+        Held::Server(_) | Held::Names(_) => NOT_LIVE,
     }
 }
 

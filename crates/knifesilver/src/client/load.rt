@@ -24,7 +24,7 @@ fn tell(held: &Held, now: u64, load: &mut KsEndLoad) -> i32
             *load = client_load(ours.client.load(Moment(now)));
             NOTHING
         }
-        Held::Server(_) => NOT_LIVE,
+        Held::Server(_) | Held::Names(_) => NOT_LIVE,
     }
 }
 

@@ -204,7 +204,7 @@ fn next_report(held: &mut Held, report: &mut KsReport, room: &mut [u8]) -> i32
 {
     match held {
         Held::Client(client) => next_of(client, report, room),
-        Held::Server(_) => NOT_LIVE,
+        Held::Server(_) | Held::Names(_) => NOT_LIVE,
     }
 }
 

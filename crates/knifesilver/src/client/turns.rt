@@ -27,7 +27,7 @@ fn feed(held: &mut Held, now: u64, from: Endpoint, datagram: &[u8], word: u64) -
             Ok(()) => NOTHING,
             Err(_lost) => NO_MEMORY,
         },
-        Held::Server(_) => NOT_LIVE,
+        Held::Server(_) | Held::Names(_) => NOT_LIVE,
     }
 }
 
@@ -81,7 +81,7 @@ fn tick(held: &mut Held, now: u64, word: u64) -> i32
             Ok(false) => NOTHING,
             Err(_) => NO_MEMORY,
         },
-        Held::Server(_) => NOT_LIVE,
+        Held::Server(_) | Held::Names(_) => NOT_LIVE,
     }
 }
 
@@ -123,7 +123,7 @@ fn due(held: &Held, at: &mut u64) -> i32
             }
             None => NOTHING,
         },
-        Held::Server(_) => NOT_LIVE,
+        Held::Server(_) | Held::Names(_) => NOT_LIVE,
     }
 }
 

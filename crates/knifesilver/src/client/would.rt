@@ -20,7 +20,7 @@ fn foretell(held: &Held, now: u64, from: Endpoint, datagram: &[u8]) -> i32
 {
     match held {
         Held::Client(ours) => would_number(ours.client.would(Moment(now), from, datagram)),
-        Held::Server(_) => NOT_LIVE,
+        Held::Server(_) | Held::Names(_) => NOT_LIVE,
     }
 }
 

@@ -44,7 +44,7 @@ fn tell(held: &Held, told: &mut KsEnded) -> i32
             }
             None => NOTHING,
         },
-        Held::Client(_) => NOT_LIVE,
+        Held::Client(_) | Held::Names(_) => NOT_LIVE,
     }
 }
 

@@ -62,7 +62,7 @@ fn get(held: &Held, path: &Path, shown: &mut KsRepresentation, room: &mut [u8]) 
 {
     match held {
         Held::Server(server) => get_from(server, path, shown, room),
-        Held::Client(_) => NOT_LIVE,
+        Held::Client(_) | Held::Names(_) => NOT_LIVE,
     }
 }
 

@@ -24,7 +24,7 @@ fn tell(held: &Held, now: u64, load: &mut KsEndLoad) -> i32
             *load = server_load(server.server.load(Moment(now)));
             NOTHING
         }
-        Held::Client(_) => NOT_LIVE,
+        Held::Client(_) | Held::Names(_) => NOT_LIVE,
     }
 }
 

@@ -64,7 +64,7 @@ fn set(
             }
             Err(why) => refused(why),
         },
-        Held::Client(_) => NOT_LIVE,
+        Held::Client(_) | Held::Names(_) => NOT_LIVE,
     }
 }
 
@@ -173,7 +173,7 @@ fn update(
             }
             None => replace(server, now, path, format, body, version),
         },
-        Held::Client(_) => NOT_LIVE,
+        Held::Client(_) | Held::Names(_) => NOT_LIVE,
     }
 }
 
@@ -241,7 +241,7 @@ fn remove(held: &mut Held, now: u64, path: &Path) -> i32
             Ok(done) => removed(done),
             Err(_) => NO_MEMORY,
         },
-        Held::Client(_) => NOT_LIVE,
+        Held::Client(_) | Held::Names(_) => NOT_LIVE,
     }
 }
 
@@ -295,7 +295,7 @@ fn set_delay(held: &mut Held, path: &Path, ms: u64) -> i32
             Err(DelayRefusal::Full) => DELAY_FULL,
             Err(DelayRefusal::Memory) => NO_MEMORY,
         },
-        Held::Client(_) => NOT_LIVE,
+        Held::Client(_) | Held::Names(_) => NOT_LIVE,
     }
 }
 

@@ -54,7 +54,7 @@ fn next_out(held: &mut Held, to: &mut KsAddress, room: &mut [u8], len: &mut usiz
 {
     match held {
         Held::Server(server) => next_of(server, to, room, len),
-        Held::Client(_) => NOT_LIVE,
+        Held::Client(_) | Held::Names(_) => NOT_LIVE,
     }
 }
 
@@ -150,7 +150,7 @@ fn applied(held: &Held, told: &mut KsApplied, room: &mut [u8]) -> i32
             Some(applied) => tell(applied, told, room),
             None => NOTHING,
         },
-        Held::Client(_) => NOT_LIVE,
+        Held::Client(_) | Held::Names(_) => NOT_LIVE,
     }
 }
 

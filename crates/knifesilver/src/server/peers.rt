@@ -25,7 +25,7 @@ fn know(held: &Held, now: u64, peer: Endpoint) -> i32
                 NOTHING
             }
         }
-        Held::Client(_) => NOT_LIVE,
+        Held::Client(_) | Held::Names(_) => NOT_LIVE,
     }
 }
 

@@ -31,7 +31,7 @@ fn set_plain(held: &mut Held, path: &Path) -> i32
             Err(PlainRefusal::Full) => PLAIN_FULL,
             Err(PlainRefusal::Memory) => NO_MEMORY,
         },
-        Held::Client(_) => NOT_LIVE,
+        Held::Client(_) | Held::Names(_) => NOT_LIVE,
     }
 }
 

@@ -211,7 +211,7 @@ fn noted(held: &mut Held, room: &mut [u8], len: &mut usize) -> i32
 {
     match held {
         Held::Server(server) => noted_by(server, room, len),
-        Held::Client(_) => NOT_LIVE,
+        Held::Client(_) | Held::Names(_) => NOT_LIVE,
     }
 }
 

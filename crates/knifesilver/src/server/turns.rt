@@ -28,7 +28,7 @@ fn feed(held: &mut Held, now: u64, from: Endpoint, datagram: &[u8], word: u64) -
             Ok(()) => NOTHING,
             Err(_lost) => NO_MEMORY,
         },
-        Held::Client(_) => NOT_LIVE,
+        Held::Client(_) | Held::Names(_) => NOT_LIVE,
     }
 }
 
@@ -83,7 +83,7 @@ fn tick(held: &mut Held, now: u64, word: u64) -> i32
             Ok(false) => NOTHING,
             Err(_) => NO_MEMORY,
         },
-        Held::Client(_) => NOT_LIVE,
+        Held::Client(_) | Held::Names(_) => NOT_LIVE,
     }
 }
 
@@ -125,7 +125,7 @@ fn due(held: &Held, at: &mut u64) -> i32
             }
             None => NOTHING,
         },
-        Held::Client(_) => NOT_LIVE,
+        Held::Client(_) | Held::Names(_) => NOT_LIVE,
     }
 }
 

@@ -20,7 +20,7 @@ fn foretell(held: &Held, now: u64, from: Endpoint, datagram: &[u8]) -> i32
 {
     match held {
         Held::Server(server) => would_number(server.server.would(Moment(now), from, datagram)),
-        Held::Client(_) => NOT_LIVE,
+        Held::Client(_) | Held::Names(_) => NOT_LIVE,
     }
 }
 

@@ -1,10 +1,10 @@
-/* ks_names.h under a real server: many peers through few places, over a network that loses, repeats and delays, in
- * made-up time. name_ends [SECONDS] [SEED] A peer sends a Confirmable POST with a token of its own, up to four copies
+/* ks_places.h under a real server: many peers through few places, over a network that loses, repeats and delays, in
+ * made-up time. place_ends [SECONDS] [SEED] A peer sends a Confirmable POST with a token of its own, up to four copies
  * in 45 s, each up to 100 s late. What must hold: no request is applied twice; whoever gets an acknowledgement gets the
  * one of its own token; who observes is not forgotten but by the close of its session. Status 1 with what was broken.
  */
 #include "knifesilver.h"
-#include "ks_names.h"
+#include "ks_places.h"
 #include <stdio.h>
 #include <stdlib.h>
 
@@ -15,7 +15,7 @@
 static uint64_t s = 88172645463325252u, now;
 static uint64_t rnd(void) { return s ^= s << 13, s ^= s >> 7, s ^= s << 17; }
 static void broken(const char *what, uint64_t x) {
-    printf("name_ends: %s (%llu, at %.1f s)\n", what, (unsigned long long)x, (double)now / 1000), exit(1);
+    printf("place_ends: %s (%llu, at %.1f s)\n", what, (unsigned long long)x, (double)now / 1000), exit(1);
 }
 
 /* What is under way to the server, as a heap by moment. */
@@ -55,7 +55,7 @@ static struct {
     uint64_t free_at[4];
 } peers[PEERS];
 static ks_server server;
-static ks_names names;
+static ks_places names;
 static ks_name_place places[PLACES];
 
 /* The names that were retired: what goes to one of them goes to nobody, and may. */
@@ -67,7 +67,7 @@ static bool was_retired(const ks_address *n) {
     return false;
 }
 
-static uint32_t key_of(uint32_t peer, uint8_t key[KS_NAMES_KEY]) { /* as long as that of ks_udp6.h */
+static uint32_t key_of(uint32_t peer, uint8_t key[KS_KEY_ROOM]) { /* as long as that of ks_udp6.h */
     memset(key, 0x20, 42), memcpy(key + 12, &peer, 4);
     return 42;
 }
@@ -92,12 +92,12 @@ static uint32_t most;
 /* As a DTLS session that is closed: its name goes at once, what is under way is worth nothing, and Message IDs begin
  * anew. */
 static void close_session(uint32_t peer) {
-    uint8_t key[KS_NAMES_KEY];
+    uint8_t key[KS_KEY_ROOM];
     ks_address name;
     uint32_t key_len = key_of(peer, key);
-    if (ks_names_find(&names, key, key_len, &name) == KS_DONE) {
+    if (ks_places_find(&names, key, key_len, &name) == KS_DONE) {
         if (gone_len == gone_room) gone = realloc(gone, (gone_room = gone_room * 2 + 64) * sizeof *gone);
-        ks_names_retire(&names, &name);
+        ks_places_retire(&names, &name);
         retired++;
         gone[gone_len++] = name;
     }
@@ -138,12 +138,12 @@ static void change(void) {
 
 static void arrive(flying f) {
     static char path[KS_PATH_ROOM];
-    uint8_t d[32], key[KS_NAMES_KEY];
+    uint8_t d[32], key[KS_KEY_ROOM];
     ks_address name;
     ks_applied done;
     size_t len = spell(&f, d), key_len = key_of(f.peer, key);
     if (f.session != peers[f.peer].session) return;
-    if (ks_refused(ks_names_from(&names, now, key, key_len, &name))) {
+    if (ks_refused(ks_places_from(&names, now, key, key_len, &name))) {
         no_place++;
         return;
     }
@@ -175,13 +175,13 @@ static void look_at(const uint8_t *out, uint32_t peer) {
 }
 
 static void send_all(void) {
-    uint8_t out[KS_DATAGRAM_ROOM], key[KS_NAMES_KEY];
+    uint8_t out[KS_DATAGRAM_ROOM], key[KS_KEY_ROOM];
     size_t len, key_len;
     ks_address to;
     while (ks_server_next_out(&server, &to, out, sizeof out, &len) == KS_DONE) {
         uint32_t peer;
         sent++;
-        if (!ks_names_to(&names, now, &to, out, len, key, &key_len)) {
+        if (!ks_places_to(&names, now, &to, out, len, key, &key_len)) {
             unknown++;
             if (out[0] >> 4 == 4 && !was_retired(&to)) broken("a notification to a peer that was forgotten", unknown);
             continue;
@@ -198,7 +198,7 @@ static void begin(void) {
     applied = calloc(most + 1, 1);
     token_peer = calloc(most + 1, 4);
     if (ks_server_new(&server, &config, &seed) != KS_OK) exit(2);
-    ks_names_init(&names, places, PLACES, WATCH, rnd(), rnd());
+    ks_places_init(&names, places, PLACES, WATCH, rnd(), rnd());
     change();
     for (uint32_t i = 0; i < PEERS; i++) peers[i].next = (uint16_t)(rnd() % 8); /* many use the same Message IDs */
 }
@@ -218,7 +218,7 @@ int main(int argc, char **argv) {
         while (ks_server_tick(&server, now, rnd()) == KS_DONE) {}
         send_all();
     }
-    printf("name_ends: %.0f s, %u requests of %u peers through %u places: %llu applied, each once; ",
+    printf("place_ends: %.0f s, %u requests of %u peers through %u places: %llu applied, each once; ",
            (double)now / 1000, tokens, PEERS, PLACES, (unsigned long long)once);
     printf("%llu datagrams out (%llu of no peer), %llu acks, %llu notifications; ", (unsigned long long)sent,
            (unsigned long long)unknown, (unsigned long long)acks, (unsigned long long)notified);
