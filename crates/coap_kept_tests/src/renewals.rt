@@ -191,7 +191,12 @@ fn what_is_told_of_it(rt: HostRuntime) -> Result<(), AllocError> {
     assert!(rt; kept.is_ok());
     let lines = b"told_anew.journal: 4 frames, 2 turns, 4 inputs replayed\n\
         told_anew.journal: silent for 400000 ms, then begun anew\n";
-    assert!(rt; told.try_borrow().expect(&rt, "a line").as_slice().starts_with(lines));
+    assert!(rt;
+        told.try_borrow()
+            .expect(&rt, "a line")
+            .as_slice()
+            .starts_with(lines)
+    );
     Ok(())
 }
 
