@@ -66,21 +66,28 @@ fn a_file_says_how_its_server_began_and_what_it_took_first(rt: HostRuntime) {
     assert!(rt; began.setup == Some(SETUP));
 }
 
+// Why these bytes are no journal.
+fn fault_of(bytes: &[u8]) -> Option<FileError> {
+    match judge(bytes) {
+        Ok(_) => None,
+        Err(fault) => Some(fault),
+    }
+}
+
 #[test]
 fn no_other_file_is_taken_for_a_journal(rt: HostRuntime) {
-    let unreadable = Err(FileError::Unbegun(BeginError::Unreadable));
+    let unreadable = Some(FileError::Unbegun(BeginError::Unreadable));
     let other = frame(&rt, 0, b"three");
     for bytes in [b"text" as &[u8], b"\0\0\0X", other.as_slice()] {
-        let judged = judge(bytes).map(|_| ());
-        assert!(rt; judged == unreadable);
+        assert!(rt; fault_of(bytes) == unreadable);
     }
     // Another format, where its number stands behind the length, its sum and the kind.
     let mut bytes = journal(&rt);
     if let Some(byte) = bytes.get_mut(30) {
         *byte ^= 1;
     }
-    let damaged = judge(bytes.as_slice()).map(|_| ());
-    assert!(rt; damaged == Err(FileError::Damaged(Damage { at: 0 })));
+    let damaged = Some(FileError::Damaged(Damage { at: 0 }));
+    assert!(rt; fault_of(bytes.as_slice()) == damaged);
 }
 
 // What words that say this differ in from a server that began so.
@@ -101,11 +108,10 @@ fn what_words_say_otherwise_is_named(rt: HostRuntime) {
         assert!(rt; false);
         return;
     };
-    let small = BodyLimit::new(100);
     assert!(rt; differs(&began, None, None).is_none());
     assert!(rt; differs(&began, Some(9), Some(BodyLimit::default())).is_none());
-    assert!(rt; differs(&began, Some(8), small) == Some(Differing::Word));
-    assert!(rt; differs(&began, None, small) == Some(Differing::Limit(65_536)));
+    assert!(rt; differs(&began, Some(8), BodyLimit::new(100)) == Some(Differing::Word));
+    assert!(rt; differs(&began, None, BodyLimit::new(100)) == Some(Differing::Limit(65_536)));
     let other = Wishes {
         word: None,
         limit: None,
@@ -114,8 +120,10 @@ fn what_words_say_otherwise_is_named(rt: HostRuntime) {
     };
     assert!(rt; what_differs(&began, &other) == Some(Differing::Remembered(4_096)));
     let setup = Wishes {
+        word: None,
+        limit: None,
         remembered: None,
-        ..other
+        setup: Some(&[]),
     };
     assert!(rt; what_differs(&began, &setup) == Some(Differing::Setup));
 }
