@@ -1,7 +1,8 @@
 -- Where a server is that is asked, and by which endpoint a link knows it.
 use Rattle.std.specs.Prelude.{◌≡◌, ⊤, ℕ, Bool, true, false, List, [], ◌∷◌, Option, None, Some}
 use Rattle.std.specs.Net.Addr.{IsIpv4Mapped, ipv4_octets, ipv6_segments, low_octets}
-use Rattle.std.specs.Net.Socket.{v6_ip, v6_port, v6_scope_id}
+use Rattle.std.specs.Net.Addr.{IsLoopbackV4, IsLoopbackV6}
+use Rattle.std.specs.Net.Socket.{v4_ip, v4_port, v6_ip, v6_port, v6_scope_id}
 use Rattle.std.specs.declared.net.socket_addr.SocketAddr.{SocketAddr}
 use Rattle.std.specs.declared.net.socket_addr.SocketAddr.TheVariants.{V4, V6}
 use Rattle.coap_types.specs.declared.endpoint.Endpoint.{Endpoint}
@@ -47,6 +48,16 @@ IsOfAddress (address.Four ip) port there = IsAtFour (ipv4_octets ip) port there
 IsOfAddress (address.Six ip scope) port there =
     (IsIpv4Mapped (ipv6_segments ip) → IsAtFour (low_octets ip) port there)
     × ((IsIpv4Mapped (ipv6_segments ip) → ⊥) → IsAtSix (ipv6_segments ip) scope port there)
+
+-- .. at this socket address, which the system names
+abbrev pub IsOfSocket : SocketAddr → Peer → Type 0
+IsOfSocket (V4 a) there = IsAtFour (ipv4_octets (v4_ip a)) (v4_port a) there
+IsOfSocket (V6 a) there = IsOfAddress (address.Six (v6_ip a) (v6_scope_id a)) (v6_port a) there
+
+-- only the machine itself reaches it (RFC 1122, section 3.2.1.3; RFC 4291, section 2.5.3)
+abbrev pub IsLoopback : Address → Type 0
+IsLoopback (address.Four ip) = IsLoopbackV4 ip
+IsLoopback (address.Six ip scope) = IsLoopbackV6 ip
 
 -- .. that of a name is wherever the system says
 abbrev pub IsOfHost : Host → ℕ → Peer → Type 0

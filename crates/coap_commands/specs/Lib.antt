@@ -5,8 +5,10 @@ pub mod Captured
 pub mod Capturing
 pub mod Colours
 pub mod Discovers
+pub mod Drawn
 pub mod Dumps
 pub mod Ends
+pub mod Freshness
 pub mod Hosts
 pub mod JsonLines
 pub mod JsonValues

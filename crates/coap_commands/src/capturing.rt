@@ -75,7 +75,10 @@ fn mapped(four: Endpoint) -> SixEndpoint
 }
 
 // The endpoint of a peer over IPv6.
-fn endpoint_of(peer: SixPeer) -> SixEndpoint {
+fn endpoint_of(peer: SixPeer) -> SixEndpoint
+    ensures ip { result.ip ≡ peer.ip }
+    ensures port { result.port ≡ peer.port }
+{
     let (ip, port) = (peer.ip, peer.port);
     SixEndpoint { ip, port }
 }

@@ -1,5 +1,5 @@
 //! `serve`: a server over a socket.
-ghost use Rattle.std.specs.Prelude.{◌≡◌, IfOk, map};
+ghost use Rattle.std.specs.Prelude.{◌≡◌, ◌↔◌, IfOk, IsTrue, map};
 ghost use Rattle.coap_links.specs.Pumping.{SendsAll};
 ghost use Rattle.coap_links.specs.Turning.{Turns};
 ghost use Rattle.coap_resource.specs.Entries.{content_of};
@@ -8,6 +8,7 @@ ghost use Rattle.coap_server.specs.Object.Shown.{state_of};
 ghost use Rattle.coap_commands.specs.Serves.{Feeds, Serves};
 ghost use Rattle.coap_scripts.specs.Settings.{setting_of};
 ghost use Rattle.coap_commands.specs.Asked.{IsOrigin};
+ghost use Rattle.coap_commands.specs.Hosts.{IsLoopback};
 ghost use Rattle.coap_commands.specs.Kept.{IsServedAsSaid, IsServedOn};
 ghost use Rattle.coap_commands.specs.Served.{FedFrom, IsServed, IsServedBy, not_set_up_status};
 ghost use Rattle.coap_scripts.specs.declared.status.Status.TheVariants.{Done};
@@ -96,7 +97,9 @@ pub fn serve_over<A: Allocator + Copy, E: End<A>, L: Link, T: Timekeeper, W: Wri
 }
 
 // Whether only the machine itself reaches an address (RFC 1122, section 3.2.1.3; RFC 4291, section 2.5.3).
-fn is_loopback(address: Address) -> bool {
+fn is_loopback(address: Address) -> bool
+    ensures { IsTrue result ↔ IsLoopback address }
+{
     match address {
         Address::Four(ip) => ip.is_loopback(),
         Address::Six { ip, .. } => ip.is_loopback(),
