@@ -10,7 +10,7 @@ use Rattle.coap_client.specs.declared.client.report.CallId.{CallId}
 use Rattle.coap_client.specs.declared.refusals.CallRefusal.{CallRefusal}
 use Rattle.coap_client.proofs.Facts.EachCall.{led_client}
 use Rattle.coap_commands.specs.Asks.{Asks, AsksNothing, Becomes, Chain, Comes, status_after, takes_report}
-use Rattle.coap_commands.specs.JsonLines.{Tells, WritesOutcome}
+use Rattle.coap_commands.specs.JsonLines.{Tells, WritesRequest}
 use Rattle.coap_commands.specs.declared.calling.Outcome.{Outcome}
 use Rattle.coap_commands.specs.declared.calling.Outcome.TheVariants.{GaveUp, Refused, Reported}
 use Rattle.coap_scripts.specs.declared.status.Status.{Status}
@@ -84,7 +84,7 @@ pub told_as : (Leads : Endpoint → Sizes → Setup → Type 0) (json : Bool) (b
     → ((server : Endpoint) (sizes : Sizes) (w : Setup) → Leads server sizes w
     → Becomes server sizes w give_up request outcome)
     → IfOk ended (λ s. s ≡ status_after request.method outcome)
-    → OnOk ended (WritesOutcome json before after outcome)
+    → OnOk ended (WritesRequest json request.method before after outcome)
     → IfOk ended (λ s. (server : Endpoint) (sizes : Sizes) (w : Setup) → Leads server sizes w
     → Tells json before after server sizes w give_up request s)
 told_as Leads json before after give_up request outcome (Ok s) becomes is written =

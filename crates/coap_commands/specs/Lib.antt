@@ -17,6 +17,7 @@ pub mod Observes
 pub mod Pairs
 pub mod Pinged
 pub mod Polls
+pub mod Printed
 pub mod Progress
 pub mod ScriptSettings
 pub mod Served

@@ -1,5 +1,6 @@
 //! Asking something of a server, and printing what came of it.
-ghost use Rattle.std.specs.Prelude.{◌≡◌, ℕ, [], Some, IfOk, IfNone, IfSome, OnOk};
+ghost use Rattle.std.specs.Prelude.{◌≡◌, ℕ, [], Ok, Some, IfOk, IfNone, IfSome, OnOk};
+ghost use Rattle.std.specs.declared.alloc.Global.{Global};
 ghost use Rattle.coap_types.specs.declared.endpoint.Endpoint.{Endpoint as EndpointSpec};
 ghost use Rattle.coap_block.specs.Sizes.{Sizes};
 ghost use Rattle.coap_layer.specs.declared.setup.Setup.{Setup as SetupSpec};
@@ -7,10 +8,13 @@ ghost use Rattle.coap_client.specs.Led.{Led, Step};
 ghost use Rattle.coap_client.specs.Object.CallShown.{shown_request};
 ghost use Rattle.coap_client.specs.Object.Shown.{shown_report};
 ghost use Rattle.coap_client.specs.Trace.{NextReport};
+ghost use Rattle.coap_client.specs.declared.client.report.Report as R;
 ghost use Rattle.coap_commands.specs.Asks.{AsksNothing, Becomes, Comes, Turned, changed_status};
 ghost use Rattle.coap_commands.specs.Asks.{got_status, status_after};
-ghost use Rattle.coap_commands.specs.JsonLines.{Tells, WritesOutcome};
+ghost use Rattle.coap_commands.specs.JsonLines.{Tells, WritesRequest};
+ghost use Rattle.coap_commands.specs.Printed.{WritesGot, WritesInWords};
 ghost use Rattle.coap_commands.specs.Terms.{setup_of, sizes_of};
+ghost use Rattle.coap_commands.specs.declared.calling.Outcome.TheVariants.{Reported};
 
 use crate::bearing::bear_in_all;
 use crate::calling::{Outcome, call, outcome_text};
@@ -52,7 +56,8 @@ fn awaited<H: BuildHasher, L: Link, T: Timekeeper, E: Write>(
     begin: Moment,
     terms: &Terms,
 ) -> Result<Outcome, Stop>
-    ensures { IfOk result (Comes AsksNothing terms.now.give_up client.old id.0) }
+    ensures comes { IfOk result (Comes AsksNothing terms.now.give_up client.old id.0) }
+    ensures sent { (report : R.Report Global) → result ≡ Ok (Reported report) → client.new.layer.layer.queue ≡ [] }
 {
     let mut tally = fresh_tally(terms.word);
     // More turns than a program lives.
@@ -112,7 +117,8 @@ fn tell_got<O: Write, E: Write>(
     out: &mut O,
     err: &mut E,
 ) -> Result<Status, Stop>
-    ensures { IfOk result (λ status. status ≡ got_status outcome.now) }
+    ensures status { IfOk result (λ status. status ≡ got_status outcome.now) }
+    ensures printed { OnOk result (WritesGot (O.contents out.old) (O.contents out.new) outcome.now) }
 {
     if let Outcome::Reported(Report::Body(fetched)) = outcome {
         out.write_all(fetched.body.as_slice())?;
@@ -146,7 +152,8 @@ fn tell<O: Write, E: Write>(
     out: &mut O,
     err: &mut E,
 ) -> Result<Status, Stop>
-    ensures { IfOk result (λ status. status ≡ status_after method outcome.now) }
+    ensures status { IfOk result (λ status. status ≡ status_after method outcome.now) }
+    ensures printed { OnOk result (WritesInWords method (O.contents out.old) (O.contents out.new) outcome.now) }
 {
     match method {
         Method::Get => tell_got(alloc, outcome, out, err),
@@ -177,7 +184,7 @@ fn tell_as<T: Timekeeper, O: Write, E: Write>(
     err: &mut E,
 ) -> Result<Status, Stop>
     ensures status { IfOk result (λ status. status ≡ status_after method outcome.now) }
-    ensures written { OnOk result (WritesOutcome is_json (O.contents out.old) (O.contents out.new) outcome.now) }
+    ensures written { OnOk result (WritesRequest is_json method (O.contents out.old) (O.contents out.new) outcome.now) }
 {
     if !is_json {
         return tell(alloc, method, outcome, out, err);
@@ -227,7 +234,8 @@ pub fn ask_over<L: Link, T: Timekeeper, H: BuildHasher + Drop, O: Write, E: Writ
 ) -> Result<Status, Stop>
     // A client of this server, which began by the terms, was handed this request, and nothing else, and given up only
     // where so many seconds may pass; the status is 0 where a body (of a GET) or success was reported of it, and else
-    // 1. Where that is told in JSON, what is written is the line of what became of the request, and nothing else.
+    // 1. Where that is told in JSON, what is written is the line of what became of the request, and nothing else; else,
+    // of a GET that got a body, just that body.
     ensures { IfOk result (Tells terms.now.json (O.contents out.old) (O.contents out.new)
         server (sizes_of terms.now) (setup_of terms.now) terms.now.give_up (shown_request request)) }
 {

@@ -1,5 +1,6 @@
 //! One run of the program, over the writers that it is handed.
-ghost use Rattle.std.specs.Prelude.{◌≡◌, ◌≢◌, ◌≤◌, ◌⊎◌, IfOk, map, string_bytes};
+ghost use Rattle.std.specs.Prelude.{◌≡◌, ◌≢◌, ◌≤◌, ◌⊎◌, ◌↔◌, IfOk, map, string_bytes};
+ghost use Rattle.std.specs.IoError.{error_kind};
 ghost use Rattle.coap_commands.specs.Statuses.{CarriesOut, Ends, IsAnswered, IsCarriedTo, IsTold, ReadsText};
 ghost use Rattle.coap_scripts.specs.StatusNumbers.{status_number};
 ghost use Rattle.coap_commands.specs.Statuses.{status_of};
@@ -249,7 +250,9 @@ pub fn command_on<
 /// Says why the words of the command line can't be read, and answers the exit status.
 pub fn without_words<E: Write>(error: &io::Error, err: &mut E) -> u8
     // Where the words themselves can't be had, the status is 2 or 4.
-    ensures { (result ≡ 2) ⊎ (result ≡ 4) }
+    ensures answered { (result ≡ 2) ⊎ (result ≡ 4) }
+    // .. which is 4 exactly where memory was refused.
+    ensures memory { (result ≡ 4) ↔ (error_kind error.now ≡ ErrorKind.OutOfMemory) }
 {
     let status = if error.kind() == ErrorKind::OutOfMemory {
         let _ = writeln!(err, "no memory");

@@ -1,5 +1,5 @@
 //! `ping`: whether somebody is at an endpoint, and how soon it answers (RFC 7252, section 4.3).
-ghost use Rattle.std.specs.Prelude.{◌≡◌, ◌≤◌, ◌+◌, true, IfOk};
+ghost use Rattle.std.specs.Prelude.{◌≡◌, ◌≤◌, ◌+◌, ◌↔◌, true, IfOk};
 ghost use Rattle.coap_commands.specs.Pinged.{Comes, Drops, Hears, IsGivenUp, IsNext, IsPing, MaySend, Pings};
 
 use crate::bearing::bear_in_all;
@@ -56,7 +56,7 @@ fn send_again<L: Link>(ping: &mut Ping, link: &mut L, now: Moment)
 
 // Whether no answer is awaited any more.
 fn is_given_up(ping: &Ping, give_up: Option<u64>, now: Moment) -> bool
-    ensures { result ≡ true → IsGivenUp give_up ping.now now.0 }
+    ensures { (result ≡ true) ↔ IsGivenUp give_up ping.now now.0 }
 {
     ping.is_over(now) || has_lasted(give_up, ping.elapsed(now))
 }

@@ -1,6 +1,6 @@
 //! Getting what a server holds at a path again and again, by one client, and printing each reading (RFC 7252, section
 //! 5.8.1).
-ghost use Rattle.std.specs.Prelude.{◌≡◌, ◌∷◌, ℕ, List, [], length, true, Some, Ok, IfOk, OnOk};
+ghost use Rattle.std.specs.Prelude.{◌≡◌, ◌↔◌, ◌∷◌, ℕ, List, [], length, true, false, Some, Ok, IfOk, OnOk};
 ghost use Rattle.coap_types.specs.declared.endpoint.Endpoint.{Endpoint as EndpointSpec};
 ghost use Rattle.coap_block.specs.Sizes.{Sizes};
 ghost use Rattle.coap_layer.specs.declared.setup.Setup.{Setup as SetupSpec};
@@ -9,6 +9,7 @@ ghost use Rattle.coap_arguments.specs.declared.orders.What.TheVariants.{Get};
 ghost use Rattle.coap_commands.specs.Asked.{asked_request};
 ghost use Rattle.coap_commands.specs.Asks.{got_status};
 ghost use Rattle.coap_commands.specs.JsonLines.{WritesOutcome};
+ghost use Rattle.coap_commands.specs.Printed.{WritesReading};
 ghost use Rattle.coap_commands.specs.Polls.{Closes, Goes, HasCome, HasRead, IsLeft, Polls, Reading, Reads};
 ghost use Rattle.coap_commands.specs.Polls.{pending_after, read_status};
 ghost use Rattle.coap_commands.specs.Terms.{asked_terms, setup_of, sizes_of};
@@ -145,6 +146,8 @@ fn tell_as<T: Timekeeper, O: Write, E: Write>(
     ensures status { IfOk result (λ status. status ≡ got_status outcome.now) }
     ensures written { OnOk result (WritesOutcome options.now.json (O.contents out.old) (O.contents out.new)
         outcome.now) }
+    ensures printed { options.now.json ≡ false → OnOk result (WritesReading options.now.hex (O.contents out.old)
+        (O.contents out.new) outcome.now) }
 {
     if !options.json {
         return tell(alloc, outcome, options.hex, out, err);
@@ -162,7 +165,8 @@ fn tell<O: Write, E: Write>(
     out: &mut O,
     err: &mut E,
 ) -> Result<Status, Stop>
-    ensures { IfOk result (λ status. status ≡ got_status outcome.now) }
+    ensures status { IfOk result (λ status. status ≡ got_status outcome.now) }
+    ensures printed { OnOk result (WritesReading is_hex (O.contents out.old) (O.contents out.new) outcome.now) }
 {
     if let Outcome::Reported(Report::Body(fetched)) = outcome {
         print_line(alloc, fetched.body.as_slice(), is_hex, out)?;
@@ -247,7 +251,7 @@ fn pause<H: BuildHasher, L: Link, T: Timekeeper, E: Write>(
 
 // Whether so many readings are as many as are wanted.
 fn is_last(times: Option<u64>, readings: u64) -> bool
-    ensures { result ≡ true → times ≡ Some readings }
+    ensures { (result ≡ true) ↔ (times ≡ Some readings) }
 {
     times == Some(readings)
 }

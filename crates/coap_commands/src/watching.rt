@@ -1,10 +1,11 @@
 //! Observing a path, and observing it anew where nothing comes for long or the server ended that (RFC 7641).
-ghost use Rattle.std.specs.Prelude.{◌≡◌, ◌+◌, ℕ, Option, Result, true, false, IfNone, IfOk, IfSome};
+ghost use Rattle.std.specs.Prelude.{◌≡◌, ◌↔◌, ◌+◌, ℕ, Option, Result, true, false, IfNone, IfOk, IfSome};
 ghost use Rattle.coap_client.specs.Led.{State, Step};
 ghost use Rattle.coap_client.specs.Object.Shown.{shown_report};
 ghost use Rattle.coap_client.specs.Trace.{Report as ReportSpec, is_value};
 ghost use Rattle.coap_client.specs.Trace.{Observes as observes};
 ghost use Rattle.coap_commands.specs.Asks.{Turned, takes_report};
+ghost use Rattle.coap_commands.specs.Observes.{IsOver};
 ghost use Rattle.coap_commands.specs.Terms.{asked_terms, setup_of, sizes_of};
 ghost use Rattle.coap_commands.specs.Waiting.{HasPassed};
 ghost use Rattle.coap_commands.specs.Watches.{Follows, IsFollowed, IsLeft, IsLeftBy, IsNext, IsNoEnd, IsRegistered};
@@ -112,8 +113,10 @@ fn cancel_at_end<H: BuildHasher>(
 
 // After how many seconds it is given up, where they have passed and no value came.
 fn given_up(options: &AskOptions, heard: Heard, now: Moment) -> Option<u64>
-    ensures { IfSome result (λ seconds. (options.now.give_up ≡ Some seconds) × (heard.values ≡ 0)
+    ensures some { IfSome result (λ seconds. (options.now.give_up ≡ Some seconds) × (heard.values ≡ 0)
         × HasPassed seconds heard.since.0 now.0) }
+    ensures none { IfNone result (heard.values ≡ 0 → (n : ℕ) → options.now.give_up ≡ Some n
+        → HasPassed n heard.since.0 now.0 → ⊥) }
 {
     if heard.values > 0 {
         return None;
@@ -123,7 +126,8 @@ fn given_up(options: &AskOptions, heard: Heard, now: Moment) -> Option<u64>
 
 // Whether no value came for so long, and the observation is not over.
 fn is_silent(watching: &Watching<'_, '_>, heard: Heard, now: Moment) -> bool
-    ensures { result ≡ true → HasPassed watching.now.again heard.last.0 now.0 }
+    ensures { (result ≡ true) ↔ (HasPassed watching.now.again heard.last.0 now.0
+        × (IsOver watching.now.options.now heard.since.0 heard.values now.0 → ⊥)) }
 {
     passed(Some(watching.again), heard.last, now).is_some()
         && !is_over(watching.options, heard.since, heard.values, now)

@@ -17,8 +17,8 @@ loop-turn-preserved g c =
     (client_turned AsksNothing (λ call is. is) _ _ _ _ _ _ _ _ _ _ _ _ _ c.get_turn.ensures))
     (none_is _ _ c.next_report_of.ensures.none c.in_default.is)
 
-pub returns-in-Some : goal.returns-in-Some
-returns-in-Some g c = (
+pub returns-in-Some-clause-comes : goal.returns-in-Some-clause-comes
+returns-in-Some-clause-comes g c = (
   _,
   _,
   turned_on AsksNothing _ _ _ c.loop-turn.invariant

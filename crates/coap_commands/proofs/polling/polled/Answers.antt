@@ -12,4 +12,4 @@ loop-before-preserved g c =
 pub returns-then-is_last-2 : goal.returns-then-is_last-2
 returns-then-is_last-2 g c =
     ends_by _ _ _ _ _ c.in_ok-made.ensures.0 _ _ _ _ c.loop-before.invariant c.in_ok-made.ensures.2 _ _
-    (c.is_last-in-loop-before.ensures c.if-is_last-2.true) c.in_ok-made.ensures.1
+    (c.is_last-in-loop-before.ensures.0 c.if-is_last-2.true) c.in_ok-made.ensures.1
