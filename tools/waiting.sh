@@ -16,13 +16,18 @@ is_open() {
     grep -qis "^ *[0-9]*: [0-9a-f]*:$(printf %04x "$1") " /proc/net/udp /proc/net/udp6
 }
 
-# free_port: a UDP port that no socket of this machine has now, 5683 or the next one.
-free_port() {
-    port=5683
+# free_port_from N: a UDP port that no socket of this machine has now, N or the next one.
+free_port_from() {
+    port=$1
     while is_open "$port"; do
         port=$((port + 1))
     done
     echo "$port"
+}
+
+# free_port: such a port, 5683 or the next one.
+free_port() {
+    free_port_from 5683
 }
 
 # has_bytes FILE N: whether the file has so many bytes.
