@@ -5,6 +5,7 @@ mod ending;
 mod flooding;
 mod identifiers;
 mod limits;
+mod load;
 mod observing;
 mod plain;
 pub(crate) mod replies;
