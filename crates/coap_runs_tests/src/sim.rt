@@ -37,7 +37,7 @@ struct Ran {
 }
 
 // Runs a script over the store that is not named, a map.
-fn ran(alloc: Global, script: &[u8]) -> Ran {
+fn ran_by_default(alloc: Global, script: &[u8]) -> Ran {
     let mut printed = Vec::new(alloc);
     let mut err = Vec::new(alloc);
     let mut reader = script;
@@ -76,7 +76,7 @@ fn ran_over(alloc: Global, script: &[u8], store: StoreKind, plains: &[Path]) -> 
 
 // Runs one script over each store. All runs end so.
 fn check_script(rt: &impl Abort, alloc: Global, name: &str, script: &[u8], ending: Ending<'_>) {
-    is_ended_so(rt, name, &ran(alloc, script), ending);
+    is_ended_so(rt, name, &ran_by_default(alloc, script), ending);
     for store in [StoreKind::Map, StoreKind::List] {
         is_ended_so(rt, name, &ran_over(alloc, script, store, &[]), ending);
     }
@@ -181,7 +181,7 @@ fn scripts(rt: HostRuntime) -> Result<(), Fail> {
     for theme in themes {
         for script in scripts_of(rt.alloc(), &theme)?.iter() {
             let case = Case::with_ample_memory(rt.alloc(), script)?;
-            case.check(&ran(rt.alloc(), case.text.as_bytes()))?;
+            case.check(&ran_by_default(rt.alloc(), case.text.as_bytes()))?;
             check_over_each(rt.alloc(), &case, &[])?;
         }
     }
