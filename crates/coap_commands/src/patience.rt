@@ -1,14 +1,12 @@
 //! What is said where nothing comes for long.
-ghost use Rattle.std.specs.Prelude.{ℕ, List, Option, ◌≡◌, is_some};
-ghost use Rattle.coap_types.specs.declared.endpoint.Endpoint.{Endpoint as EndpointSpec};
-ghost use Rattle.coap_links.specs.Carried.{Packet};
+ghost use Rattle.std.specs.Prelude.{◌≡◌, is_some};
 ghost use Rattle.coap_commands.specs.Waiting.{latest_end, tells_of_wait};
 
+use crate::overheard::Listener;
 use crate::timekeeper::Timekeeper;
 use crate::waiting::{MS_PER_SECOND, passed};
-use coap_links::Link;
+use coap_types::Moment;
 use coap_types::transmission::MAX_TRANSMIT_WAIT_MS;
-use coap_types::{Endpoint, Moment};
 use std::io::Write;
 
 /// After how many seconds without a datagram it is said that nothing came.
@@ -110,76 +108,12 @@ impl<T: Timekeeper, W: Write> Patience<T, W> {
     }
 }
 
-/// A link over which it is said where nothing comes for long. What passes, the faults and the address are those of the
-/// link that it is around.
-#[derive(Drop)]
-pub struct PatientLink<L, T, W> {
-    link: L,
-    patience: Option<Patience<T, W>>,
-}
+impl<T: Timekeeper, W: Write> Listener for Patience<T, W> {
+    fn sent(&mut self, _is_refused: bool) {
+        self.begin();
+    }
 
-impl<L: Link + Drop, T: Timekeeper + Drop, W: Write + Drop> PatientLink<L, T, W> {
-    /// A link around this one; where nobody is to say it, it says nothing.
-    pub fn new(link: L, patience: Option<Patience<T, W>>) -> PatientLink<L, T, W>
-        // A patient link is around its link as that is.
-        ensures { result ≡ record { link = link; patience = patience } }
-    {
-        PatientLink { link, patience }
+    fn came(&mut self, bytes: Option<&[u8]>, _is_refused: bool) {
+        self.look(bytes.is_some());
     }
 }
-
-impl<L: Link + Drop, T: Timekeeper + Drop, W: Write + Drop> Link for PatientLink<L, T, W> {
-    ghost sends = { λ before to bytes after. L.sends before.link to bytes after.link };
-
-    ghost receives = { λ before came after. L.receives before.link came after.link };
-
-    ghost fault_count = { λ patient. L.fault_count patient.link };
-
-    ghost own_address = { λ patient. L.own_address patient.link };
-
-    ghost hears_refusal = { λ patient. L.hears_refusal patient.link };
-
-    fn send(&mut self, to: Endpoint, bytes: &[u8]) {
-        if let Some(patience) = &mut self.patience {
-            patience.begin();
-        }
-        self.link.send(to, bytes);
-    }
-
-    fn receive(&mut self, buf: &mut [u8]) -> Option<(Endpoint, usize)> {
-        let came = self.link.receive(buf);
-        if let Some(patience) = &mut self.patience {
-            patience.look(came.is_some());
-        }
-        came
-    }
-
-    fn faults(&self) -> u64 {
-        self.link.faults()
-    }
-
-    fn address(&self) -> Endpoint {
-        self.link.address()
-    }
-
-    fn is_refused(&self) -> bool {
-        self.link.is_refused()
-    }
-}
-
-/// What passes a patient link passes the link that it is around, unchanged; the faults and the address are those of
-/// that link.
-pub fn patient_link_law<L: Link + Drop, T: Timekeeper + Drop, W: Write + Drop>()
-    // What a patient link sends its link sends, the same bytes to the same endpoint.
-    ensures sends { (t u : _) (to : EndpointSpec) (bytes : List ℕ)
-        → ⟦<PatientLink<L, T, W> as Link>⟧.sends t to bytes u → L.sends t.link to bytes u.link }
-    // What a patient link receives its link received, and nothing where nothing came.
-    ensures receives { (t u : _) (came : Option Packet)
-        → ⟦<PatientLink<L, T, W> as Link>⟧.receives t came u → L.receives t.link came u.link }
-    // The faults of a patient link are those of its link, and no others.
-    ensures faults { (t : _) → ⟦<PatientLink<L, T, W> as Link>⟧.fault_count t ≡ L.fault_count t.link }
-    // A patient link is where its link is.
-    ensures address { (t : _) → ⟦<PatientLink<L, T, W> as Link>⟧.own_address t ≡ L.own_address t.link }
-    // A patient link hears that nobody listens where its link does.
-    ensures refusal { (t : _) → ⟦<PatientLink<L, T, W> as Link>⟧.hears_refusal t ≡ L.hears_refusal t.link }
-{}

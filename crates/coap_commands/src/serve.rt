@@ -193,6 +193,48 @@ fn tell_not_set_up<W: Write>(why: NotSetUp, out: &mut W) -> Result<Status, Stop>
     }
 }
 
+// Serves over a link at this port, as the words and the settings of a script say. Its peers stand so in a capture, and
+// are written so in words.
+fn serve_at<
+    R: AllocGlobal + Files + Clock + RandomSource,
+    L: Link + Drop,
+    P: Standing + Drop,
+    N: Peers + Drop,
+    O: Write,
+    E: Write,
+>(
+    rt: &R,
+    link: L,
+    peers: (P, N),
+    port: u16,
+    count: u64,
+    options: &ServeOptions,
+    settings: &[Setting],
+    showing: Showing<'_>,
+    out: &mut O,
+    err: &mut E,
+) -> Result<Status, Stop>
+    ensures { IfOk result (IsServedBy count options.now (map setting_of settings.now)) }
+{
+    let origin = origin_of(rt, options.word)?;
+    let file = capture_in(rt, showing.pcap)?;
+    warn(options, port, err);
+    let (standing, peers) = peers;
+    let tracing = Tracing::of(options.trace, showing.is_coloured);
+    serve_on(
+        rt,
+        link,
+        (standing, file),
+        (peers, tracing),
+        count,
+        origin,
+        options,
+        settings,
+        out,
+        err,
+    )
+}
+
 // Serves at an endpoint of IPv4, as the words and the settings of a script say.
 fn serve_four<R: AllocGlobal + Files + Net + Clock + RandomSource, O: Write, E: Write>(
     rt: &R,
@@ -206,25 +248,14 @@ fn serve_four<R: AllocGlobal + Files + Net + Clock + RandomSource, O: Write, E: 
 ) -> Result<Status, Stop>
     ensures { IfOk result (IsServedBy count options.now (map setting_of settings.now)) }
 {
-    let origin = origin_of(rt, options.word)?;
     let link = UdpLink::bind(rt, address)?;
-    let file = capture_in(rt, showing.pcap)?;
-    warn(options, address.port, err);
     let standing = FourStanding {
         own: link.address(),
     };
-    let tracing = Tracing::of(options.trace, showing.is_coloured);
-    serve_on(
-        rt,
-        link,
-        (standing, file),
-        (FourPeers, tracing),
-        count,
-        origin,
-        options,
-        settings,
-        out,
-        err,
+    let peers = (standing, FourPeers);
+    let port = address.port;
+    serve_at(
+        rt, link, peers, port, count, options, settings, showing, out, err,
     )
 }
 
@@ -241,24 +272,13 @@ fn serve_six<R: AllocGlobal + Files + Net + Clock + RandomSource, O: Write, E: W
 ) -> Result<Status, Stop>
     ensures { IfOk result (IsServedBy count options.now (map setting_of settings.now)) }
 {
-    let origin = origin_of(rt, options.word)?;
     let names = names_for(rt, MAX_CLIENTS)?;
     let link = Udp6Link::bind(rt, address, &names, ProgramTime::begin(rt)?)?;
-    let file = capture_in(rt, showing.pcap)?;
-    warn(options, address.port(), err);
     let standing = SixStanding::new(own_six(&names, link.address()), &names);
-    let tracing = Tracing::of(options.trace, showing.is_coloured);
-    serve_on(
-        rt,
-        link,
-        (standing, file),
-        (SixPeers::new(&names), tracing),
-        count,
-        origin,
-        options,
-        settings,
-        out,
-        err,
+    let peers = (standing, SixPeers::new(&names));
+    let port = address.port();
+    serve_at(
+        rt, link, peers, port, count, options, settings, showing, out, err,
     )
 }
 

@@ -1,13 +1,9 @@
 //! What is said where nothing is heard of an observation for long.
-ghost use Rattle.std.specs.Prelude.{ℕ, List, Option, ◌≡◌};
-ghost use Rattle.coap_types.specs.declared.endpoint.Endpoint.{Endpoint as EndpointSpec};
-ghost use Rattle.coap_links.specs.Carried.{Packet};
-
+use crate::overheard::Listener;
 use crate::timekeeper::Timekeeper;
 use crate::waiting::passed;
 use coap_codec::decode;
-use coap_links::Link;
-use coap_types::{Endpoint, Moment, uint_of};
+use coap_types::{Moment, uint_of};
 use std::io::Write;
 
 // The number of the option that says for how many seconds a response is fresh (RFC 7252, section 5.10.5).
@@ -81,79 +77,15 @@ impl<T: Timekeeper, W: Write> Silence<T, W> {
     }
 }
 
-/// A link over which it is said that nothing is heard. What passes, the faults and the address are those of the link
-/// that it is around.
-#[derive(Drop)]
-pub struct SilentLink<L, T, W> {
-    link: L,
-    silence: Option<Silence<T, W>>,
-}
-
-impl<L: Link + Drop, T: Timekeeper + Drop, W: Write + Drop> SilentLink<L, T, W> {
-    /// A link around this one; where nobody is to say it, it says nothing.
-    pub fn new(link: L, silence: Option<Silence<T, W>>) -> SilentLink<L, T, W>
-        // A `new` link that says that nothing is heard is around its link as that is.
-        ensures { result ≡ record { link = link; silence = silence } }
-    {
-        SilentLink { link, silence }
+impl<T: Timekeeper, W: Write> Listener for Silence<T, W> {
+    fn sent(&mut self, _is_refused: bool) {
+        self.begin();
     }
-}
 
-impl<L: Link + Drop, T: Timekeeper + Drop, W: Write + Drop> Link for SilentLink<L, T, W> {
-    ghost sends = { λ before to bytes after. L.sends before.link to bytes after.link };
-
-    ghost receives = { λ before came after. L.receives before.link came after.link };
-
-    ghost fault_count = { λ silent. L.fault_count silent.link };
-
-    ghost own_address = { λ silent. L.own_address silent.link };
-
-    ghost hears_refusal = { λ silent. L.hears_refusal silent.link };
-
-    fn send(&mut self, to: Endpoint, bytes: &[u8]) {
-        if let Some(silence) = &mut self.silence {
-            silence.begin();
+    fn came(&mut self, bytes: Option<&[u8]>, _is_refused: bool) {
+        match bytes {
+            Some(bytes) => self.hear(max_age_of(bytes)),
+            None => self.look(),
         }
-        self.link.send(to, bytes);
-    }
-
-    fn receive(&mut self, buf: &mut [u8]) -> Option<(Endpoint, usize)> {
-        let came = self.link.receive(buf);
-        if let Some(silence) = &mut self.silence {
-            match came {
-                Some((_, len)) => silence.hear(max_age_of(buf.get(..len).unwrap_or(&[]))),
-                None => silence.look(),
-            }
-        }
-        came
-    }
-
-    fn faults(&self) -> u64 {
-        self.link.faults()
-    }
-
-    fn address(&self) -> Endpoint {
-        self.link.address()
-    }
-
-    fn is_refused(&self) -> bool {
-        self.link.is_refused()
     }
 }
-
-/// What passes a link that says that nothing is heard passes the link that it is around, unchanged; all else is that
-/// link's.
-pub fn silent_link_law<L: Link + Drop, T: Timekeeper + Drop, W: Write + Drop>()
-    // What is sent over a silent link its link sends, the same bytes to the same endpoint.
-    ensures sends { (t u : _) (to : EndpointSpec) (bytes : List ℕ)
-        → ⟦<SilentLink<L, T, W> as Link>⟧.sends t to bytes u → L.sends t.link to bytes u.link }
-    // What comes over a silent link its link received, and nothing where nothing came.
-    ensures receives { (t u : _) (came : Option Packet)
-        → ⟦<SilentLink<L, T, W> as Link>⟧.receives t came u → L.receives t.link came u.link }
-    // The faults of a silent link are those of its link, and no others.
-    ensures faults { (t : _) → ⟦<SilentLink<L, T, W> as Link>⟧.fault_count t ≡ L.fault_count t.link }
-    // A silent link is where its link is.
-    ensures address { (t : _) → ⟦<SilentLink<L, T, W> as Link>⟧.own_address t ≡ L.own_address t.link }
-    // A silent link hears that nobody listens where its link does.
-    ensures refusal { (t : _) → ⟦<SilentLink<L, T, W> as Link>⟧.hears_refusal t ≡ L.hears_refusal t.link }
-{}

@@ -2,8 +2,9 @@
 ghost use Rattle.std.specs.Prelude.{◌≡◌};
 
 use crate::capturing::{CaptureTeller, capture_on};
-use crate::closed_port::{ClosedPort, ClosedPortLink};
+use crate::closed_port::ClosedPort;
 use crate::link_source::LinkSource;
+use crate::overheard::OverheardLink;
 use crate::screen::Screen;
 use crate::sources::Ends;
 use crate::timekeeper::ProgramTime;
@@ -67,7 +68,7 @@ impl<'r, 's, 'f, S: Ends + Drop, R: Clock, W: Write + Drop, F: Write + Drop> Lin
     for ToldSource<'r, 's, 'f, S, R, W, F> {
     type Link = Trace<
         Trace<
-            ClosedPortLink<S::Link, SharedWriter<'s, Screen<W>>>,
+            OverheardLink<S::Link, ClosedPort<SharedWriter<'s, Screen<W>>>>,
             Option<CaptureTeller<S::Own, Global, ProgramTime<'r, R>, SharedWriter<'f, F>>>,
         >,
         Option<LineTeller<Global, ProgramTime<'r, R>, SharedWriter<'s, Screen<W>>, S::Peers>>,
@@ -81,7 +82,7 @@ impl<'r, 's, 'f, S: Ends + Drop, R: Clock, W: Write + Drop, F: Write + Drop> Lin
         let own = self.source.own(link.address());
         let writer = SharedWriter::new(telling.screen);
         let closed_port = ClosedPort::new(writer, self.source.server(), telling.give_up);
-        let link = ClosedPortLink::new(link, closed_port);
+        let link = OverheardLink::new(link, closed_port);
         let file = shared(&telling.file);
         let time = telling.time.again();
         let capture = capture_on(own, telling.alloc, time, telling.begin, file);

@@ -2,7 +2,7 @@
 use crate::rows::words_of;
 use coap_arguments::path_of_text;
 use coap_commands::{
-    ClosedPort, ClosedPortLink, Connection, PeerWords, SharedWriter, Terms, Timekeeper, ask_over,
+    ClosedPort, Connection, OverheardLink, PeerWords, SharedWriter, Terms, Timekeeper, ask_over,
     close, command, fresh_server, get_request, hold, largest_szx,
 };
 use coap_ends::Server;
@@ -56,7 +56,7 @@ fn get_at<R: AllocGlobal + Net, T: Timekeeper>(
     let alloc = rt.alloc();
     let link = UdpLink::client(rt, server)?;
     let closed_port = ClosedPort::new(SharedWriter(said), PeerWords::Four(server), None);
-    let mut link = ClosedPortLink::new(link, closed_port);
+    let mut link = OverheardLink::new(link, closed_port);
     let mut err = SharedWriter(said);
     let mut connection = Connection::new(&mut link, time, &mut err);
     let ended = ask_over(

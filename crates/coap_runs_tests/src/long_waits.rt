@@ -3,7 +3,7 @@ use crate::clock::Clock;
 use crate::rows::words_of;
 use coap_arguments::{Order, order};
 use coap_commands::{
-    Connection, PatientLink, SharedWriter, Terms, ask_over, body_of, close, observe_over,
+    Connection, OverheardLink, SharedWriter, Terms, ask_over, body_of, close, observe_over,
     patience_on, request_of,
 };
 use coap_links::MemoryLink;
@@ -70,7 +70,7 @@ fn ask_patiently<R: AllocGlobal + Files>(
         options.give_up,
         is_wanted,
     );
-    let mut link = PatientLink::new(link, patience);
+    let mut link = OverheardLink::new(link, patience);
     let mut time = Clock { now: 0 };
     let mut writer = SharedWriter(said);
     let mut connection = Connection::new(&mut link, &mut time, &mut writer);
@@ -107,7 +107,7 @@ fn observe_patiently(
         options.give_up,
         is_wanted,
     );
-    let mut link = PatientLink::new(link, patience);
+    let mut link = OverheardLink::new(link, patience);
     let mut time = Clock { now: 0 };
     let mut writer = SharedWriter(said);
     let mut connection = Connection::new(&mut link, &mut time, &mut writer);

@@ -1,7 +1,7 @@
 use Rattle.std.proofs.Common.{map}
 use Rattle.coap_scripts.specs.Settings.{setting_of}
 use Rattle.coap_commands.proofs.ServedCalls.{worded}
-use Rattle.coap_commands.proofs.serve.serve_four.Goals as goal
+use Rattle.coap_commands.proofs.serve.serve_at.Goals as goal
 
 pub returns : goal.returns
 returns g c =
