@@ -31,6 +31,12 @@ some_below a b lt = omega (arith, lt)
 none_below_none : (a b : ℕ) → a < b → b ≡ 0 → ⊥
 none_below_none a b lt e = absurd (omega (arith, lt, e))
 
+pub number_small : (first place : ℕ) → number_at first place < 2 ^ 32
+number_small first place = omega arith
+
+pub head_at : (hash head n m : ℕ) → head ≡ hash % n → n ≡ m → head ≡ hash % m
+head_at hash head n m h e = h ∙ ap (λ k. hash % k) e
+
 -- ---- Lists ----
 
 module _ {X : Type 0} where
@@ -369,7 +375,7 @@ module _ {K V : Type 0} (eq : K → K → Bool) (laws : IsEquivalence eq) where
   pub stands_nowhere : (key : K) (passed : ℕ) (ls : List (Linked K V))
       → ((place : ℕ) (l : Linked K V) → passed ≤ place → slice_get ls place ≡ Some l → eq key l.key ≡ true → ⊥)
       → lookup (eq key) (entries_of passed ls) ≡ None
-  stands_nowhere key passed ls no = go (lookup (eq key) (entries_of passed ls)) refl
+  stands_nowhere key passed ls never = go (lookup (eq key) (entries_of passed ls)) refl
     where
       mapped : (o : Option (Linked K V)) (k : K) (v : V) → option_map entry_of o ≡ Some (k, v)
           → (l : Linked K V) × (o ≡ Some l) × (l.key ≡ k)
@@ -383,7 +389,7 @@ module _ {K V : Type 0} (eq : K → K → Bool) (laws : IsEquivalence eq) where
           let at = place_from_lookup (eq key) (entries_of passed ls) v e in
           let l = mapped (slice_get (drop passed ls) at.0) at.1 v
           (sym (get_map entry_of (drop passed ls) at.0) ∙ at.2) in
-          absurd (no (passed + at.0) l.0 (omega arith)
+          absurd (never (passed + at.0) l.0 (omega arith)
           (sym (get_drop passed ls at.0 (passed + at.0) refl) ∙ l.1)
           (ap (eq key) l.2 ∙ at.3))
 
@@ -408,10 +414,10 @@ module _ {K V : Type 0} (eq : K → K → Bool) (laws : IsEquivalence eq) where
     -- the end of a chain
     pub leads_end : (start from bound place : ℕ) → LeadsOn eq key first passed ls start from bound place
         → (passed ≤ place → place < bound → ⊥) → LeadsNowhere eq key first passed ls start from
-    leads_end start from bound place h no to m live is same lt leads =
+    leads_end start from bound place h never to m live is same lt leads =
         let on = h to m live is same lt leads in
         let le = leads_back first ls to place on.1 in
-        no (omega (arith, live, le)) on.0
+        never (omega (arith, live, le)) on.0
 
     pub leads_out : (start from bound place : ℕ) → LeadsOn eq key first passed ls start from bound place
         → slice_get ls place ≡ None → LeadsNowhere eq key first passed ls start from

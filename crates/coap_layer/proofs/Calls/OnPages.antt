@@ -50,9 +50,12 @@ module _ {X Z : Type 0} where
   on_full [] last i p h is = absurd (cc is)
   on_full (q ∷ ps) last i p h is =
       ap (λ xs. slice_get xs i) (append_assoc q.items (items_on ps) last) ∙ go (nat_lt i 128) refl
+      (λ j there. on_full ps last j p h.1 there)
     where
-      go : (b : Bool) → nat_lt i 128 ≡ b → slice_get (q.items ++ (items_on ps ++ last)) i ≡ slice_get p.items (i % 128)
-      go true t =
+      go : (b : Bool) → nat_lt i 128 ≡ b
+          → ((j : ℕ) → slice_get ps (j / 128) ≡ Some p → slice_get (items_on ps ++ last) j ≡ slice_get p.items (j % 128))
+          → slice_get (q.items ++ (items_on ps ++ last)) i ≡ slice_get p.items (i % 128)
+      go true t rest =
           let lt : i < 128 = grind (arith, nat_tests, t) in
           let zeroth : i / 128 ≡ 0 = small_div i lt in
           let here : Some q ≡ Some p = ap (slice_get (q ∷ ps)) (sym zeroth) ∙ is in
@@ -60,14 +63,14 @@ module _ {X Z : Type 0} where
           let len = h.0 in
           slice_front q.items (items_on ps ++ last) i (omega (arith, lt, len))
           ∙ (ap (λ v. slice_get v.items i) same ∙ ap (slice_get p.items) (sym (small_mod i lt)))
-      go false t =
+      go false t rest =
           let le : 128 ≤ i = grind (arith, nat_tests, t) in
           let j : ℕ = i - 128 in
           let e : i ≡ 128 + j = omega (arith, le) in
           let there : slice_get ps (j / 128) ≡ Some p = ap (slice_get (q ∷ ps)) (sym (more_div i j e)) ∙ is in
           let len = h.0 in
           slice_back q.items (items_on ps ++ last) i j (omega (arith, e, len))
-          ∙ (on_full ps last j p h.1 there ∙ ap (slice_get p.items) (sym (more_mod i j e)))
+          ∙ (rest j there ∙ ap (slice_get p.items) (sym (more_mod i j e)))
 
   pub on_last : (ps : List (Vec X Z)) (last : List X) (i j : ℕ) → AreFull ps → length ps * page + j ≡ i
       → slice_get (items_on ps ++ last) i ≡ slice_get last j
@@ -77,6 +80,13 @@ module _ {X Z : Type 0} where
       ap (λ xs. slice_get xs i) (append_assoc q.items (items_on ps) last)
       ∙ (slice_back q.items (items_on ps ++ last) i (length ps * 128 + j) (omega (arith, e, len))
       ∙ on_last ps last (length ps * 128 + j) j h.1 refl)
+
+-- a page is full, and the next one begins
+pub turned : {X Z : Type 0} (ps qs : List (Vec X Z)) (p : Vec X Z) (last : List X) (x : X) → qs ≡ ps ++ p ∷ []
+    → last ≡ x ∷ [] → items_on qs ++ last ≡ (items_on ps ++ p.items) ++ x ∷ []
+turned ps qs p last x more begun =
+    ap (λ rs. items_on rs ++ last) more
+    ∙ (ap (λ xs. xs ++ last) (on_more ps p) ∙ ap (λ ys. (items_on ps ++ p.items) ++ ys) begun)
 
 -- what is lent of the element at a place
 pub lent_at : {X : Type 0} (xs : List X) (i : ℕ) (r : Option (Bor X)) → IsItemAt xs i r → option_copied r ≡ slice_get xs i

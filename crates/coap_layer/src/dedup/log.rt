@@ -46,7 +46,7 @@ pub(crate) struct Log<K: Eq + Hash + Copy + Drop, V: Drop, A: Allocator + Copy, 
 
 impl<K: Eq + Hash + Copy + Drop, V: Drop, A: Allocator + Copy, S: BuildHasher> Model
     for Log<K, V, A, S> {
-    ghost use Rattle.std.specs.Prelude.{◌≡◌, ◌<◌, ◌≤◌, length};
+    ghost use Rattle.std.specs.Prelude.{◌≡◌, ◌<◌, ◌≤◌, ◌^◌, length};
     ghost use Rattle.std.specs.List.{IsDistinct};
     ghost use Rattle.std.specs.Map.{keys_of};
     ghost use Rattle.coap_layer.specs.Machine.Chains.{Logged, AreOnChains, entries_of, hash_by};
@@ -59,6 +59,7 @@ impl<K: Eq + Hash + Copy + Drop, V: Drop, A: Allocator + Copy, S: BuildHasher> M
     } };
 
     ghost invariant = { λ l. (l.passed ≤ length l.pages.items)
+        × (l.first < 2 ^ 32)
         × (0 < l.most)
         × (0 < l.pages.spare → 0 < length l.few.items)
         × IsDistinct K.eq (keys_of (entries_of l.passed l.pages.items))

@@ -2,7 +2,7 @@ use Rattle.std.proofs.Common.{◌≡◌, ◌≤◌, ◌<◌, ◌+◌, ◌-◌, �
 use Rattle.std.specs.List.{IsDistinct}
 use Rattle.std.specs.Map.{keys_of}
 use Rattle.coap_layer.specs.Machine.Chains.{AreOnChains, entries_of, number_at}
-use Rattle.coap_layer.proofs.Calls.Chained.{chains_less, length_left, page_less_of}
+use Rattle.coap_layer.proofs.Calls.Chained.{chains_less, length_left, number_small, page_less_of}
 use Rattle.coap_layer.proofs.dedup.log.Log.let_go.Goals as goal
 
 pub invariant_of-self : goal.invariant_of-self
@@ -21,12 +21,13 @@ invariant_of-self g c =
     let spare = c.let_go.ensures.spare in
     let e : n + (s.passed - n) ≡ s.passed = omega (arith, le) in (
       omega (arith, len, shorter, within, le),
-      c.self.invariant.1,
-      λ h. c.self.invariant.2 (omega (arith, h, spare)),
+      number_small s.first n,
+      c.self.invariant.2,
+      λ h. c.self.invariant.3 (omega (arith, h, spare)),
       subst (λ ls. IsDistinct g.K.PartialEq.eq (keys_of (entries_of (s.passed - n) ls))) (sym left)
           (subst (λ es. IsDistinct g.K.PartialEq.eq (keys_of es))
-          (sym (page_less_of n (s.passed - n) s.passed s.pages.items e)) c.self.invariant.3),
+          (sym (page_less_of n (s.passed - n) s.passed s.pages.items e)) c.self.invariant.4),
       subst (AreOnChains _ s.few.items s.many.items s.most (number_at s.first n) (s.passed - n)) (sym left)
           (chains_less _ s.few.items s.many.items s.most s.first n s.passed (s.passed - n) s.pages.items
-          c.self.ranges.first.fits (omega (arith, few)) e fits c.self.invariant.4),
+          c.self.invariant.1 (omega (arith, few)) e fits c.self.invariant.5),
     )

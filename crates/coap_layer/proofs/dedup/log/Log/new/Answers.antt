@@ -10,6 +10,7 @@ invariant_of-result g c =
     let none = c.new.ensures.items in
     let spare = c.new.ensures.spare in (
       omega arith,
+      omega arith,
       c.requires,
       λ h. absurd (omega (arith, h, spare)),
       subst (λ ls. IsDistinct g.K.PartialEq.eq (keys_of (entries_of 0 ls))) (sym none) (none_distinct g.K.PartialEq.eq),

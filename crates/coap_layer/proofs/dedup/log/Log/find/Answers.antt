@@ -1,0 +1,19 @@
+use Rattle.std.proofs.Common.{◌∙◌, ap, sym, subst}
+use Rattle.std.specs.Map.{lookup}
+use Rattle.coap_layer.specs.Machine.Chains.{Logged, NoneOnChain, entries_of}
+use Rattle.coap_layer.proofs.Calls.Chained.{copied_or, found_nowhere, hash_respects}
+use Rattle.coap_layer.proofs.dedup.log.Log.find.Goals as goal
+
+pub returns-in-None-clause-value : goal.returns-in-None-clause-value
+returns-in-None-clause-value g c =
+    let s = c.self.inside in
+    let eq = g.K.PartialEq.eq in
+    let key = c.args.key in
+    let none_many = subst (NoneOnChain eq key s.first s.passed s.pages.items _) c.deref.ensures.value c.in-None.ensures.none
+    in
+    copied_or c.find_by-in-None.result (lookup (eq key) (entries_of s.passed s.pages.items)) _
+    c.find_by-in-None.ensures.found c.find_by-in-None.ensures.none
+    (λ none. found_nowhere eq g.met.K.Eq.laws key s.first s.passed s.pages.items _
+    (hash_respects _ _ _ _ g.met.K.Hash.respects_eq) s.few.items s.many.items s.most c.self.invariant.5
+    (subst (NoneOnChain eq key s.first s.passed s.pages.items _) c.deref-in-None.ensures.value none) none_many)
+    ∙ ap (λ (v : Logged g.row.K.Denot g.row.V.Denot). lookup (eq key) v.entries) c.self.view_is
