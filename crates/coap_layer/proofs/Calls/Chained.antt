@@ -371,6 +371,9 @@ module _ {K V : Type 0} (eq : K → K → Bool) (laws : IsEquivalence eq) where
       lookup_same key l.key (entries_of passed ls) same
       ∙ lookup_from_place laws (entries_of passed ls) i l.key l.value distinct there_is
 
+  same_key_of : (a b : K × V) → Some a ≡ Some b → a.0 ≡ b.0
+  same_key_of a b h = let e : a ≡ b = cc h in ap (λ p. p.0) e
+
   -- .. and where it doesn't
   pub stands_nowhere : (key : K) (passed : ℕ) (ls : List (Linked K V))
       → ((place : ℕ) (l : Linked K V) → passed ≤ place → slice_get ls place ≡ Some l → eq key l.key ≡ true → ⊥)
@@ -380,8 +383,7 @@ module _ {K V : Type 0} (eq : K → K → Bool) (laws : IsEquivalence eq) where
       mapped : (o : Option (Linked K V)) (k : K) (v : V) → option_map entry_of o ≡ Some (k, v)
           → (l : Linked K V) × (o ≡ Some l) × (l.key ≡ k)
       mapped None k v h = absurd (cc h)
-      mapped (Some l) k v h =
-          let e : (l.key, l.value) ≡ (k, v) = cc h in (l, refl, ap (λ p. p.0) e)
+      mapped (Some l) k v h = (l, refl, same_key_of (entry_of l) (k, v) h)
 
       go : (o : Option V) → lookup (eq key) (entries_of passed ls) ≡ o → o ≡ None
       go None e = refl

@@ -14,6 +14,7 @@ returns-in-None-clause-value g c =
     copied_or c.find_by-in-None.result (lookup (eq key) (entries_of s.passed s.pages.items)) _
     c.find_by-in-None.ensures.found c.find_by-in-None.ensures.none
     (λ none. found_nowhere eq g.met.K.Eq.laws key s.first s.passed s.pages.items _
-    (hash_respects _ _ _ _ g.met.K.Hash.respects_eq) s.few.items s.many.items s.most c.self.invariant.5
+    (hash_respects g.S.Hasher.Hasher.finish (λ y bytes. g.S.Hasher.Hasher.write y bytes)
+    (g.S.BuildHasher.build_hasher s.hasher) _ g.met.K.Hash.respects_eq) s.few.items s.many.items s.most c.self.invariant.5
     (subst (NoneOnChain eq key s.first s.passed s.pages.items _) c.deref-in-None.ensures.value none) none_many)
     ∙ ap (λ (v : Logged g.row.K.Denot g.row.V.Denot). lookup (eq key) v.entries) c.self.view_is
