@@ -1,6 +1,7 @@
 pub mod Trace
 pub mod Responses
 pub mod Checks
+pub mod Refusing
 pub mod Uploads
 pub mod Observers
 pub mod Serving

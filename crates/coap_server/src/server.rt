@@ -15,6 +15,7 @@ mod option_list;
 mod parts;
 mod peers;
 mod plain;
+mod refusing;
 mod request;
 mod request_checks;
 mod separate_response;

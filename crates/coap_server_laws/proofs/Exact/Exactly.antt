@@ -17,7 +17,9 @@ use Rattle.coap_exchange.specs.AnswererLaw as W
 use Rattle.coap_exchange.specs.AnswererLaw.{ResponseLaw}
 use Rattle.coap_exchange.proofs.Facts.ServerSide.{exact}
 use Rattle.coap_server.specs.Trace.{Own, Handling, Replies, Serves, Notifies, Call}
-use Rattle.coap_server.specs.Trace.{Feeds}
+use Rattle.coap_server.specs.Trace.{Feeds, Refuses}
+use Rattle.coap_server.specs.Responses.{bare}
+use Rattle.coap_server.specs.Refusing.{refusal, refusing}
 use Rattle.coap_server.specs.Trace.{Ticks}
 use Rattle.coap_server.specs.Serving.{response_to}
 use Rattle.coap_server.specs.Deferring.{deferral, question_of}
@@ -29,7 +31,8 @@ use Rattle.coap_server.specs.Notifying.{notified}
 use Rattle.coap_observe.specs.Observers.{Observer}
 use Rattle.coap_resource.specs.Content.{Held}
 use Rattle.coap_server.proofs.Facts.Observing.Outcomes.{never_notifies_ready}
-use Rattle.coap_server.specs.Steps.{came_after, due_after, exchanges_after, handled, observers_due, ready_in}
+use Rattle.coap_server.specs.Steps.{came_after, refused_after, due_after, exchanges_after, handled, observers_due}
+use Rattle.coap_server.specs.Steps.{ready_in}
 use Rattle.coap_server.specs.Steps.{waiting_due}
 use Rattle.coap_server.specs.Law.{own_of, lower_of, ServerLaw}
 use Rattle.coap_server.specs.Follows.Exact.{fed, turned, LeaveAlike, IsExact}
@@ -53,6 +56,13 @@ module _ (setup : Setup) (s : Own) where
         ((exact setup ((deferral s a.0 u ++ first ∷ []) ++ calls)).answers a.0
         (response_to s.store s.observers a.0 u reply) below beyond p q)
     answering_alike _ _ below beyond p q = refl
+
+    pub refusing_alike : (p : Asked × Message) (response : Option ℕ) (below beyond : L.Answer)
+        → LawOf (refusing p.0 response below) → LawOf (refusing p.0 response beyond)
+        → refusing p.0 response below ≡ refusing p.0 response beyond
+    refusing_alike p None below beyond x y = refl
+    refusing_alike p (Some n) below beyond x y =
+        ap (λ z. E.Answers p.0 (bare n) z ∷ []) ((exact setup (first ∷ calls)).answers p.0 (bare n) below beyond x y)
 
   -- a turn
   module _ (w : ℕ) (below : L.Answer) (calls : List E.Call) where
@@ -206,6 +216,13 @@ module _ (limits : Limits) (szx : ℕ) (setup : Setup) (past : List Call) where
           },
         )
 
+  -- .. and of those that are refused alike
+  abbrev RefusedAlike : ℕ → Endpoint → List ℕ → ℕ → ℕ → L.Answer → Asked × Message → Option ℕ
+      → (below beyond : L.Answer) → L.Answer → Asked × Message → Option ℕ → Type 0
+  RefusedAlike now from bytes w code up p response below beyond u q said =
+      (refusing p.0 response below ≡ refusing q.0 said beyond)
+      × Alike (Refuses now from bytes w code up p response below) (Refuses now from bytes w code u q said beyond)
+
   heard_alike : (now : ℕ) (from : Endpoint) (bytes : List ℕ) (w : ℕ) (up other : L.Answer)
       (came come : Option (Asked × Message)) (h k : Handling) (below beyond : L.Answer)
       → Law (Feeds now from bytes w up came h below)
@@ -232,6 +249,41 @@ module _ (limits : Limits) (szx : ℕ) (setup : Setup) (past : List Call) where
       (subst (λ z. FedAlike now from bytes w up came h below beyond up z k) e.1
       (subst (λ z. FedAlike now from bytes w up came h below beyond up came z) handled r)) in
       (e.0, e.1, handled, f.0, f.1)
+
+  -- of equal refusals
+  refused_alike : (now : ℕ) (from : Endpoint) (bytes : List ℕ) (w code : ℕ) (up other : L.Answer)
+      (p q : Asked × Message) (response another : Option ℕ) (below beyond : L.Answer)
+      → Law (Refuses now from bytes w code up p response below)
+      → Law (Refuses now from bytes w code other q another beyond)
+      → (up ≡ other) × (p ≡ q) × (response ≡ another) × (refusing p.0 response below ≡ refusing q.0 another beyond)
+      × Alike (Refuses now from bytes w code up p response below) (Refuses now from bytes w code other q another beyond)
+  refused_alike now from bytes w code up other p q response another below beyond x y =
+      let at : ℕ = max own.clock now in
+      let first : E.Call = E.Incoming at from bytes up (Some p) in
+      let second : E.Call = E.Incoming at from bytes other (Some q) in
+      let xs : List E.Call = refusing p.0 response below in
+      let ys : List E.Call = refusing q.0 another beyond in
+      let a = back setup xs (first ∷ calls) (subst (ResponseLaw setup) (joined xs first calls) x.exchanges) in
+      let b = back setup ys (second ∷ calls) (subst (ResponseLaw setup) (joined ys second calls) y.exchanges) in
+      let e = (exact setup calls).incoming at from bytes up other (Some p) (Some q) a b in
+      let one : p ≡ q = cc e.1 in
+      let said : response ≡ another = x.rows.0.is ∙ (ap (λ (z : Asked × Message). refusal code z.1) one
+      ∙ sym y.rows.0.is) in
+      let heard_so = subst (λ z. Law (Refuses now from bytes w code z p response beyond)) (sym e.0)
+      (subst (λ z. Law (Refuses now from bytes w code other z response beyond)) (sym one)
+      (subst (λ z. Law (Refuses now from bytes w code other q z beyond)) (sym said) y)) in
+      let asks = refusing_alike setup own first calls p response below beyond x.exchanges heard_so.exchanges in
+      let r : RefusedAlike now from bytes w code up p response below beyond up p response = (
+        asks,
+        record {
+          own = ap (λ z. refused_after own now first z) asks;
+          beneath = ap (λ z. W.lower_of ((z ++ first ∷ []) ++ calls)) asks;
+        },
+      ) in
+      let f = subst (λ z. RefusedAlike now from bytes w code up p response below beyond z q another) e.0
+      (subst (λ z. RefusedAlike now from bytes w code up p response below beyond up z another) one
+      (subst (λ z. RefusedAlike now from bytes w code up p response below beyond up p z) said r)) in
+      (e.0, one, said, f.0, f.1)
 
   -- of equal turns
   module _ (now w : ℕ) (below : L.Answer) (room space : Bool) (d : Due) (passed skipped : ℕ) (h k : Handling)
@@ -303,6 +355,7 @@ module _ (limits : Limits) (szx : ℕ) (setup : Setup) (past : List Call) where
     delays = λ path ms answer another p q. p.rows.0 ∙ sym q.rows.0;
     plains = λ path answer another p q. p.rows.0 ∙ sym q.rows.0;
     feeds = heard_alike;
+    refuses = refused_alike;
     ticks = turns_alike;
     next_out = λ answer another p q. (exact setup calls).take answer another p.exchanges q.exchanges;
     gets = λ path answer another p q. p.rows.0 ∙ sym q.rows.0;
