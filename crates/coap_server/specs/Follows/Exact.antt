@@ -1,5 +1,5 @@
 -- The law leaves each call of a server one answer, one of each layer beneath it, and one state of each after it.
-use Rattle.std.specs.Prelude.{◌≡◌, ℕ, Bool, Option, List, ◌∷◌, Result}
+use Rattle.std.specs.Prelude.{◌≡◌, ℕ, Bool, Option, Some, List, ◌∷◌, Result}
 use Rattle.coap_types.specs.declared.endpoint.Endpoint.{Endpoint}
 use Rattle.coap_codec.specs.Message.{Message}
 use Rattle.coap_layer.specs.Trace as L
@@ -10,10 +10,10 @@ use Rattle.coap_resource.specs.Limits.{Limits}
 use Rattle.coap_exchange.specs.declared.answerer.Asked.{Asked}
 use Rattle.coap_exchange.specs.declared.answerer.Due.{Due}
 use Rattle.coap_exchange.specs.AnswererLaw as E
-use Rattle.coap_server.specs.Trace.{Applied, Own, Handling, Call, Sets, Removes, Delays, Feeds, Refuses, Ticks}
+use Rattle.coap_server.specs.Trace.{Applied, Own, Handling, Call, Sets, Removes, Delays, Feeds, Ticks}
 use Rattle.coap_server.specs.Trace.{NextOut, Gets, Plains, TellsApplied}
 use Rattle.coap_server.specs.Handling.{incoming, ticking, heard}
-use Rattle.coap_server.specs.Refusing.{refusing}
+use Rattle.coap_server.specs.Refusing.{refused_or_fed}
 use Rattle.coap_server.specs.Asks.{answering, responding}
 use Rattle.coap_server.specs.Law.{ServerLaw, own_of, lower_of}
 
@@ -60,14 +60,13 @@ pub record IsExact (limits : Limits) (szx : ℕ) (setup : Setup) (past : List Ca
       ≡ answering (fed limits szx past now from bytes other come) come k beyond)
       × LeaveAlike limits szx past (Feeds now from bytes w up came h below) (Feeds now from bytes w other come k beyond)
   pub refuses :
-      (now : ℕ) (from : Endpoint) (bytes : List ℕ) (w code : ℕ) (up other : L.Answer) (p q : Asked × Message)
-      (response another : Option ℕ) (below beyond : L.Answer)
-      → ServerLaw limits szx setup (Refuses now from bytes w code up p response below ∷ past)
-      → ServerLaw limits szx setup (Refuses now from bytes w code other q another beyond ∷ past)
-      → (up ≡ other) × (p ≡ q) × (response ≡ another)
-      × (refusing p.0 response below ≡ refusing q.0 another beyond)
-      × LeaveAlike limits szx past (Refuses now from bytes w code up p response below)
-      (Refuses now from bytes w code other q another beyond)
+      (now : ℕ) (from : Endpoint) (bytes : List ℕ) (w code : ℕ) (up other : L.Answer)
+      (came come : Option (Asked × Message)) (response another : Option ℕ) (below beyond : L.Answer)
+      → ServerLaw limits szx setup (refused_or_fed now from bytes w code up came response below ∷ past)
+      → ServerLaw limits szx setup (refused_or_fed now from bytes w code other come another beyond ∷ past)
+      → (up ≡ other) × (came ≡ come) × ((p : Asked × Message) → came ≡ Some p → response ≡ another)
+      × LeaveAlike limits szx past (refused_or_fed now from bytes w code up came response below)
+      (refused_or_fed now from bytes w code other come another beyond)
   pub ticks :
       (now w : ℕ) (below other : L.Answer) (room space : Bool) (d due : Due) (passed skipped : ℕ) (h k : Handling)
       (id number : ℕ) (answer another : Bool)

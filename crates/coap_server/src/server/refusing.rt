@@ -1,6 +1,6 @@
 //! What is done with a request that is refused, whatever it asks.
-ghost use Rattle.std.specs.Prelude.{◌≡◌, ◌≤◌, ℕ, max, Bool, Option, None, Some, [], IfSome, IsOk, OnErr, OnOk};
-ghost use Rattle.std.specs.Prelude.{length, ◌||◌};
+ghost use Rattle.std.specs.Prelude.{◌≡◌, ◌≤◌, ℕ, max, Option, [], IfOk, IfSome, IsOk, OnErr, OnOk, is_some, length, true};
+ghost use Rattle.std.specs.Prelude.{◌||◌};
 ghost use Rattle.std.specs.Option.{option_map};
 ghost use Rattle.coap_types.specs.declared.direction.Direction.TheVariants as direction;
 ghost use Rattle.coap_types.specs.declared.token.TheConstants.{MAX_TOKEN_LEN as max_token_len};
@@ -105,18 +105,18 @@ fn refuse_request<S: Store<A>, A: Allocator + Copy, H: BuildHasher>(
     }
 }
 
-// Takes a datagram that arrived at this moment: a request that is handed up is refused. After an `Err`
-// all is as before.
+// Takes a datagram that arrived at this moment: a request that is handed up is refused; whether one was.
+// After an `Err` all is as before.
 fn refuse_parts<S: Store<A>, A: Allocator + Copy, H: BuildHasher>(
     parts: &mut Parts<S, A, H>,
     now: Moment,
     from: Endpoint,
     bytes: &[u8],
     code: ErrorCode,
-) -> Result<(), AllocError>
+) -> Result<bool, AllocError>
     requires timed { parts.old.observers.clock ≤ parts.old.clock.0 }
-    ensures step { OnOk result ((word : ℕ) → (up : below.Answer) × (came : Option (AskedSpec × Message))
-        × (response : Option ℕ) × (sent : below.Answer) × Step (seen S.content parts.old)
+    ensures step { IfOk result (λ refused. (word : ℕ) → (up : below.Answer) × (came : Option (AskedSpec × Message))
+        × (response : Option ℕ) × (sent : below.Answer) × (refused ≡ is_some came) × Step (seen S.content parts.old)
         (refused_or_fed now.0 from bytes.now word code up came response sent) (seen S.content parts.new)) }
     ensures timed { OnOk result (parts.new.observers.clock ≤ parts.new.clock.0) }
     ensures never { OnOk result (((seen S.content parts.new).own.store ≡ (seen S.content parts.old).own.store)
@@ -133,21 +133,23 @@ fn refuse_parts<S: Store<A>, A: Allocator + Copy, H: BuildHasher>(
             forget(&mut parts.observers, parts.exchanges.ended());
             reject(&mut parts.observers, at, parts.exchanges.unmatched());
             parts.applied = None;
+            Ok(false)
         }
         Some((asked, request)) => {
             let response = refusal(&request, code);
             refuse_request(parts, &asked, response);
+            Ok(true)
         }
     }
-    Ok(())
 }
 
 impl<S: Store<A>, A: Allocator + Copy, H: BuildHasher> Server<S, A, H> {
     /// As `feed`, but a request that is new is answered with this error, and nothing that it asks is done (RFC 7252,
-    /// sections 5.9.2 and 5.9.3). It is remembered, so that its copies get that answer. A copy of a request that was
-    /// served gets the answer that was stored. What has to be said whatever is asked comes first: an option that is
-    /// critical and not recognised is answered 4.02 (or not at all, where the request is Non-confirmable), and a
-    /// proxy's request 5.05. After an `Err` the server is as before, and the datagram counts as lost.
+    /// sections 5.9.2 and 5.9.3); whether there was one. It is remembered, so that its copies get that answer. A copy
+    /// of a request that was served gets the answer that was stored. What has to be said whatever is asked comes
+    /// first: an option that is critical and not recognised is answered 4.02 (or not at all, where the request is
+    /// Non-confirmable), and a proxy's request 5.05. After an `Err` the server is as before, and the datagram counts
+    /// as lost.
     pub fn refuse(
         &mut self,
         now: Moment,
@@ -155,11 +157,11 @@ impl<S: Store<A>, A: Allocator + Copy, H: BuildHasher> Server<S, A, H> {
         bytes: &[u8],
         word: u64,
         code: ErrorCode,
-    ) -> Result<(), AllocError>
+    ) -> Result<bool, AllocError>
         // What a datagram whose request is refused makes of the server is a step of its machine: the refusal of a
-        // request that is handed up, and else what a feed makes of it.
-        ensures step { OnOk result ((up : below.Answer) × (came : Option (AskedSpec × Message))
-            × (response : Option ℕ) × (sent : below.Answer)
+        // request that is handed up, and where there is none what a feed makes of it.
+        ensures step { IfOk result (λ refused. (up : below.Answer) × (came : Option (AskedSpec × Message))
+            × (response : Option ℕ) × (sent : below.Answer) × (refused ≡ is_some came)
             × Step (state_of S.content self.old) (refused_or_fed now.0 from bytes.now word code up came response sent)
             (state_of S.content self.new)) }
         // Whatever a datagram asks that is refused, the store is as it was, and nothing is applied.

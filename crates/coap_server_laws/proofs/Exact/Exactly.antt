@@ -17,9 +17,9 @@ use Rattle.coap_exchange.specs.AnswererLaw as W
 use Rattle.coap_exchange.specs.AnswererLaw.{ResponseLaw}
 use Rattle.coap_exchange.proofs.Facts.ServerSide.{exact}
 use Rattle.coap_server.specs.Trace.{Own, Handling, Replies, Serves, Notifies, Call}
-use Rattle.coap_server.specs.Trace.{Feeds, Refuses}
+use Rattle.coap_server.specs.Trace.{Feeds}
 use Rattle.coap_server.specs.Responses.{bare}
-use Rattle.coap_server.specs.Refusing.{refusal, refusing}
+use Rattle.coap_server.specs.Refusing.{refused_or_fed, refusing}
 use Rattle.coap_server.specs.Trace.{Ticks}
 use Rattle.coap_server.specs.Serving.{response_to}
 use Rattle.coap_server.specs.Deferring.{deferral, question_of}
@@ -216,13 +216,6 @@ module _ (limits : Limits) (szx : ℕ) (setup : Setup) (past : List Call) where
           },
         )
 
-  -- .. and of those that are refused alike
-  abbrev RefusedAlike : ℕ → Endpoint → List ℕ → ℕ → ℕ → L.Answer → Asked × Message → Option ℕ
-      → (below beyond : L.Answer) → L.Answer → Asked × Message → Option ℕ → Type 0
-  RefusedAlike now from bytes w code up p response below beyond u q said =
-      (refusing p.0 response below ≡ refusing q.0 said beyond)
-      × Alike (Refuses now from bytes w code up p response below) (Refuses now from bytes w code u q said beyond)
-
   heard_alike : (now : ℕ) (from : Endpoint) (bytes : List ℕ) (w : ℕ) (up other : L.Answer)
       (came come : Option (Asked × Message)) (h k : Handling) (below beyond : L.Answer)
       → Law (Feeds now from bytes w up came h below)
@@ -250,40 +243,62 @@ module _ (limits : Limits) (szx : ℕ) (setup : Setup) (past : List Call) where
       (subst (λ z. FedAlike now from bytes w up came h below beyond up came z) handled r)) in
       (e.0, e.1, handled, f.0, f.1)
 
-  -- of equal refusals
-  refused_alike : (now : ℕ) (from : Endpoint) (bytes : List ℕ) (w code : ℕ) (up other : L.Answer)
-      (p q : Asked × Message) (response another : Option ℕ) (below beyond : L.Answer)
-      → Law (Refuses now from bytes w code up p response below)
-      → Law (Refuses now from bytes w code other q another beyond)
-      → (up ≡ other) × (p ≡ q) × (response ≡ another) × (refusing p.0 response below ≡ refusing q.0 another beyond)
-      × Alike (Refuses now from bytes w code up p response below) (Refuses now from bytes w code other q another beyond)
-  refused_alike now from bytes w code up other p q response another below beyond x y =
-      let at : ℕ = max own.clock now in
-      let first : E.Call = E.Incoming at from bytes up (Some p) in
-      let second : E.Call = E.Incoming at from bytes other (Some q) in
-      let xs : List E.Call = refusing p.0 response below in
-      let ys : List E.Call = refusing q.0 another beyond in
-      let a = back setup xs (first ∷ calls) (subst (ResponseLaw setup) (joined xs first calls) x.exchanges) in
-      let b = back setup ys (second ∷ calls) (subst (ResponseLaw setup) (joined ys second calls) y.exchanges) in
-      let e = (exact setup calls).incoming at from bytes up other (Some p) (Some q) a b in
-      let one : p ≡ q = cc e.1 in
-      let said : response ≡ another = x.rows.0.is ∙ (ap (λ (z : Asked × Message). refusal code z.1) one
-      ∙ sym y.rows.0.is) in
-      let heard_so = subst (λ z. Law (Refuses now from bytes w code z p response beyond)) (sym e.0)
-      (subst (λ z. Law (Refuses now from bytes w code other z response beyond)) (sym one)
-      (subst (λ z. Law (Refuses now from bytes w code other q z beyond)) (sym said) y)) in
-      let asks = refusing_alike setup own first calls p response below beyond x.exchanges heard_so.exchanges in
-      let r : RefusedAlike now from bytes w code up p response below beyond up p response = (
-        asks,
-        record {
-          own = ap (λ z. refused_after own now first z) asks;
-          beneath = ap (λ z. W.lower_of ((z ++ first ∷ []) ++ calls)) asks;
-        },
-      ) in
-      let f = subst (λ z. RefusedAlike now from bytes w code up p response below beyond z q another) e.0
-      (subst (λ z. RefusedAlike now from bytes w code up p response below beyond up z another) one
-      (subst (λ z. RefusedAlike now from bytes w code up p response below beyond up p z) said r)) in
-      (e.0, one, said, f.0, f.1)
+  -- of equal refusals: the same comes, and where that is a request, it is answered alike
+  module _ (now : ℕ) (from : Endpoint) (bytes : List ℕ) (w code : ℕ) where
+    abbrev at : ℕ
+    at = max own.clock now
+
+    abbrev OfRefusal : L.Answer → Option (Asked × Message) → Option ℕ → L.Answer → Type 0
+    OfRefusal up came response below = Law (refused_or_fed now from bytes w code up came response below)
+
+    came_first : (up : L.Answer) (came : Option (Asked × Message)) (response : Option ℕ) (below : L.Answer)
+        → OfRefusal up came response below → ResponseLaw setup (E.Incoming at from bytes up came ∷ calls)
+    came_first up None response below p = p.exchanges
+    came_first up (Some a) response below p =
+        let first : E.Call = E.Incoming at from bytes up (Some a) in
+        let asks : List E.Call = refusing a.0 response below in
+        back setup asks (first ∷ calls) (subst (ResponseLaw setup) (joined asks first calls) p.exchanges)
+
+    said_alike : (up : L.Answer) (a : Asked × Message) (response another : Option ℕ) (below beyond : L.Answer)
+        → OfRefusal up (Some a) response below → OfRefusal up (Some a) another beyond → response ≡ another
+    said_alike up a response another below beyond p q = p.rows.0.is ∙ sym q.rows.0.is
+
+    left_alike_so : (up : L.Answer) (came : Option (Asked × Message)) (response another : Option ℕ)
+        (below beyond : L.Answer) → OfRefusal up came response below → OfRefusal up came another beyond
+        → ((a : Asked × Message) → came ≡ Some a → response ≡ another)
+        × Alike (refused_or_fed now from bytes w code up came response below)
+        (refused_or_fed now from bytes w code up came another beyond)
+    left_alike_so up None response another below beyond p q =
+        (λ a e. absurd (cc e), record { own = refl; beneath = refl })
+    left_alike_so up (Some a) response another below beyond p q =
+        let first : E.Call = E.Incoming at from bytes up (Some a) in
+        let said = said_alike up a response another below beyond p q in
+        let same : OfRefusal up (Some a) response beyond = subst (λ o. OfRefusal up (Some a) o beyond) (sym said) q in
+        let asks = refusing_alike setup own first calls a response below beyond p.exchanges same.exchanges in
+        let all = asks ∙ ap (λ o. refusing a.0 o beyond) said in (
+          λ b e. said,
+          record {
+            own = ap (λ z. refused_after own now first z) all;
+            beneath = ap (λ z. W.lower_of ((z ++ first ∷ []) ++ calls)) all;
+          },
+        )
+
+    refused_alike : (up other : L.Answer) (came come : Option (Asked × Message)) (response another : Option ℕ)
+        (below beyond : L.Answer) → OfRefusal up came response below → OfRefusal other come another beyond
+        → (up ≡ other) × (came ≡ come) × ((a : Asked × Message) → came ≡ Some a → response ≡ another)
+        × Alike (refused_or_fed now from bytes w code up came response below)
+        (refused_or_fed now from bytes w code other come another beyond)
+    refused_alike up other came come response another below beyond p q =
+        let e = (exact setup calls).incoming at from bytes up other came come
+        (came_first up came response below p) (came_first other come another beyond q) in
+        let same : OfRefusal up came another beyond = subst (λ z. OfRefusal z came another beyond) (sym e.0)
+        (subst (λ z. OfRefusal other z another beyond) (sym e.1) q) in
+        let k = left_alike_so up came response another below beyond p same in
+        let alike = subst (λ z. Alike (refused_or_fed now from bytes w code up came response below)
+        (refused_or_fed now from bytes w code z come another beyond)) e.0
+        (subst (λ z. Alike (refused_or_fed now from bytes w code up came response below)
+        (refused_or_fed now from bytes w code up z another beyond)) e.1 k.1) in
+        (e.0, e.1, k.0, alike)
 
   -- of equal turns
   module _ (now w : ℕ) (below : L.Answer) (room space : Bool) (d : Due) (passed skipped : ℕ) (h k : Handling)

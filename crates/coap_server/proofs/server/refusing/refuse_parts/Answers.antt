@@ -15,6 +15,7 @@ returns-in-Some-clause-step g c word =
       Some (c.in-Some.asked, c.in-Some.request),
       response,
       said.0,
+      refl,
       refused_by _ _ _ c.args.now.0 c.args.from c.args.bytes.now word c.args.code s.0 c.in-Some.asked
           c.in-Some.request response said.0 c.later-at.result.0 _ c.later-at.ensures c.in-Some.is s.1
           c.refusal-response.ensures.error c.refusal-response.ensures.code refl said.1
