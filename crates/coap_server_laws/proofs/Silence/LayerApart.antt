@@ -8,6 +8,7 @@ use Rattle.coap_types.specs.declared.message.Kind.{Kind}
 use Rattle.coap_types.specs.declared.message.Kind.TheVariants.{Con, Non}
 use Rattle.coap_layer.specs.Arrivals.{Arrival, Unreadable, Faulted, Whole, arrival_at}
 use Rattle.coap_layer.specs.Machine.State as S
+use Rattle.coap_layer.specs.Rows.{reset_to}
 use Rattle.coap_layer.specs.Machine.Steps.{Asked, Steps}
 use Rattle.coap_layer.specs.Trace as L
 use Rattle.coap_layer.specs.Words.{Incoming, Open, begun, begun_in, copies_in, ends_in, is_con, left_by, open_of}
@@ -59,7 +60,7 @@ module _ (peer : Endpoint) where
   arrived s at from Unreadable e = tt
   arrived s at from (Faulted kind id) e = by (is_con kind)
     where
-      by : (b : Bool) → Each ElseTo (cond b (record { to = from; bytes = _ } ∷ []) [])
+      by : (b : Bool) → Each ElseTo (cond b (reset_to from id ∷ []) [])
       by true = (e, tt)
       by false = tt
   arrived s at from (Whole m) e =

@@ -12,7 +12,7 @@ use Rattle.coap_types.specs.declared.option_number.TheConstants.{PROXY_URI as pr
 use Rattle.coap_types.specs.declared.role.Role.{Role}
 use Rattle.coap_types.specs.declared.role.Role.TheVariants as role
 use Rattle.coap_codec.specs.Message.{Message}
-use Rattle.coap_server.specs.Checks.{asks, proxying_not_supported}
+use Rattle.coap_server.specs.Checks.{asks, bad_option, proxying_not_supported}
 use Rattle.coap_server.specs.Refusing.{IsRefused, bad_response, is_error, refusal}
 
 -- its class is 4 or 5
@@ -67,7 +67,7 @@ refusal_says code m is n e = by (lacks_critical direction.Request m.options)
     said k error same = let s : k ≡ n = cc same in subst IsError s (says_error k error)
 
     bad : (k : Kind) → bad_response k ≡ Some n → IsError n
-    bad Con same = said 130 refl same
+    bad Con same = said bad_option refl same
     bad _ same = absurd (cc same)
 
     by : (b c : Bool) → cond b (bad_response m.kind) (cond c (Some proxying_not_supported) (Some code)) ≡ Some n
