@@ -249,8 +249,8 @@ module _ (limits : Limits) (szx : ℕ) (setup : Setup)
       by (Refuses now from bytes word code up p response below)
           (Refuses now' from' bytes' word' code' up' p' response' below') e s law lawful =
           let same : (Refuses now' from' bytes' word' code' up' p' response' below')
-          ≡ (Refuses now from bytes word code up' p' response' below') = refuses_same now from bytes word code now' from'
-          bytes' word' code' up' p' response' below' e in
+          ≡ (Refuses now from bytes word code up' p' response' below') =
+          refuses_same now from bytes word code now' from' bytes' word' code' up' p' response' below' e in
           let one = (exact past).refuses now from bytes word code up up' (Some p) (Some p') response response' below
           below' law (subst (λ (x : Call). ServerLaw limits szx setup (x ∷ past)) same lawful) in
           one_left past (Refuses now from bytes word code up p response below)

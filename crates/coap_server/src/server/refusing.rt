@@ -1,5 +1,6 @@
 //! What is done with a request that is refused, whatever it asks.
-ghost use Rattle.std.specs.Prelude.{◌≡◌, ◌≤◌, ℕ, max, Option, [], IfOk, IfSome, IsOk, OnErr, OnOk, is_some, length, true};
+ghost use Rattle.std.specs.Prelude.{◌≡◌, ◌≤◌, ℕ, max, Option, [], IfOk, IfSome, IsOk, OnErr, OnOk, is_some, length};
+ghost use Rattle.std.specs.Prelude.{true};
 ghost use Rattle.std.specs.Prelude.{◌||◌};
 ghost use Rattle.std.specs.Option.{option_map};
 ghost use Rattle.coap_types.specs.declared.direction.Direction.TheVariants as direction;
