@@ -147,18 +147,20 @@ fn who_observes_keeps_its_place_and_a_retired_one_is_unknown() {
     assert!(server.knows(now, session(1)) && !server.knows(now, session(2)));
     let later = now + Duration::from_secs(3_600);
     for peer in 2..5 {
-        let at = later + Duration::from_secs(300 * peer);
+        let at = later + Duration::from_secs(600 * peer);
+        // The name of the one before is let go once the server has nothing of it, and then kept for 247 s.
+        server.handle_timeout(at - Duration::from_secs(300)).unwrap();
         server.handle_timeout(at).unwrap();
         server.handle(at, session(peer), &[0x40, 1, 0, 1]).unwrap();
         assert_eq!(server.poll_transmit(&mut buffer).unwrap().destination, session(peer));
     }
     assert_eq!((server.peers(), server.dropped()), (2, 0));
-    server.set(later + Duration::from_secs(2_000), "t", None, b"2").unwrap();
-    server.handle_timeout(later + Duration::from_secs(2_000)).unwrap();
+    server.set(later + Duration::from_secs(3_000), "t", None, b"2").unwrap();
+    server.handle_timeout(later + Duration::from_secs(3_000)).unwrap();
     assert_eq!(server.poll_transmit(&mut buffer).unwrap().destination, session(1));
     assert!(server.retire(&session(1)) && !server.retire(&session(1)));
     assert!(!server.knows(later, session(1)));
-    server.handle_timeout(later + Duration::from_secs(2_010)).unwrap();
+    server.handle_timeout(later + Duration::from_secs(3_010)).unwrap();
     // A copy of what was told goes nowhere.
     assert_eq!(server.poll_transmit(&mut buffer), None);
 }
