@@ -206,16 +206,23 @@ fn a_server_that_is_begun_anew_goes_on(rt: HostRuntime) -> Result<(), AllocError
     first_life(&rt, name);
     let mut link = MemoryLink::new(rt.alloc(), OWN);
     let told = RefCell::new(Vec::new(rt.alloc()));
-    let mut keeping = Keeping {
+    let renewing = Keeping {
         name,
         wishes: NOTHING,
         drawn: beginning(&rt, NEW),
         setup: &[],
         renews: true,
     };
-    assert!(rt; gone_on(&rt, &keeping, &mut link, &told).is_ok());
-    keeping.renews = false;
-    keeping.wishes.word = Some(NEW.1);
+    assert!(rt; gone_on(&rt, &renewing, &mut link, &told).is_ok());
+    let mut wishes = NOTHING;
+    wishes.word = Some(NEW.1);
+    let keeping = Keeping {
+        name,
+        wishes,
+        drawn: beginning(&rt, NEW),
+        setup: &[],
+        renews: false,
+    };
     let Ok(kept) = gone_on(&rt, &keeping, &mut link, &told) else {
         assert!(rt; false);
         return Ok(());
