@@ -11,6 +11,7 @@ pub mod Sent
 pub mod Sendings
 pub mod Stored
 pub mod TakenIn
-pub mod Turned
+pub mod Chained
+pub mod OnPages
 pub mod Loads
 pub mod Foretold

@@ -6,6 +6,8 @@ pub mod Table
 pub mod Verdicts
 pub mod Arriving
 pub mod Entries
+pub mod Paged
+pub mod Chains
 pub mod Parts
 pub mod Sendings
 pub mod Sound

@@ -1,5 +1,7 @@
 //! Deduplication: what is remembered of the messages that came (RFC 7252, section 4.5).
 mod entries;
+mod log;
+mod pages;
 
 ghost use Rattle.std.specs.Prelude.{◌≡◌, ◌<◌, ◌≤◌, ◌+◌, ◌++◌, [], true, false, nat_le, filter, length, Some, None};
 ghost use Rattle.std.specs.Prelude.{is_some, option_to_list, if◌then◌else◌, OnOk};
@@ -8,27 +10,23 @@ ghost use Rattle.coap_layer.specs.Machine.State.{is_live, is_full, is_remembered
 ghost use Rattle.coap_layer.specs.Machine.Entries.{AreLive, IsUpTo, arrivals_in, live_of, same_key, storing};
 ghost use Rattle.coap_types.specs.declared.transmission.TheConstants.{EXCHANGE_LIFETIME_MS as exchange_lifetime};
 
-use crate::dedup::entries::{are_many, from_place, is_passed_at, let_go, passed_by, put_last};
+use crate::dedup::entries::{is_passed_at, passed_by};
+use crate::dedup::log::Log;
 use coap_types::transmission::EXCHANGE_LIFETIME_MS;
 use coap_types::{Endpoint, Id, Moment, Remembered};
-use indexmap::IndexMap;
 use std::alloc::{AllocError, Allocator};
 use std::hash::BuildHasher;
 use std::marker::Model;
 
 /// What tells messages apart: where one came from, and its Message ID (RFC 7252, section 4.4).
-///
-/// What is forgotten and waits to be let go of can have the same: by the turn it is told from what is
-/// remembered.
-#[derive(Clone, Copy, PartialEq, Eq, Hash)]
+#[derive(Clone, Copy, PartialEq, Eq, Hash, Drop)]
 pub(crate) struct Key {
     pub(crate) from: Endpoint,
     pub(crate) id: Id,
-    pub(crate) turn: bool,
 }
 
 impl Key {
-    // Whether they are the same, whatever the turn.
+    // Whether they are the same.
     fn is_of(&self, other: Key) -> bool
         ensures { result ≡ same_key self.now other }
     {
@@ -50,41 +48,25 @@ pub(crate) struct Kept<A: Allocator + Copy> {
 /// kept apart from the others, until the next input: so it can be taken back.
 #[derive(Drop)]
 pub(crate) struct Memory<A: Allocator + Copy, S: BuildHasher> {
-    settled: IndexMap<Key, Kept<A>, S, A>,
-    // So many of these, the first ones, are forgotten, and wait to be let go of together.
-    passed: usize,
-    // So many, the first ones, are of the other turn, and the rest of this one. None of this one is
-    // forgotten.
-    earlier: usize,
-    turn: bool,
+    settled: Log<Key, Kept<A>, A, S>,
     newest: Option<(Key, Kept<A>)>,
 }
 
 impl<A: Allocator + Copy, S: BuildHasher> Model for Memory<A, S> {
-    ghost use Rattle.std.specs.Prelude.{◌≤◌, drop, length};
-    ghost use Rattle.std.specs.List.{IsDistinct};
-    ghost use Rattle.std.specs.Map.{keys_of};
     ghost use Rattle.std.specs.Option.{option_map};
     ghost use Rattle.std.specs.List.Sorted.{IsNonDecreasingBy};
-    ghost use Rattle.indexmap.specs.IndexMap.{spare, IsUnique};
-    ghost use Rattle.coap_layer.specs.Machine.Entries.{Memory, arrived_as, arrivals_as, same_key, same_place};
-    ghost use Rattle.coap_layer.specs.Machine.Entries.{AreFew, IsApart, IsTurned};
+    ghost use Rattle.coap_layer.specs.Machine.Entries.{Memory, IsApart, arrived_as, arrivals_as};
 
     ghost Value = { Memory };
 
     ghost view = { λ m. record {
-      settled = arrivals_as (drop m.passed m.settled.entries);
+      settled = arrivals_as m.settled.entries;
       newest = option_map arrived_as m.newest;
-      spare = spare m.settled;
+      spare = m.settled.spare;
     } };
 
-    ghost invariant = { λ m. IsUnique same_place m.settled
-        × IsNonDecreasingBy (λ e. e.1.at.0) m.settled.entries
-        × AreFew m.passed (length m.settled.entries)
-        × (m.passed ≤ m.earlier) × (m.earlier ≤ length m.settled.entries)
-        × IsTurned m.turn m.earlier m.settled.entries
-        × IsDistinct same_key (keys_of (drop m.passed m.settled.entries))
-        × IsApart (option_map arrived_as m.newest) (arrivals_as (drop m.passed m.settled.entries)) (spare m.settled) };
+    ghost invariant = { λ m. IsNonDecreasingBy (λ e. e.1.at.0) m.settled.entries
+        × IsApart (option_map arrived_as m.newest) (arrivals_as m.settled.entries) m.settled.spare };
 }
 
 // Whether it is still remembered.
@@ -111,15 +93,12 @@ fn stored<A: Allocator + Copy>(con: bool, reply: Vec<u8, A>) -> Option<Vec<u8, A
 
 impl<A: Allocator + Copy, S: BuildHasher> Memory<A, S> {
     /// Nothing is remembered. It takes no memory.
-    pub(crate) fn with_hasher(alloc: A, hasher: S) -> Memory<A, S>
+    pub(crate) fn with_hasher(alloc: A, hasher: S, most: Remembered) -> Memory<A, S>
         ensures settled { result.settled ≡ [] }
         ensures newest { result.newest ≡ None }
     {
         Memory {
-            settled: IndexMap::with_hasher(alloc, hasher),
-            passed: 0,
-            earlier: 0,
-            turn: false,
+            settled: Log::new(alloc, hasher, most.get()),
             newest: None,
         }
     }
@@ -131,7 +110,7 @@ impl<A: Allocator + Copy, S: BuildHasher> Memory<A, S> {
             option_map (λ v. v.items) k.reply) (option_copied result)
             ≡ reply_of now.0 key.from key.id.0 self.now.settled }
     {
-        while_live(from_place(&self.settled, self.passed, key), now)
+        while_live(self.settled.find(key), now)
     }
 
     // The newest message, if it is of this key and still remembered.
@@ -153,11 +132,7 @@ impl<A: Allocator + Copy, S: BuildHasher> Memory<A, S> {
     pub(crate) fn is_remembered(&self, now: Moment, from: Endpoint, id: Id) -> bool
         ensures { result ≡ is_remembered now.0 from id.0 (arrivals_in self.now) }
     {
-        let key = Key {
-            from,
-            id,
-            turn: false,
-        };
+        let key = Key { from, id };
         self.find(now, key).is_some() || self.find_newest(now, key).is_some()
     }
 
@@ -165,11 +140,7 @@ impl<A: Allocator + Copy, S: BuildHasher> Memory<A, S> {
     pub(crate) fn stored_reply(&self, now: Moment, from: Endpoint, id: Id) -> Option<&Vec<u8, A>>
         ensures { option_map (λ v. v.now.items) result ≡ reply_of now.0 from id.0 (arrivals_in self.now) }
     {
-        let key = Key {
-            from,
-            id,
-            turn: false,
-        };
+        let key = Key { from, id };
         match self.find(now, key) {
             Some(kept) => kept.reply.as_ref(),
             None => match self.find_newest(now, key) {
@@ -196,17 +167,17 @@ impl<A: Allocator + Copy, S: BuildHasher> Memory<A, S> {
         ensures { result ≡ is_full most now.0 (arrivals_in self.now) }
     {
         let newest = self.live_newest(now);
-        let settled = self.settled.len() - self.passed;
+        let settled = self.settled.len();
         // Of those that are settled, so many have to be remembered still: the last ones.
         let others = most.get() - newest;
-        others <= settled && !is_passed_at(&self.settled, self.settled.len() - others, now)
+        others <= settled && !is_passed_at(&self.settled, settled - others, now)
     }
 
     /// How many messages are remembered.
     pub(crate) fn remembered(&self, now: Moment) -> usize
         ensures { result ≡ length (filter (is_live now.0) (arrivals_in self.now)) }
     {
-        let passed = passed_by(&self.settled, self.passed, now);
+        let passed = passed_by(&self.settled, now);
         self.settled.len() - passed + self.live_newest(now)
     }
 
@@ -217,7 +188,7 @@ impl<A: Allocator + Copy, S: BuildHasher> Memory<A, S> {
         ensures spare { self.old.spare ≤ self.new.spare }
         ensures ok { OnOk result (2 ≤ self.new.spare) }
     {
-        self.settled.reserve(2)
+        self.settled.reserve()
     }
 
     // Lets go of what is settled and no longer remembered.
@@ -226,20 +197,9 @@ impl<A: Allocator + Copy, S: BuildHasher> Memory<A, S> {
         ensures newest { self.new.newest ≡ self.old.newest }
         ensures spare { self.old.spare ≤ self.new.spare }
     {
-        let passed = passed_by(&self.settled, self.passed, now);
-        if are_many(passed, self.settled.len(), self.earlier) {
-            let_go(&mut self.settled, passed);
-            self.passed = 0;
-            if passed < self.earlier {
-                self.earlier -= passed;
-            } else {
-                // All that are left are of one turn.
-                self.earlier = self.settled.len();
-                self.turn = !self.turn;
-            }
-        } else {
-            self.passed = passed;
-        }
+        let passed = passed_by(&self.settled, now);
+        self.settled.pass(passed);
+        self.settled.let_go();
     }
 
     // Puts the newest message to the others, if it is still remembered.
@@ -253,12 +213,7 @@ impl<A: Allocator + Copy, S: BuildHasher> Memory<A, S> {
     {
         if let Some((key, kept)) = self.newest.take() {
             if is_live(&kept, now) {
-                let placed = Key {
-                    from: key.from,
-                    id: key.id,
-                    turn: self.turn,
-                };
-                put_last(&mut self.settled, placed, kept);
+                self.settled.push(key, kept);
             }
         }
     }
@@ -289,11 +244,7 @@ impl<A: Allocator + Copy, S: BuildHasher> Memory<A, S> {
             con,
             reply: None,
         };
-        let key = Key {
-            from,
-            id,
-            turn: false,
-        };
+        let key = Key { from, id };
         self.newest = Some((key, kept));
     }
 

@@ -112,7 +112,7 @@ impl<A: Allocator + Copy, S: BuildHasher> Layer<A, S> {
             ids: IdSource::new(setup.word),
             found: FoundIds::new(),
             lists: Lists {
-                entries: Memory::with_hasher(alloc, hasher),
+                entries: Memory::with_hasher(alloc, hasher, setup.remembered),
                 sendings: Vec::new(alloc),
                 waiting: VecDeque::new(alloc),
             },

@@ -7,7 +7,7 @@ use Occurrence::{Never, Once, Repeatable};
 use bytes::Bytes;
 use coap_types::{
     BodyLimit, Code, DEFAULT_BODY_LIMIT, DEFAULT_REMEMBERED, Endpoint, Id, Kind, Method, Moment,
-    Occurrence, Opt, Remembered, Request, Role, Rule, Szx, Tag, Tags, Token, appended,
+    Occurrence, Opt, OptionList, Remembered, Request, Role, Rule, Szx, Tag, Tags, Token, appended,
     option_number, rule, uint_bytes, uint_laws, uint_of,
 };
 use paths::path_of;
@@ -253,6 +253,22 @@ fn methods_have_codes(rt: HostRuntime) {
     for byte in [0, 5, 31, 69] {
         assert_eq!(rt; Method::of(Code(byte)), None);
     }
+}
+
+#[test]
+fn options_are_listed_in_order(rt: HostRuntime) {
+    let mut options: OptionList<'_, 2> = OptionList::new();
+    assert!(rt; options.as_slice().is_empty());
+    options.push_some(option_number::IF_MATCH, None);
+    options.push(option_number::URI_PATH, b"temperature");
+    options.push_some(option_number::ACCEPT, Some(b"\x28"));
+    let path = options.as_slice()[0];
+    assert_eq!(rt; path.number, 11);
+    assert_eq!(rt; path.value, b"temperature".as_slice());
+    let accept = options.as_slice()[1];
+    assert_eq!(rt; accept.number, 17);
+    assert_eq!(rt; accept.value, b"\x28".as_slice());
+    assert_eq!(rt; options.as_slice().len(), 2);
 }
 
 // Four entity-tags, beside which there is no room for one more.

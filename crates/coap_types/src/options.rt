@@ -9,3 +9,12 @@ pub struct Opt<'a> {
     /// Its value, any bytes.
     pub value: &'a [u8],
 }
+
+impl<'a> Default for Opt<'a> {
+    fn default() -> Opt<'a> {
+        Opt {
+            number: 0,
+            value: &[],
+        }
+    }
+}

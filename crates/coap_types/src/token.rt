@@ -80,6 +80,15 @@ impl Token {
     }
 }
 
+/// A token has at most 8 bytes (RFC 7252, section 3). This does nothing: the prover doesn't look for the length
+/// of a token that stands in another value, and knows it from here on.
+pub fn reveal(token: &Token)
+    // A token that stands in another value has at most 8 bytes, too.
+    ensures { length token.now ≤ MAX_TOKEN_LEN }
+{
+    token.as_slice();
+}
+
 impl Clone for Token {
     ghost is_clone = { λ token copy. copy ≡ token };
 

@@ -11,10 +11,6 @@ pub const ACK_RANDOM_FACTOR_DENOMINATOR: u64 = 2;
 pub const MAX_RETRANSMIT: u32 = 4;
 /// The most outstanding interactions with one endpoint (RFC 7252, sections 4.7 and 4.8).
 pub const NSTART: usize = 1;
-/// How long a response to a multicast request may be put off (RFC 7252, section 4.8).
-pub const DEFAULT_LEISURE_MS: u64 = 5_000;
-/// The most bytes a second to an endpoint that does not answer (RFC 7252, section 4.8).
-pub const PROBING_RATE: u64 = 1;
 
 /// The longest that a datagram takes from its sending to its arrival (RFC 7252, section 4.8.2).
 pub const MAX_LATENCY_MS: u64 = 100_000;
@@ -35,16 +31,11 @@ pub const FAILURE_TIMEOUTS: u64 = (1 << (MAX_RETRANSMIT + 1)) - 1;
 /// From the first sending of a Confirmable message until no acknowledgement is awaited any more
 /// (RFC 7252, section 4.8.2).
 pub const MAX_TRANSMIT_WAIT_MS: u64 = MAX_ACK_TIMEOUT_MS * FAILURE_TIMEOUTS;
-/// The longest round trip (RFC 7252, section 4.8.2).
-pub const MAX_RTT_MS: u64 = 2 * MAX_LATENCY_MS + PROCESSING_DELAY_MS;
 /// From the first sending of a Confirmable message until nothing of its exchange is awaited
 /// (RFC 7252, section 4.8.2).
 pub const EXCHANGE_LIFETIME_MS: u64 = MAX_TRANSMIT_SPAN_MS
     + 2 * MAX_LATENCY_MS
     + PROCESSING_DELAY_MS;
-/// From the sending of a Non-confirmable message until none of its copies is under way (RFC 7252,
-/// section 4.8.2).
-pub const NON_LIFETIME_MS: u64 = MAX_TRANSMIT_SPAN_MS + MAX_LATENCY_MS;
 
 /// No retransmission goes out later than this after the first sending (profile: a late tick gets
 /// this much grace over MAX_TRANSMIT_SPAN).
@@ -62,17 +53,13 @@ const _: () = prove!(ACK_RANDOM_FACTOR_NUMERATOR == 3 && ACK_RANDOM_FACTOR_DENOM
 
 const _: () = prove!(MAX_RETRANSMIT == 4 && NSTART == 1);
 
-const _: () = prove!(DEFAULT_LEISURE_MS == 5_000 && PROBING_RATE == 1);
-
 const _: () = prove!(MAX_LATENCY_MS == 100_000 && PROCESSING_DELAY_MS == 2_000);
 
 const _: () = prove!(MAX_TRANSMIT_SPAN_MS == 45_000 && MAX_TRANSMIT_WAIT_MS == 93_000);
 
 const _: () = prove!(FAILURE_TIMEOUTS == 31 && TIMEOUT_VALUES == 1_001);
 
-const _: () = prove!(MAX_RTT_MS == 202_000);
-
-const _: () = prove!(EXCHANGE_LIFETIME_MS == 247_000 && NON_LIFETIME_MS == 145_000);
+const _: () = prove!(EXCHANGE_LIFETIME_MS == 247_000);
 
 // The profile: when a retransmission arrives, the message is still remembered, and before a
 // Message ID is used again, everything of its last use is forgotten.

@@ -70,6 +70,8 @@ pub fn uint_of(bytes: &[u8]) -> Option<u32>
 pub fn uint_bytes(number: u32) -> UintBytes
     // A number is written in the uint format, in the fewest bytes, and 0 in none (RFC 7252, section 3.2).
     ensures bytes { result ≡ uint number }
+    // What is written has at most four bytes.
+    ensures few { length result ≤ MAX_UINT_LEN }
     // What is written spells the number, and no zero byte leads it.
     ensures spelling { IsSpelling result number }
     // A number that is written is read back as it was.

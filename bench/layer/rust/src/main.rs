@@ -3,6 +3,7 @@
 mod forgetting;
 mod plain;
 mod proved;
+mod spread;
 
 use bench_common::memory;
 use bench_common::table::{print_head, print_row};
@@ -177,6 +178,13 @@ fn print_kept(count: &str, len: &str) {
     });
 }
 
+/// Prints how calls are spread with so many remembered messages, and replies of so many bytes.
+fn print_spread(held: &str, len: &str) {
+    let held = held.parse().expect("how many are remembered");
+    let reply = vec![0x60; len.parse().expect("how many bytes a reply has")];
+    spread::print(held, &reply);
+}
+
 fn main() {
     let words: Vec<String> = std::env::args().skip(1).collect();
     match words.as_slice() {
@@ -186,9 +194,11 @@ fn main() {
             forgetting::print_dearest(held.parse().expect("how many are remembered"));
         }
         [word, count, len] if word == "keep" => print_kept(count, len),
+        [word, held, len] if word == "spread" => print_spread(held, len),
+        [word] if word == "spread" => spread::print_head(),
         [row, layer] => repeat(row, layer),
         _ => panic!(
-            "forgetting HELD, dearest HELD, ROW proved, ROW plain, keep COUNT LEN, or nothing"
+            "forgetting HELD, dearest HELD, spread HELD LEN, ROW proved, ROW plain, keep COUNT LEN, or nothing"
         ),
     }
 }

@@ -20,6 +20,18 @@ mod library {
             len: usize,
         ) -> u64;
 
+        /// The lengths must be those of the memory at the pointers.
+        pub fn coap_bench_spread(
+            held: u32,
+            before: u32,
+            silence: u64,
+            ticks: bool,
+            reply: *const u8,
+            reply_len: usize,
+            times: *mut u64,
+            len: usize,
+        ) -> u64;
+
         /// The length must be that of the memory at the pointer.
         pub fn coap_bench_keep(count: u32, reply: *const u8, len: usize) -> u64;
     }
@@ -58,4 +70,30 @@ pub fn paced(pace: Pace, before: u32, count: u32, times: &mut [u64]) -> u64 {
 pub fn keep(count: u32, reply: &[u8]) -> u64 {
     // SAFETY: the pointer and the length are those of one slice.
     unsafe { library::coap_bench_keep(count, reply.as_ptr(), reply.len()) }
+}
+
+/// Takes in `before` requests, one by one so many in each 247 s, and then, so many ms later, one for each of the times,
+/// or ticks, and replies with these bytes to each: how many were replied to or ticked. What each takes, in nanoseconds,
+/// is kept where it is less than before.
+pub fn spread(
+    held: u32,
+    before: u32,
+    silence: u64,
+    ticks: bool,
+    reply: &[u8],
+    times: &mut [u64],
+) -> u64 {
+    // SAFETY: each pointer and length are those of one slice.
+    unsafe {
+        library::coap_bench_spread(
+            held,
+            before,
+            silence,
+            ticks,
+            reply.as_ptr(),
+            reply.len(),
+            times.as_mut_ptr(),
+            times.len(),
+        )
+    }
 }

@@ -7,7 +7,7 @@ use super::{Side, run_script};
 use coap_exchange::{Answerer, Asked, Due, Response, answerable_law, notifiable_law};
 use coap_layer::Datagram;
 use coap_types::option_number::OBSERVE;
-use coap_types::{Code, Endpoint, Id, Kind, Moment, Opt};
+use coap_types::{Code, Endpoint, Id, Kind, Moment, Opt, reveal};
 use std::alloc::{AllocError, Global};
 use std::cell::Cell;
 use std::hash::BuildHasher;
@@ -126,7 +126,7 @@ impl<S: BuildHasher> Server<'_, S> {
             return Err(Fail::new("there is no request"));
         };
         answerable_law();
-        let _few = asked.token.as_slice();
+        reveal(&asked.token);
         self.answerer.answer(asked, &response_of(response));
         self.asked = None;
         self.due = None;
@@ -182,7 +182,7 @@ impl<S: BuildHasher> Server<'_, S> {
             return Err(Fail::new("no deferred request is ready"));
         };
         answerable_law();
-        let _few = asked.token.as_slice();
+        reveal(&asked.token);
         let Id(id) = self
             .answerer
             .respond(self.at, asked, &response_of(response), 0);
@@ -216,7 +216,7 @@ impl<S: BuildHasher> Server<'_, S> {
             return Err(Fail::new("no notification can be sent"));
         };
         notifiable_law();
-        let _few = token.as_slice();
+        reveal(&token);
         let Id(id) = self
             .answerer
             .notify(self.at, to, &token, &response_of(response), 0);
@@ -233,7 +233,7 @@ impl<S: BuildHasher> Server<'_, S> {
             return Err(Fail::new("no notification can be sent"));
         };
         notifiable_law();
-        let _few = token.as_slice();
+        reveal(&token);
         let Id(id) = self
             .answerer
             .notify_plain(self.at, to, &token, &response_of(response));

@@ -86,12 +86,12 @@ fn a_table_of_another_number_is_full_with_that(rt: HostRuntime) -> Result<(), Al
     Ok(())
 }
 
-// What is forgotten may still be held, since it goes in batches: its key is that of a new message.
+// What is forgotten is still held while its page is: its key is that of a new message.
 #[test]
 fn each_key_comes_again_when_it_is_forgotten(rt: HostRuntime) -> Result<(), AllocError> {
     let mut layer = Layer::new(rt.alloc(), 0);
     for now in [0, 247_001, 494_002, 741_003] {
-        for port in 0..40 {
+        for port in 0..300 {
             comes_to(&rt, &mut layer, now, at_port(port), GET, Came::Request)?;
             comes_to(&rt, &mut layer, now, at_port(port), GET, Came::Replayed)?;
         }

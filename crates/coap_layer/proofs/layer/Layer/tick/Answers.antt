@@ -110,3 +110,6 @@ returns-clause-before g c =
     let waiting = c.in_ok-grow.ensures.waiting in
     let shown = ap (λ s. Some s.state) c.self.view_is in
     cc (before, arrived, sendings, waiting, shown)
+
+pub returns-in_err-grow-clause-kept : goal.returns-in_err-grow-clause-kept
+returns-in_err-grow-clause-kept g c has = c.in_err-grow.ensures.kept (ap (λ s. s.has_room) c.self.view_is ∙ has)
