@@ -34,7 +34,7 @@ EXCHANGE_WRAPPERS = ("ks_answerer", "ks_asker", "ks_fetch", "ks_upload", "ks_ass
 # Answers and kinds of the exchanges that refuse nothing.
 EXCHANGE_ANSWERS = ("KS_READY", "KS_JOINED", "KS_AGAIN", "KS_RESPONSE", "KS_NOTIFICATION")
 # Parameters that are lent as text, where others are bytes.
-TEXTS = {("ks_server_applied", "room"), ("ks_peek", "room")}
+TEXTS = {("ks_server_applied", "room"), ("ks_server_paths", "room"), ("ks_peek", "room")}
 
 
 def read_all():

@@ -155,6 +155,12 @@ typedef struct { uint64_t version; size_t body_len; int32_t format; } ks_represe
 int32_t ks_server_get(ks_server *handle, const char *path, size_t path_len, ks_representation *shown,
                       void *room, size_t room_len);
 
+/* The path at this place, from 0 on, of those that hold something: KS_DONE with its text at the front of the room
+ * (KS_PATH_ROOM bytes are always enough), its length in *path_len, and what it holds in *shown; KS_OK where fewer paths hold
+ * something. They stand in an order of the server's own, which a change can move. KS_SMALL_ROOM, KS_NOT_LIVE. */
+int32_t ks_server_paths(ks_server *handle, size_t place, ks_representation *shown, char *room, size_t room_len,
+                        size_t *path_len);
+
 enum ks_delay_refusal { KS_DELAY_FULL = 48 };   /* 16 other paths have a delay */
 
 /* Has each Confirmable request of the path wait so many ms, be carried out then, and be answered by a separate response.
@@ -418,11 +424,16 @@ int32_t ks_peek(const void *datagram, size_t datagram_len, ks_message *shown, ch
 
 /* ---- A request that is refused ----------------------------------------------------------------------------------- */
 
-/* As ks_server_feed, but a request is fed as one of a method that there is none of (0.31): the server answers it with
- * 4.05 (4.02 where it has a critical option that nobody knows, 5.05 where it wants a proxy) and serves nothing. What is
- * no request is fed as it is. The refusal is remembered as any message: a copy of it gets that answer, and a copy of a
- * request that was served gets the stored reply. So your rules may change at any moment. KS_OK; KS_NO_MEMORY, after
- * which it counts as lost; KS_NOT_LIVE. */
+/* As ks_server_feed, but a request that is new is answered with this code of class 4 or 5 (0x83 for 4.03), and nothing
+ * that it asks is done. Two answers come first, whatever is asked: 4.02 where it has a critical option that nobody knows
+ * (none to a Non-confirmable request), and 5.05 where it wants a proxy. What is no request is fed as it is. The refusal
+ * is remembered as any message: a copy of it gets that answer, and a copy of a request that was served gets the stored
+ * reply. So your rules may change at any moment. KS_DONE: there was such a request; KS_OK: there was none;
+ * KS_BAD_ARGUMENT: another code; KS_NO_MEMORY, after which the datagram counts as lost; KS_NOT_LIVE. */
+int32_t ks_server_refuse_by(ks_server *handle, uint64_t now, const ks_address *from, const void *datagram,
+                            size_t datagram_len, uint64_t word, uint8_t code);
+
+/* The same with 4.05; KS_OK whether there was such a request or not. */
 int32_t ks_server_refuse(ks_server *handle, uint64_t now, const ks_address *from, const void *datagram,
                          size_t datagram_len, uint64_t word);
 

@@ -1,4 +1,5 @@
-// knifesilver.hpp: a client and a server of CoAP for C++17, over knifesilver.h, whose comments say what each call does.
+// knifesilver.hpp: a client and a server of CoAP, and names for peers, for C++17, over knifesilver.h, whose comments
+// say what each call does.
 //
 // An end is a value that can be moved and not copied. It has no input and no output: hand it what arrived by `feed`,
 // do what is due by `tick`, and after each call take what is out by `next_out`, and by `next_applied` of a server or
@@ -311,6 +312,17 @@ public:
         return held;
     }
 
+    // The paths that hold something, as texts, in an order of the server's own.
+    std::vector<std::string> paths() {
+        std::vector<std::string> all;
+        ks_representation shown{};
+        std::size_t len = 0;
+        while (detail::done("ks_server_paths",
+                            ks_server_paths(raw_.get(), all.size(), &shown, path_.data(), path_.size(), &len)))
+            all.emplace_back(path_.data(), len);
+        return all;
+    }
+
     // Before the first feed, tick, set and remove.
     void set_delay(std::string_view path, Moment delay) {
         const Bytes text(path);
@@ -336,6 +348,15 @@ public:
         detail::ok("ks_server_refuse",
                    ks_server_refuse(raw_.get(), detail::ms(now), &from, datagram.data(), datagram.size(), words_()));
         keep_applied();
+    }
+
+    // The same with another code of class 4 or 5, as 0x83; whether there was a request that is new.
+    bool refuse_by(Moment now, const Address &from, Bytes datagram, std::uint8_t code) {
+        const bool was = detail::done("ks_server_refuse_by",
+                                      ks_server_refuse_by(raw_.get(), detail::ms(now), &from, datagram.data(),
+                                                          datagram.size(), words_(), code));
+        keep_applied();
+        return was;
     }
 #endif
 
@@ -481,6 +502,81 @@ private:
     Words words_;
     std::vector<std::uint8_t> room_, body_;
 };
+
+#if KS_VERSION >= 200
+// The bytes that tell a peer apart: 1 to 60. Two spellings are two peers.
+using Key = std::vector<std::uint8_t>;
+
+// Names for peers that have no IPv4 address: an IPv6 address with its scope, a DTLS session, a radio. An end takes
+// such a name for the address of its peer. knifesilver.h says what is kept, and which rules are yours.
+class Names {
+public:
+    // A table in which no peer has a name, for at most so many at once. With `this_network` all names are in
+    // 0.0.0.0/8, so that peers with an IPv4 address can go by it.
+    explicit Names(std::uint32_t places, bool this_network = true, const Words &words = random_word) : room_{} {
+        const ks_seed seed = detail::seed(words);
+        detail::ok("ks_names_new", ks_names_new(raw_.get(), places, this_network, &seed));
+    }
+
+    // A datagram came from this peer: the name that it has, or a new one. None where no name is left for it
+    // (KS_NAMES_FULL, KS_NAMES_SPENT): drop the datagram.
+    std::optional<Address> fed(Moment now, Bytes key) {
+        Address name{};
+        const auto answer = ks_names_fed(raw_.get(), detail::ms(now), key.data(), key.size(), &name);
+        if (answer == KS_NAMES_FULL || answer == KS_NAMES_SPENT) return std::nullopt;
+        detail::ok("ks_names_fed", answer);
+        return name;
+    }
+
+    // A datagram goes to this name: the key of its peer. None where the name is nobody's: drop the datagram.
+    std::optional<Key> sent(Moment now, const Address &name) {
+        std::size_t len = 0;
+        const auto answer = ks_names_sent(raw_.get(), detail::ms(now), &name, room_.data(), room_.size(), &len);
+        return told("ks_names_sent", answer, len);
+    }
+
+    // The same, but nothing goes there, and nothing changes.
+    std::optional<Key> key(const Address &name) const {
+        std::size_t len = 0;
+        const auto answer = ks_names_key(raw_.get(), &name, room_.data(), room_.size(), &len);
+        return told("ks_names_key", answer, len);
+    }
+
+    // The name of a peer, where it has one. Nothing changes.
+    std::optional<Address> of(Bytes key) const {
+        Address name{};
+        if (!detail::done("ks_names_of", ks_names_of(raw_.get(), key.data(), key.size(), &name))) return std::nullopt;
+        return name;
+    }
+
+    // Keeps a name until it is released or retired; whether it is somebody's.
+    bool hold(const Address &name) { return detail::done("ks_names_hold", ks_names_hold(raw_.get(), &name)); }
+
+    // Holds it no more, which counts as a datagram; whether it was held.
+    bool release(Moment now, const Address &name) {
+        return detail::done("ks_names_release", ks_names_release(raw_.get(), detail::ms(now), &name));
+    }
+
+    // Forgets a name at once, where nothing can come from its peer any more; whether it was somebody's.
+    bool retire(const Address &name) { return detail::done("ks_names_retire", ks_names_retire(raw_.get(), &name)); }
+
+    // How many peers have a name.
+    std::uint64_t size() const {
+        std::uint64_t taken = 0;
+        detail::ok("ks_names_load", ks_names_load(raw_.get(), &taken));
+        return taken;
+    }
+
+private:
+    std::optional<Key> told(const char *call, std::int32_t answer, std::size_t len) const {
+        if (!detail::done(call, answer)) return std::nullopt;
+        return Key(room_.data(), room_.data() + len);
+    }
+
+    detail::Handle<ks_names, ks_names_free> raw_;
+    mutable std::array<std::uint8_t, KS_KEY_ROOM> room_;
+};
+#endif
 
 } // namespace knifesilver
 

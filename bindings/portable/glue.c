@@ -197,6 +197,12 @@ static u32 lent_tags(ks_end *e, const ks_tag *tags, size_t len) {
     return at;
 }
 
+static void handle_free(ks_handle *h) {
+    end_free(h->at);
+    h->at = NULL;
+    h->live = false;
+}
+
 /* What is lent in a call, which is given back at its end. */
 typedef struct { ks_end *e; u32 at[8]; u32 len; bool lacks; } loans;
 
@@ -233,11 +239,7 @@ uint64_t ks_base(uint64_t word) {
 
 /* The same call of either end: `kind` is server or client. */
 #define BOTH_ENDS(kind)                                                                                               \
-    void ks_##kind##_free(ks_##kind *h) {                                                                             \
-        end_free(h->handle.at);                                                                                       \
-        h->handle.at = NULL;                                                                                          \
-        h->handle.live = false;                                                                                       \
-    }                                                                                                                 \
+    void ks_##kind##_free(ks_##kind *h) { handle_free(&h->handle); }                                                  \
                                                                                                                       \
     int32_t ks_##kind##_feed(ks_##kind *h, uint64_t now, const ks_address *from, const void *datagram, size_t len,    \
                              uint64_t word) {                                                                         \
@@ -379,6 +381,24 @@ int32_t ks_server_get(ks_server *h, const char *path, size_t path_len, ks_repres
     return answer;
 }
 
+int32_t ks_server_paths(ks_server *h, size_t place, ks_representation *shown, char *room, size_t room_len,
+                        size_t *path_len) {
+    loans l = {.e = begin(&h->handle)};
+    if (l.e == NULL) return KS_NOT_LIVE;
+    size_t most = room_len < KS_PATH_ROOM ? room_len : KS_PATH_ROOM;
+    u32 s = keep(&l, take(l.e, 24)), r = keep(&l, lent_room(l.e, most)), n = keep(&l, take(l.e, 8));
+    int32_t answer = KS_NO_MEMORY;
+    if (!l.lacks) answer = (int32_t)Z_knifesilverZ_ks_server_paths(MODULE, HANDLE, place, s, r, most, n);
+    if (answer == KS_DONE) {
+        get_shown(l.e, s, shown);
+        *path_len = (size_t)get_number(l.e, n, 8);
+        get(l.e, r, room, (u32)*path_len);
+    }
+    give_back(&l);
+    leave(&h->handle, l.e);
+    return answer;
+}
+
 int32_t ks_server_set_delay(ks_server *h, const char *path, size_t path_len, uint64_t ms) {
     loans l = {.e = begin(&h->handle)};
     if (l.e == NULL) return KS_NOT_LIVE;
@@ -417,6 +437,19 @@ int32_t ks_server_applied(ks_server *h, ks_applied *done, char *room, size_t roo
         get(l.e, d + 24, done->token, 8);
         get(l.e, r, room, (u32)done->path_len);
     }
+    give_back(&l);
+    leave(&h->handle, l.e);
+    return answer;
+}
+
+int32_t ks_server_refuse_by(ks_server *h, uint64_t now, const ks_address *from, const void *datagram, size_t len,
+                            uint64_t word, uint8_t code) {
+    if (code / 32 != 4 && code / 32 != 5) return KS_BAD_ARGUMENT;
+    loans l = {.e = begin(&h->handle)};
+    if (l.e == NULL) return KS_NOT_LIVE;
+    u32 a = keep(&l, lent_address(l.e, from)), d = keep(&l, lent(l.e, datagram, len));
+    int32_t answer = KS_NO_MEMORY;
+    if (!l.lacks) answer = (int32_t)Z_knifesilverZ_ks_server_refuse_by(MODULE, HANDLE, now, a, d, len, word, code);
     give_back(&l);
     leave(&h->handle, l.e);
     return answer;

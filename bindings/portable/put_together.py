@@ -7,6 +7,7 @@ import re
 import sys
 
 RUNTIME_HEADER = pathlib.Path("/usr/include/wasm-rt.h")
+GLUE = ("glue.c", "glue_names.c")
 HEAD = """/* knifesilver-portable.c: the library for any C compiler (C11), also of 32 bits. Compile this one file beside
  * knifesilver.h, and link it in the place of libknifesilver.a. It is written by a script (bindings/portable/build): the
  * library as a module of WebAssembly, which wasm2c translated. What that script proves is the module; the way from
@@ -50,9 +51,9 @@ def turned(text):
 
 def main():
     folder, translated, out = (pathlib.Path(it) for it in sys.argv[1:])
-    glue = (folder / "glue.c").read_text()
+    glue = [(folder / name).read_text() for name in GLUE]
     parts = [HEAD, RUNTIME_HEADER.read_text(), plain(translated.with_suffix(".h").read_text())]
-    parts += [(folder / "runtime.c").read_text(), turned(plain(translated.with_suffix(".c").read_text())), glue]
+    parts += [(folder / "runtime.c").read_text(), turned(plain(translated.with_suffix(".c").read_text())), *glue]
     out.write_text("\n".join(parts))
 
 

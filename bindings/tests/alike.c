@@ -1,5 +1,6 @@
-/* alike: so many random calls of a server and a client, of which each answer, and all that is written, goes into one
- * number, which is told after each tenth of them. Two builds of the library that are alike tell the same numbers.
+/* alike: so many random calls of a server, a client and a table of names, of which each answer, and all that is written,
+ * goes into one number, which is told after each tenth of them. Two builds of the library that are alike tell the same
+ * numbers.
  *
  *     alike [CALLS] [SEED] */
 #include "knifesilver.h"
@@ -11,9 +12,12 @@
 #define PATHS 9
 #define BAD_PATHS 2
 #define CHANGES_S 200           /* a call out of so many makes an end anew */
+#define PEERS 40
+#define MOST_PLACES 12
 
 static ks_server server;
 static ks_client client;
+static ks_names names;
 static const ks_address here = {{127, 0, 0, 1}, 40001}, there = {{127, 0, 0, 1}, 5683};
 static uint64_t now, drawn, told = 0xcbf29ce484222325u;
 static uint8_t room[65536], last[KS_DATAGRAM_ROOM];
@@ -63,7 +67,8 @@ static size_t draw_body(void) {
 
 static void begin(void) {
     ks_config config = {.size = sizeof config};
-    ks_seed of_server = draw_seed(), of_client = draw_seed();
+    ks_seed of_server = draw_seed(), of_client = draw_seed(), of_names = draw_seed();
+    uint32_t places = (uint32_t)(draw() % MOST_PLACES);
     if (draw() % 2) config.block_size = (uint32_t)(8u << draw() % 9);
     if (draw() % 4 == 0) config.remembered = (uint32_t)(draw() % 50);
     if (draw() % 8 == 0) config.body_limit = (uint32_t)(draw() % 2000000);
@@ -72,6 +77,8 @@ static void begin(void) {
     answered(ks_client_new(&client, &there, &config, &of_client));
     if (draw() % 10 == 0) ks_server_free(&server);
     if (draw() % 10 == 0) ks_client_free(&client);
+    answered(ks_names_new(&names, places, draw() % 2, &of_names));
+    if (draw() % 10 == 0) ks_names_free(&names);
 }
 
 static void ask_applied(void) {
@@ -137,6 +144,7 @@ static void damaged(void) {
     uint8_t code = (uint8_t)draw();
     if (answered(ks_refuse(last, len, code, room, draw() % 20, &out)) == KS_DONE) tell(room, out);
     if (draw() % 2) answered(ks_server_refuse(&server, now, &here, last, len, 0));
+    else if (draw() % 2) answered(ks_server_refuse_by(&server, now, &here, last, len, 0, (uint8_t)(draw() % 4 * 32 + 99)));
     else if (draw() % 2) answered(ks_server_feed(&server, now, &here, last, len, 0));
     else answered(ks_client_feed(&client, now, &there, last, len, draw()));
     ask_applied();
@@ -188,6 +196,44 @@ static void of_client(void) {
     tell_number(id);
 }
 
+/* A key, at times of a wrong length: how many bytes it has. */
+static size_t draw_key(uint8_t *key) {
+    size_t len = draw() % 30 == 0 ? draw() % (KS_KEY_ROOM + 3) : 2 + draw() % 2;
+    memset(key, 'k', KS_KEY_ROOM + 3);
+    key[0] = (uint8_t)(draw() % PEERS);
+    return len;
+}
+
+static void tell_name(const ks_address *name) {
+    tell(name->ip, 4);
+    tell_number(name->port);
+}
+
+static void of_names(void) {
+    static ks_address last_name;
+    ks_address name = {{9, 9, 9, 9}, 9};
+    uint8_t key[KS_KEY_ROOM + 3];
+    uint64_t taken = 7;
+    size_t len = draw_key(key), told_len = 7, key_room = draw() % 8 ? KS_KEY_ROOM : draw() % KS_KEY_ROOM;
+    uint64_t by = draw() % 12;
+    switch (by) {
+    case 0: answered(ks_names_of(&names, key, len, &name)); break;
+    case 1: answered(ks_names_key(&names, &last_name, room, key_room, &told_len)); break;
+    case 2:
+    case 3: answered(ks_names_sent(&names, now, &last_name, room, key_room, &told_len)); break;
+    case 4: answered(ks_names_hold(&names, &last_name)); break;
+    case 5: answered(ks_names_release(&names, now, &last_name)); break;
+    case 6: answered(draw() % 4 ? KS_OK : ks_names_retire(&names, &last_name)); break;
+    case 7: answered(ks_names_load(&names, &taken)); break;
+    default:
+        if (answered(ks_names_fed(&names, now, key, len, &name)) == KS_OK) last_name = name;
+    }
+    tell_name(&name);
+    tell_number(taken);
+    tell_number(told_len);
+    if (told_len != 7) tell(room, told_len);
+}
+
 int main(int argc, char **argv) {
     long calls = argc > 1 ? atol(argv[1]) : 100000;
     drawn = argc > 2 ? strtoull(argv[2], NULL, 10) : 1;
@@ -195,11 +241,12 @@ int main(int argc, char **argv) {
     for (long i = 1; i <= calls; i++) {
         uint64_t at;
         now += draw() % 10 == 0 ? draw() % 40000 : draw() % 300;
-        switch (draw() % CHANGES_S == 0 ? 6 : draw() % 6) {
+        switch (draw() % CHANGES_S == 0 ? 7 : draw() % 7) {
         case 0: of_server(); break;
         case 1: of_client(); break;
         case 2: damaged(); break;
-        case 6: begin(); break;
+        case 3: of_names(); break;
+        case 7: begin(); break;
         default:
             for (int n = 0; n < 9 && answered(ks_client_tick(&client, now, draw())) == KS_DONE; n++) {}
             for (int n = 0; n < 9 && answered(ks_server_tick(&server, now, draw())) == KS_DONE; n++) ask_applied();
@@ -212,5 +259,6 @@ int main(int argc, char **argv) {
     }
     ks_server_free(&server);
     ks_client_free(&client);
+    ks_names_free(&names);
     return 0;
 }

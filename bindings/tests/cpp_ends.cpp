@@ -1,4 +1,5 @@
-// Tries knifesilver.hpp: each call of both ends, in one process and over no socket, what is refused, and moves.
+// Tries knifesilver.hpp: each call of both ends and of names, in one process and over no socket, what is refused, and
+// moves.
 #include "knifesilver.hpp"
 #include "knifesilver_easy.h"
 #include <cstdio>
@@ -12,6 +13,7 @@ using namespace knifesilver;
 
 static_assert(!std::is_copy_constructible_v<Server> && !std::is_copy_constructible_v<Client>);
 static_assert(!std::is_copy_assignable_v<Server> && !std::is_copy_assignable_v<Client>);
+static_assert(!std::is_copy_constructible_v<Names> && std::is_move_assignable_v<Names>);
 static_assert(std::is_move_constructible_v<Server> && std::is_move_assignable_v<Client>);
 static_assert(code(4, 4).number == KS_CODE(4, 04));
 
@@ -102,7 +104,9 @@ static void of_requests() {
     WANT(it.ask(Request::post("lamp", "!")).code == code(2, 4));
     WANT(Bytes(it.server.get("lamp")->body).text() == "on!" && !it.server.get("lamp")->format);
     WANT(it.ask(Request::del("lamp")).code == code(2, 2) && !it.server.get("lamp"));
+    WANT(it.server.paths() == std::vector<std::string>{"/temperature"});
     WANT(it.server.remove(it.now, "temperature") && !it.server.remove(it.now, "temperature"));
+    WANT(it.server.paths().empty());
     WANT(it.ask(Request::get("lamp")).code == code(4, 4));
     const std::vector<std::uint8_t> big(30000, 7);
     WANT(it.ask(Request::put("big", big)).code == code(2, 1) && it.server.get("big")->body == big);
@@ -135,6 +139,9 @@ static void of_refusals() {
     for (int i = 0; i < 8; i++) it.client.call(it.now, Request::get("a"));
     WANT(refused([&] { it.client.call(it.now, Request::get("a")); }) == KS_CALL_QUEUE_FULL);
     WANT(refused([&] { it.client.cancel(it.now, 77); }) == KS_CANCEL_UNKNOWN);
+    const std::vector<std::uint8_t> ping{0x40, 0, 0, 9};
+    WANT(refused([&] { it.server.refuse_by(it.now, Address{{127, 0, 0, 1}, 9}, ping, 0x45); }) == KS_BAD_ARGUMENT);
+    WANT(!it.server.refuse_by(it.now, Address{{127, 0, 0, 1}, 9}, ping, 0x83));
     Request tagged = Request::get("a");
     tagged.etags = {Tag(9, 1)};
     WANT(refused([&] { it.client.call(it.now, tagged); }) == KS_BAD_ARGUMENT);
@@ -170,6 +177,55 @@ static void of_moves() {
     WANT(many[0].due().has_value());
 }
 
+static bool is_same(const Address &a, const Address &b) {
+    return a.ip[0] == b.ip[0] && a.ip[1] == b.ip[1] && a.ip[2] == b.ip[2] && a.ip[3] == b.ip[3] && a.port == b.port;
+}
+
+static void of_names() {
+    Names names(2, true, word);
+    const Address one = names.fed(Moment(0), "one").value(), two = names.fed(Moment(0), "two").value();
+    WANT(one.ip[0] == 0 && two.ip[0] == 0 && !is_same(one, two) && is_same(one, *names.fed(Moment(0), "one")));
+    WANT(Bytes(names.key(one).value()).text() == "one" && Bytes(names.sent(Moment(0), two).value()).text() == "two");
+    WANT(is_same(names.of("two").value(), two) && !names.of("three") && !names.key(here) && names.size() == 2);
+    WANT(!names.fed(Moment(247000), "three") && names.hold(one) && names.hold(one) && !names.hold(here));
+    const Address three = names.fed(Moment(247001), "three").value();
+    WANT(!names.key(two) && !names.sent(Moment(247001), two) && names.key(one) && !is_same(three, two));
+    WANT(names.release(Moment(247001), one) && !names.release(Moment(247001), one));
+    WANT(names.retire(one) && !names.retire(one) && names.size() == 1);
+    const Address again = names.fed(Moment(247001), "one").value();
+    WANT(!is_same(again, one) && !is_same(again, two) && !is_same(again, three));
+    const std::string longest(KS_KEY_ROOM, 'k'), longer(KS_KEY_ROOM + 1, 'k');
+    WANT(names.retire(again) && names.key(names.fed(Moment(247001), longest).value())->size() == longest.size());
+    WANT(refused([&] { names.fed(Moment(0), longer); }) == KS_BAD_ARGUMENT);
+    WANT(refused([&] { names.of(""); }) == KS_BAD_ARGUMENT);
+    WANT(refused([&] { Names(0, true, word); }) == KS_BAD_ARGUMENT);
+    Names moved = std::move(names);
+    WANT(moved.size() == 2 && refused([&] { names.size(); }) == KS_NOT_LIVE);
+    names = Names(1, false, word);
+    WANT(names.fed(Moment(0), "one")->port == 1 && names.size() == 1);
+}
+
+// A client of a server that has no IPv4 address: each end has a table, by which a datagram finds its peer.
+static void of_named_peers() {
+    Names of_server(4, true, word), of_client(4, true, word);
+    const Address name = of_client.fed(Moment(0), "server").value();
+    Server server({}, word);
+    Client client(name, {}, word);
+    WANT(of_client.hold(name));
+    server.set(Moment(0), "temperature", "22.3 C");
+    client.call(Moment(0), Request::get("temperature"));
+    client.tick(Moment(0));
+    while (auto out = client.next_out()) {
+        WANT(Bytes(of_client.sent(Moment(0), out->to).value()).text() == "server");
+        server.feed(Moment(0), of_server.fed(Moment(0), "client").value(), out->bytes);
+    }
+    while (auto out = server.next_out()) {
+        WANT(Bytes(of_server.sent(Moment(0), out->to).value()).text() == "client");
+        client.feed(Moment(0), of_client.fed(Moment(0), "server").value(), out->bytes);
+    }
+    WANT(client.next_report()->text() == "22.3 C");
+}
+
 #ifdef __cpp_lib_span
 static void of_spans() {
     const std::uint8_t bytes[] = {'h', 'i'};
@@ -187,6 +243,8 @@ int main() {
     of_observations();
     of_refusals();
     of_moves();
+    of_names();
+    of_named_peers();
     of_spans();
     std::puts("knifesilver.hpp: passed");
 }

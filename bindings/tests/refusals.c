@@ -60,6 +60,58 @@ static void refused_with(const uint8_t *given, size_t given_len, const uint8_t *
     IS(memcmp(datagram, wants, wants_len), 0);
 }
 
+/* .. by a code. */
+static void refused_by(const uint8_t *given, size_t given_len, uint8_t code, int32_t answer, const uint8_t *wants,
+                       size_t wants_len) {
+    ks_address to;
+    ks_applied done;
+    size_t len = 0;
+    IS(ks_server_refuse_by(&server, now, &here, given, given_len, 0, code), answer);
+    IS(ks_server_applied(&server, &done, path_room, sizeof path_room), KS_OK);
+    IS(ks_server_next_out(&server, &to, datagram, sizeof datagram, &len), wants_len != 0 ? KS_DONE : KS_OK);
+    IS(len, wants_len);
+    IS(memcmp(datagram, wants, wants_len), 0);
+}
+
+static void the_server_refuses_by_a_code(void) {
+    static const uint8_t put[] = {0x41, 3, 0, 1, 9, 0xb1, 't', 0xff, 'x'};
+    ks_representation shown;
+    begin();
+    refused_by(put, sizeof put, 0x45, KS_BAD_ARGUMENT, NOT);                    /* 2.05 */
+    refused_by(put, sizeof put, 0x7f, KS_BAD_ARGUMENT, NOT);                    /* 3.31 */
+    refused_by(put, sizeof put, 0xc0, KS_BAD_ARGUMENT, NOT);                    /* 6.00 */
+    refused_by(put, sizeof put, FORBIDDEN, KS_DONE, B(0x61, 0x83, 0, 1, 9));
+    /* A copy is no new request: it has the answer of the first, by whatever code it is refused. */
+    refused_by(put, sizeof put, 0xa3, KS_OK, B(0x61, 0x83, 0, 1, 9));
+    refused_by(B(0x40, 1, 0, 2, 0xb1, 't'), 0x80, KS_DONE, B(0x60, 0x80, 0, 2)); /* 4.00, the first code of an error */
+    refused_by(B(0x40, 4, 0, 3, 0xb1, 't'), 0xbf, KS_DONE, B(0x60, 0xbf, 0, 3)); /* 5.31, the last one */
+    refused_by(B(0x40, 3, 0, 4, 0x91, 'a'), FORBIDDEN, KS_DONE, B(0x60, 0x82, 0, 4)); /* a critical option: 4.02 */
+    refused_by(B(0x40, 1, 0, 5, 0xd2, 22, 'a', ':'), FORBIDDEN, KS_DONE, B(0x60, 0xa5, 0, 5)); /* Proxy-Uri: 5.05 */
+    refused_by(B(0x40, 0, 0, 6), FORBIDDEN, KS_OK, B(0x70, 0, 0, 6));           /* a ping is no request */
+    refused_by(NOT, FORBIDDEN, KS_OK, NOT);
+    IS(ks_server_get(&server, P("t"), &shown, room, 1), KS_OK);
+    end();
+    IS(ks_server_refuse_by(&server, now, &here, put, sizeof put, 0, FORBIDDEN), KS_NOT_LIVE);
+    IS(ks_server_refuse_by(&server, now, &here, put, sizeof put, 0, 0x45), KS_BAD_ARGUMENT);
+}
+
+/* A refusal is remembered: where the memory for that is refused, its datagram counts as lost, and nothing goes out. */
+static void without_memory(void) {
+    ks_address to;
+    size_t len;
+    long lost = 0;
+    for (uint8_t id = 7; id < 250; id++) {
+        allocated = 0;
+        refuse_at = 1;
+        int32_t answer = ks_server_refuse(&server, now, &here, B(0x40, 3, 0, id, 0xb1, 't'), 0);
+        refuse_at = -1;
+        IS(answer == KS_OK || answer == KS_NO_MEMORY, true);
+        lost += answer == KS_NO_MEMORY;
+        IS(ks_server_next_out(&server, &to, datagram, sizeof datagram, &len), answer == KS_OK ? KS_DONE : KS_OK);
+    }
+    IS(lost > 0, true);
+}
+
 static void the_server_refuses(void) {
     static const uint8_t put[] = {0x41, 3, 0, 1, 9, 0xb1, 't', 0xff, 'x'};
     static const uint8_t other[] = {0x41, 3, 0, 2, 8, 0xb1, 't', 0xff, 'y'};
@@ -90,10 +142,7 @@ static void the_server_refuses(void) {
     IS(datagram[1], 0x85);
     IS(ks_server_get(&server, P("t"), &shown, room, 1), KS_DONE);
     IS(room[0], 'y');
-    allocated = 0;
-    refuse_at = 1;
-    IS(ks_server_refuse(&server, now, &here, B(0x40, 3, 0, 7, 0xb1, 't'), 0), KS_NO_MEMORY);
-    refuse_at = -1;
+    without_memory();
     end();
     IS(ks_server_refuse(&server, now, &here, put, sizeof put, 0), KS_NOT_LIVE);
 }
@@ -247,6 +296,7 @@ static void rules(enum mode mode, const char *name) {
 int main(void) {
     rows();
     the_server_refuses();
+    the_server_refuses_by_a_code();
     rules(STAYS, "stay");
     rules(WAITS, "change after a wait");
     rules(BY_THE_SERVER, "change at once, by the server");

@@ -2,7 +2,8 @@
 proved.
 
 `Server` and `Client` have no input or output of their own: you hand them datagrams and moments, and they hand you
-datagrams. `knifesilver.aio` runs them over a UDP socket of asyncio:
+datagrams. `Names` has names for peers that have no IPv4 address. `knifesilver.aio` runs the ends over a UDP socket of
+asyncio:
 
     async with knifesilver.aio.Client("127.0.0.1") as client:
         print((await client.get("temperature")).text)
@@ -26,6 +27,7 @@ from ._library import LibraryError, version
 from .ends import Client, Server, drawn_base, peek
 from .errors import *
 from .errors import __all__ as _errors
+from .names import Names
 from .values import (
     Address,
     Applied,
@@ -54,6 +56,7 @@ __all__ = [
     "Load",
     "Message",
     "Method",
+    "Names",
     "Report",
     "ReportKind",
     "Representation",

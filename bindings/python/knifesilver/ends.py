@@ -42,6 +42,7 @@ from .values import (
 )
 
 _DONE = numbers["KS_DONE"]
+_METHOD_NOT_ALLOWED = Code.of(4, 5)
 _SMALL_ROOM = numbers["KS_SMALL_ROOM"]
 _DATAGRAM_ROOM = numbers["KS_DATAGRAM_ROOM"]
 _PATH_ROOM = numbers["KS_PATH_ROOM"]
@@ -201,6 +202,19 @@ class Server(_AnyEnd):
             return None
         return Representation(shown.version, format_of(shown.format), ctypes.string_at(room, shown.body_len))
 
+    def paths(self) -> List[str]:
+        """The paths that hold something, in an order of the server's own."""
+        with self._lock:
+            shown, length = made("ks_representation"), ctypes.c_size_t()
+            found: List[str] = []
+            while answered(self._path_at(len(found), shown, length)) == _DONE:
+                found.append(path_text(ctypes.string_at(self._path_room, length.value)))
+            return found
+
+    def _path_at(self, place: int, shown: Any, length: ctypes.c_size_t) -> int:
+        told = ctypes.byref(shown), self._path_room, _PATH_ROOM, ctypes.byref(length)
+        return int(self._call("paths", place, *told))
+
     def set_delay(self, path: str, ms: int) -> None:
         """Has each Confirmable request of the path wait so many ms, be carried out then, and be answered by a separate
         response. Choose delays before the first feed, tick, set and remove."""
@@ -215,14 +229,17 @@ class Server(_AnyEnd):
             text = raw_path(path)
             answered(self._call("set_plain", text, len(text)), "ks_plain_refusal")
 
-    def refuse(self, now: int, source: Address, datagram: bytes) -> None:
-        """In the place of a feed, of what that sender may not ask: a request is answered by 4.05, and nothing is
-        applied. A copy of a request that was served gets its answer, so the rules of who may do what may change at
-        any moment."""
+    def refuse(self, now: int, source: Address, datagram: bytes, code: int = _METHOD_NOT_ALLOWED) -> None:
+        """In the place of a feed, of what that sender may not ask: a request is answered by 4.05, or that code of class
+        4 or 5, and nothing is applied. A copy of a request that was served gets its answer, so the rules of who may do
+        what may change at any moment."""
         with self._lock:
             sender, words = raw_address(source), (bytes(datagram), len(datagram), self._word())
             self._begins()
-            answered(self._call("refuse", _moment(now), ctypes.byref(sender), *words))
+            if code == _METHOD_NOT_ALLOWED:
+                answered(self._call("refuse", _moment(now), ctypes.byref(sender), *words))
+            else:
+                answered(self._call("refuse_by", _moment(now), ctypes.byref(sender), *words, code))
             self._took()
 
     def knows(self, now: int, peer: Address) -> bool:

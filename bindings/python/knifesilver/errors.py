@@ -83,7 +83,8 @@ class BadPath(Refused, ValueError):
 
 
 class BadArgument(Refused, ValueError):
-    """An entity-tag of 0 or over 8 bytes, or over 4 of them."""
+    """An entity-tag of 0 or over 8 bytes, or over 4 of them; a key of 0 or over 60 bytes, or no places or over
+    1,048,576."""
 
 
 class BadConfig(Refused, ValueError):

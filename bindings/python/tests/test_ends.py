@@ -92,8 +92,10 @@ class Requests(unittest.TestCase):
         self.assertEqual(str(self.asked(Method.POST, "a/b", b"z").code), "2.04")
         held = self.pair.server.get("a/b")
         self.assertEqual((held.version, held.body), (3, b"yz"))
+        self.assertIn("/a/b", self.pair.server.paths())
         self.assertEqual(str(self.asked(Method.DELETE, "a/b").code), "2.02")
         self.assertIsNone(self.pair.server.get("a/b"))
+        self.assertNotIn("/a/b", self.pair.server.paths())
         methods = [(it.method, it.path, it.version, it.source) for it in self.pair.applied]
         self.assertEqual(
             methods,
@@ -183,6 +185,16 @@ class Refusals(unittest.TestCase):
         self.assertEqual((why.exception.name, why.exception.number), (name, numbers[name]))
         self.assertTrue(str(why.exception).startswith(f"{name}: "), str(why.exception))
         return why.exception
+
+    def test_by_a_code(self):
+        put = bytes.fromhex("4103000109b174ff78")
+        with Server() as server:
+            why = self.refused("KS_BAD_ARGUMENT", server.refuse, 0, ("127.0.0.1", 9), put, 0x45)
+            self.assertIsInstance(why, BadArgument)
+            self.assertIsNone(server.next_out())
+            server.refuse(0, ("127.0.0.1", 9), put, Code.of(4, 3))
+            self.assertEqual(server.next_out(), (bytes.fromhex("6183000109"), ("127.0.0.1", 9)))
+            self.assertIsNone(server.get("t"))
 
     def test_of_a_server(self):
         with Server(Config(body_limit=10, changes=300)) as server:

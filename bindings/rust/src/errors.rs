@@ -45,6 +45,14 @@ errors! {
         Peers = "the number of peers is not 1 to 1,048,576",
     }
 
+    /// Why a datagram is not refused by a code.
+    RefuseError {
+        /// An allocation was refused: the datagram counts as lost.
+        Memory = "out of memory",
+        /// The code is of another class.
+        Code = "the code is not of class 4 or 5",
+    }
+
     /// Why a peer gets no name: what came from it is dropped, and counts as lost.
     NamesError {
         /// An allocation was refused.
@@ -153,6 +161,12 @@ impl fmt::Display for OutOfMemory {
 }
 
 impl Error for OutOfMemory {}
+
+impl From<OutOfMemory> for RefuseError {
+    fn from(_: OutOfMemory) -> RefuseError {
+        RefuseError::Memory
+    }
+}
 
 pub(crate) fn made(answer: i32) -> Result<(), NewError> {
     match answer {

@@ -66,7 +66,8 @@ mod server;
 mod setting;
 
 pub use client::{CallId, Client, Fetched, Report, Request};
-pub use errors::{CallError, CancelError, DelayError, NewError, OutOfMemory, PeekError, PlainError, SetError};
+pub use errors::{CallError, CancelError, DelayError, NewError, OutOfMemory};
+pub use errors::{PeekError, PlainError, RefuseError, SetError};
 pub use journal::{Boot, Journal, JournalError, Replayed};
 pub use load::{Load, Would};
 pub use message::{peek, refusal, Code, Kind, Message, Method, Tag};

@@ -250,6 +250,7 @@ extern "C" {
     fn ks_server_update(handle: *mut ks_server, now: u64, path: *const c_char, path_len: usize, format: i32, body: *const c_void, body_len: usize, version: *mut u64) -> i32;
     fn ks_server_remove(handle: *mut ks_server, now: u64, path: *const c_char, path_len: usize) -> i32;
     fn ks_server_get(handle: *mut ks_server, path: *const c_char, path_len: usize, shown: *mut ks_representation, room: *mut c_void, room_len: usize) -> i32;
+    fn ks_server_paths(handle: *mut ks_server, place: usize, shown: *mut ks_representation, room: *mut c_char, room_len: usize, path_len: *mut usize) -> i32;
     fn ks_server_set_delay(handle: *mut ks_server, path: *const c_char, path_len: usize, ms: u64) -> i32;
     fn ks_server_set_plain(handle: *mut ks_server, path: *const c_char, path_len: usize) -> i32;
     fn ks_server_feed(handle: *mut ks_server, now: u64, from: *const ks_address, datagram: *const c_void, datagram_len: usize, word: u64) -> i32;
@@ -274,6 +275,7 @@ extern "C" {
     fn ks_client_due(handle: *mut ks_client, at: *mut u64) -> i32;
     fn ks_client_next_out(handle: *mut ks_client, to: *mut ks_address, room: *mut c_void, room_len: usize, len: *mut usize) -> i32;
     fn ks_client_next_report(handle: *mut ks_client, report: *mut ks_report, room: *mut c_void, room_len: usize) -> i32;
+    fn ks_server_refuse_by(handle: *mut ks_server, now: u64, from: *const ks_address, datagram: *const c_void, datagram_len: usize, word: u64, code: u8) -> i32;
     fn ks_server_refuse(handle: *mut ks_server, now: u64, from: *const ks_address, datagram: *const c_void, datagram_len: usize, word: u64) -> i32;
     fn ks_refuse(datagram: *const c_void, datagram_len: usize, code: u8, room: *mut c_void, room_len: usize, len: *mut usize) -> i32;
     fn ks_server_load(handle: *mut ks_server, now: u64, load: *mut ks_end_load) -> i32;
@@ -388,6 +390,10 @@ impl Server {
         unsafe { ks_server_get(self.0.get(), text, path.len(), shown, place, room.len()) }
     }
 
+    pub fn path_at(&self, place: usize, shown: &mut ks_representation, room: &mut [u8], path_len: &mut usize) -> i32 {
+        unsafe { ks_server_paths(self.0.get(), place, shown, room.as_mut_ptr().cast(), room.len(), path_len) }
+    }
+
     pub fn set_delay(&mut self, path: &str, ms: u64) -> i32 {
         unsafe { ks_server_set_delay(self.0.get_mut(), path.as_ptr().cast(), path.len(), ms) }
     }
@@ -398,6 +404,10 @@ impl Server {
 
     pub fn feed(&mut self, now: u64, from: &ks_address, datagram: &[u8], word: u64) -> i32 {
         unsafe { ks_server_feed(self.0.get_mut(), now, from, datagram.as_ptr().cast(), datagram.len(), word) }
+    }
+
+    pub fn refuse_by(&mut self, now: u64, from: &ks_address, datagram: &[u8], word: u64, code: u8) -> i32 {
+        unsafe { ks_server_refuse_by(self.0.get_mut(), now, from, datagram.as_ptr().cast(), datagram.len(), word, code) }
     }
 
     pub fn refuse(&mut self, now: u64, from: &ks_address, datagram: &[u8], word: u64) -> i32 {

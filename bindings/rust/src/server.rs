@@ -1,7 +1,7 @@
 //! A server.
 
 use crate::errors::{changed, delayed, made, made_plain, ticked};
-use crate::errors::{DelayError, NamesError, NewError, OutOfMemory, PlainError, SetError};
+use crate::errors::{DelayError, NamesError, NewError, OutOfMemory, PlainError, RefuseError, SetError};
 use crate::load::{self, Load, Would};
 use crate::message::{Code, Method};
 use crate::peers::{is_name, Peer, Table};
@@ -185,6 +185,17 @@ impl<P: Peer> Server<P> {
         Some(Representation { version: shown.version, format: format_of(shown.format), body })
     }
 
+    /// The paths that hold something, as texts in bytes, in an order of the server's own.
+    pub fn paths(&self) -> Vec<Vec<u8>> {
+        let mut room = vec![0; raw::KS_PATH_ROOM];
+        let (mut shown, mut len) = (raw::ks_representation::default(), 0);
+        let mut paths = Vec::new();
+        while self.raw.path_at(paths.len(), &mut shown, &mut room, &mut len) == raw::KS_DONE {
+            paths.push(room[..len].to_vec());
+        }
+        paths
+    }
+
     /// Has each Confirmable request of the path wait so long, be carried out then, and be answered by a response of its own.
     pub fn set_delay(&mut self, path: &str, delay: Duration) -> Result<(), DelayError> {
         let ms = u64::try_from(delay.as_millis()).unwrap_or(u64::MAX);
@@ -207,6 +218,33 @@ impl<P: Peer> Server<P> {
     /// reply: so your rules may change at any moment.
     pub fn refuse(&mut self, now: Instant, from: impl Into<P>, datagram: &[u8]) -> Result<(), OutOfMemory> {
         self.take(now, &from.into(), |raw, now, from, word| raw.refuse(now, from, datagram, word))
+    }
+
+    /// The same with another code, of class 4 or 5.
+    ///
+    /// ```
+    /// # use knifesilver::{Code, Config, RefuseError, Server, MAX_DATAGRAM};
+    /// # use std::net::SocketAddr;
+    /// # use std::time::Instant;
+    /// # let now = Instant::now();
+    /// # let mut server: Server = Server::new(&Config::default(), now).unwrap();
+    /// # let there: SocketAddr = "127.0.0.1:40001".parse().unwrap();
+    /// let (put, mut buffer) = (b"\x41\x03\x7d\x34\xab", [0; MAX_DATAGRAM]);
+    /// assert_eq!(server.refuse_by(now, there, put, Code::CONTENT), Err(RefuseError::Code));
+    /// assert_eq!(server.refuse_by(now, there, put, Code(0x83)), Ok(()));
+    /// assert_eq!(buffer[..server.poll_transmit(&mut buffer).unwrap().size], *b"\x61\x83\x7d\x34\xab");
+    /// ```
+    pub fn refuse_by(
+        &mut self,
+        now: Instant,
+        from: impl Into<P>,
+        datagram: &[u8],
+        code: Code,
+    ) -> Result<(), RefuseError> {
+        if !matches!(code.class(), 4 | 5) {
+            return Err(RefuseError::Code);
+        }
+        Ok(self.take(now, &from.into(), |raw, now, from, word| raw.refuse_by(now, from, datagram, word, code.0))?)
     }
 
     fn take(

@@ -66,4 +66,5 @@ fn the_path_of_one_empty_segment_is_not_taken_for_the_root() {
     let applied = server.poll_applied().unwrap();
     assert_eq!((applied.path.as_slice(), applied.held), (&b"/"[..], None));
     assert_eq!(server.get("/").unwrap().body, b"of the root");
+    assert_eq!(server.paths(), [&b""[..], b"/"]);
 }

@@ -142,6 +142,15 @@ fn requests_are_refused() {
     assert_eq!((server.poll_applied(), server.get("t")), (None, None));
     assert_eq!(refusal(put, Code(0x81)), Some(b"\x61\x81\x00\x01\x07".to_vec()));
     assert_eq!(refusal(put, Code::CONTENT), None);
+    let other = b"\x41\x03\x00\x02\x08\xb1t\xffy";
+    assert_eq!(server.refuse_by(now, THERE, other, Code::CONTENT), Err(RefuseError::Code));
+    assert_eq!(answer(&mut server), None);
+    assert_eq!(server.refuse_by(now, THERE, other, Code(0x83)), Ok(()));
+    assert_eq!(answer(&mut server), Some(b"\x61\x83\x00\x02\x08".to_vec()));
+    // A copy has that answer, by whatever code it is refused.
+    assert_eq!(server.refuse_by(now, THERE, other, Code(0xa3)), Ok(()));
+    assert_eq!(answer(&mut server), Some(b"\x61\x83\x00\x02\x08".to_vec()));
+    assert_eq!((server.poll_applied(), server.get("t")), (None, None));
 }
 
 #[test]

@@ -14,6 +14,7 @@ pub mod Deeds
 pub mod Steps
 pub mod Law
 pub mod Led
+pub mod Makes
 pub mod Object
 pub mod Turns
 pub mod RefusalNumbers

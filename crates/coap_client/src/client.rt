@@ -23,22 +23,18 @@ mod taken_call;
 mod transfer;
 mod upload;
 
-ghost use Rattle.std.specs.Prelude.{◌≡◌, ◌≢◌, ◌≤◌, ◌<◌, ◌^◌, max, ℕ, Bool, false, true, List, ◌∷◌, [], length, Option};
-ghost use Rattle.std.specs.Prelude.{Result};
+ghost use Rattle.std.specs.Prelude.{◌≡◌, ◌≢◌, ◌≤◌, ◌<◌, ◌^◌, max, ℕ, false, true, ◌∷◌, [], length};
 ghost use Rattle.std.specs.Prelude.{Ok, Err, None, IfNone, IfOk, IfSome, IsOk, OnOk, OnErr, is_ok};
 ghost use Rattle.std.specs.Option.{option_map};
 ghost use Rattle.coap_block.specs.Sizes.{usual_sizes};
-ghost use Rattle.coap_layer.specs.Trace as L;
 ghost use Rattle.coap_layer.specs.Machine.State.{usual};
-ghost use Rattle.coap_exchange.specs.declared.asker.AskRefusal.{AskRefusal};
-ghost use Rattle.coap_exchange.specs.declared.asker.Event.{Event};
-ghost use Rattle.coap_exchange.specs.declared.asker.Turn.{Turn};
 ghost use Rattle.coap_client.specs.declared.refusals.CallRefusal.TheVariants as refusals;
 ghost use Rattle.coap_client.specs.Object.CallShown.{shown_request};
 ghost use Rattle.coap_client.specs.Object.CallAnswers.{refusal_in};
 ghost use Rattle.coap_client.specs.Queue.{call_answer, observe_answer};
 ghost use Rattle.coap_client.specs.Led.{Step, Led, fresh_state};
-ghost use Rattle.coap_client.specs.Trace.{Calls, Observes, Cancels, Forgets, Feeds, Ticks};
+ghost use Rattle.coap_client.specs.Makes.{Fed, Forgotten, Makes, Ticked};
+ghost use Rattle.coap_client.specs.Trace.{Calls, Observes, Cancels};
 ghost use Rattle.coap_client.specs.Trace.{NextOut, NextReport, Asked};
 ghost use Rattle.coap_client.specs.Object.Shown.{number_of, shown_asked, shown_reported};
 ghost use Rattle.coap_client.specs.Turns.Due.{TicksDo, latest};
@@ -53,7 +49,8 @@ use crate::client::request_options::{is_long_path, is_long_request};
 use crate::{CallRefusal, CancelRefusal};
 use coap_exchange::Asker;
 use coap_layer::{Datagram, Setup};
-use coap_types::{BodyLimit, Endpoint, Moment, Path, Request, Szx, Token, earlier};
+use coap_types::{BodyLimit, Endpoint, Moment, Path, Request, Szx, earlier};
+pub use last_request::SentRequest;
 pub use load::ClientLoad;
 pub use report::{CallId, Fetched, Report};
 use std::alloc::{AllocError, Allocator};
@@ -155,9 +152,7 @@ impl<A: Allocator + Copy, H: BuildHasher> Client<A, H> {
         word: u64,
     ) -> Result<(), AllocError>
         // What a datagram makes of the client is a step of its machine.
-        ensures step { OnOk result ((up : L.Answer) × (settled : Bool) × (event : Option Event) × (sent : L.Answer)
-            × (token : Result (List ℕ) AskRefusal) × (kept : Bool)
-            × Step self.old (Feeds now.0 from bytes.now word up settled event sent token kept) self.new) }
+        ensures step { OnOk result (Makes self.old (Fed now.0 from bytes.now word) self.new) }
         // A datagram that is refused memory leaves the client as it was.
         ensures err { OnErr result (self.new ≡ self.old) }
         // Where nothing is sent, kept or told, as for an acknowledgement that matches nothing, it takes no memory.
@@ -252,7 +247,7 @@ impl<A: Allocator + Copy, H: BuildHasher> Client<A, H> {
     /// or is being cancelled. It takes no memory.
     pub fn forget(&mut self, id: CallId) -> bool
         // Whether there was such an observation, and what its end leaves, is a step of the client's machine.
-        ensures step { (kept : Bool) × Step self.old (Forgets id.0 kept result) self.new }
+        ensures step { Makes self.old (Forgotten id.0 result) self.new }
     {
         end::forget(&mut self.parts, id)
     }
@@ -264,9 +259,7 @@ impl<A: Allocator + Copy, H: BuildHasher> Client<A, H> {
     /// client is as before.
     pub fn tick(&mut self, now: Moment, word: u64) -> Result<bool, AllocError>
         // Whether a tick did something, and what that leaves, is a step of the client's machine.
-        ensures step { IfOk result (λ did. (below : L.Answer) × (due : Turn) × (sent : L.Answer)
-            × (token : Result (List ℕ) AskRefusal)
-            × (kept : Bool) × Step self.old (Ticks now.0 word below due sent token kept did) self.new) }
+        ensures step { IfOk result (λ did. Makes self.old (Ticked now.0 word did) self.new) }
         // Each tick of a client that does something leaves less to be done at its moment.
         ensures less { result ≡ Ok true → work self.new now.0 < work self.old now.0 }
         // A tick that is refused memory leaves the client as it was.
@@ -277,9 +270,8 @@ impl<A: Allocator + Copy, H: BuildHasher> Client<A, H> {
         scheduler::tick(&mut self.parts, now, word)
     }
 
-    /// The request that the last `feed` or `tick` sent for the first time: of which call or
-    /// observation, and its token. It takes no memory.
-    pub fn asked(&self) -> Option<(CallId, Token)>
+    /// The request that the last `feed` or `tick` sent for the first time. It takes no memory.
+    pub fn asked(&self) -> Option<SentRequest>
         // Which request the last datagram or tick sent for the first time is told as the machine has it.
         ensures step { Step self.now (Asked (shown_asked result)) self.now }
     {

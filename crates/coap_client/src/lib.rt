@@ -5,6 +5,6 @@ mod client;
 mod limits;
 mod refusals;
 
-pub use client::{CallId, Client, ClientLoad, Fetched, Report};
+pub use client::{CallId, Client, ClientLoad, Fetched, Report, SentRequest};
 pub use limits::{MAX_OBSERVATIONS, MAX_OPTIONS_LEN, MAX_WAITING_CALLS};
 pub use refusals::{CallRefusal, CancelRefusal};

@@ -7,10 +7,10 @@ mod server_end;
 
 pub use coap_client::{
     CallId, CallRefusal, CancelRefusal, Client, ClientLoad, Fetched, MAX_OBSERVATIONS,
-    MAX_OPTIONS_LEN, MAX_WAITING_CALLS, Report,
+    MAX_OPTIONS_LEN, MAX_WAITING_CALLS, Report, SentRequest,
 };
 pub use coap_server::{
-    Applied, CON_NOTIFICATION_MS, Delay, DelayRefusal, Load, MAX_DELAYS, MAX_PLAIN_AGE_MS,
-    MAX_PLAINS, PlainRefusal, Server, give_delay, give_plain,
+    Applied, CON_NOTIFICATION_MS, Delay, DelayRefusal, ErrorCode, Load, MAX_DELAYS,
+    MAX_PLAIN_AGE_MS, MAX_PLAINS, PlainRefusal, Server, give_delay, give_plain,
 };
 pub use end::End;

@@ -14,6 +14,8 @@ mod refusal_numbers;
 #[cfg(test)]
 mod refused_growths;
 #[cfg(test)]
+mod refusing;
+#[cfg(test)]
 mod remembering;
 #[cfg(test)]
 mod script;

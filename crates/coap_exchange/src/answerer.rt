@@ -25,7 +25,7 @@ use crate::replies::{
 use crate::separate::Separate;
 use coap_codec::View;
 use coap_layer::{Datagram, Layer, Setup};
-use coap_types::{Code, Endpoint, Id, Kind, Moment, Opt, Token};
+use coap_types::{Code, Endpoint, Id, Kind, Moment, Opt, Token, reveal};
 use std::alloc::{AllocError, Allocator};
 use std::hash::{BuildHasher, BuildHasherDefault, FoldHasher};
 use std::marker::Model;
@@ -51,7 +51,7 @@ impl Asked {
         // The token of the copy has at most 8 bytes.
         ensures few { length result.token ≤ max_token_len }
     {
-        let _few = self.token.as_slice();
+        reveal(&self.token);
         Asked {
             from: self.from,
             kind: self.kind,

@@ -2,7 +2,7 @@
 mod load;
 
 ghost use Rattle.std.specs.Prelude.{◌≡◌, ◌≢◌, ◌≤◌, ◌<◌, ◌^◌, length, IfSome, Bool, false, [], None, Some, Err, IsOk};
-ghost use Rattle.std.specs.Prelude.{IfOk, OnOk, OnErr, IsSome, IfNone, max, ℕ, List};
+ghost use Rattle.std.specs.Prelude.{IfOk, OnOk, OnErr, IsSome, IfNone, max, true, ℕ, List};
 ghost use Rattle.coap_types.specs.declared.endpoint.Endpoint.{Endpoint as EndpointSpec};
 ghost use Rattle.coap_types.specs.FirstMoment.{IsFirstMoment};
 ghost use Rattle.coap_exchange.specs.Machine.Rests.{AskerRests, AskerTurns, has_turn};
@@ -28,7 +28,7 @@ use crate::matching::{Opening, judge_ask};
 use crate::token_source::is_spent;
 use coap_codec::View;
 use coap_layer::{Content, Datagram, Layer, Setup};
-use coap_types::{Endpoint, Id, Method, Moment, Opt, Token, earlier};
+use coap_types::{Endpoint, Id, Method, Moment, Opt, Token, earlier, reveal};
 use std::alloc::{AllocError, Allocator};
 use std::hash::{BuildHasher, BuildHasherDefault, FoldHasher};
 use std::marker::Model;
@@ -151,6 +151,7 @@ impl<A: Allocator + Copy, S: BuildHasher> Model for Asker<A, S> {
     ghost view = { λ a. record {
       state = state_of a.layer.state a.server a.word a.held;
       before = before_of a.layer.before a.server a.word a.before;
+      has_room = a.layer.has_room;
     } };
 }
 
@@ -220,6 +221,8 @@ impl<A: Allocator + Copy, S: BuildHasher> Asker<A, S> {
         ensures memory { result ≡ Err refusals.Memory → self.new ≡ self.old }
         // A request that is refused before the layer is asked takes no memory.
         ensures opens { opening_of self.old.state.own ask.now ≢ openings.Sends → result ≢ Err refusals.Memory }
+        // With room for a message a request is not refused memory.
+        ensures room { self.old.has_room ≡ true → result ≢ Err refusals.Memory }
         // Where the layer has no room for a CON to the server, the refusal takes no memory.
         ensures quiet { answer_of self.old.state.layer (max self.old.state.own.clock now.0)
             (below.Room self.old.state.own.server) ≡ below.Is false → result ≢ Err refusals.Memory }
@@ -245,11 +248,12 @@ impl<A: Allocator + Copy, S: BuildHasher> Asker<A, S> {
         ensures few { IfOk result (λ token. length token ≤ max_token_len) }
         ensures before { self.new.before ≡ self.old.before }
         ensures memory { result ≡ Err refusals.Memory → self.new ≡ self.old }
+        ensures room { self.old.has_room ≡ true → result ≢ Err refusals.Memory }
         ensures quiet { answer_of self.old.state.layer (max self.old.state.own.clock now.0)
             (below.Room self.old.state.own.server) ≡ below.Is false → result ≢ Err refusals.Memory }
     {
         let token = token_for(self.word, self.held.given, ask.token);
-        let _few = token.as_slice();
+        reveal(&token);
         let content = Content {
             code: ask.method.code(),
             token: &token,

@@ -30,7 +30,7 @@ use crate::separate::{Separate, found, take_off};
 use coap_codec::{Head, View, encode, one_spelling};
 use coap_layer::{Content, Layer, Up, reset};
 use coap_types::limits::MAX_MESSAGE_LEN;
-use coap_types::{Endpoint, Id, Kind, Token};
+use coap_types::{Endpoint, Id, Kind, Token, reveal};
 use std::alloc::Allocator;
 use std::hash::BuildHasher;
 
@@ -48,7 +48,7 @@ pub(crate) fn copied_end(ended: &Option<Ended>) -> Option<Ended>
     ensures few { IfSome result (λ e. length e.token ≤ max_token_len) }
 {
     let ended = ended.as_ref()?;
-    let _few = ended.token.as_slice();
+    reveal(&ended.token);
     Some(Ended {
         to: ended.to,
         token: ended.token.copy(),

@@ -9,8 +9,9 @@ use Rattle.coap_types.specs.declared.endpoint.Endpoint.{Endpoint}
 use Rattle.coap_journal.specs.Numbers.{half, number, short}
 use Rattle.coap_journal.specs.Frames.{BeginsFrame, frame, head, head_len, sealed, sum_of}
 use Rattle.coap_journal.specs.Input.{AreShort, Delay, Feed, Input, IsEndpoint, IsFormat, IsInput, IsSegments, Plain}
-use Rattle.coap_journal.specs.Input.{Remove, Set, Tick, delay_bytes, endpoint_bytes, feed_bytes, format_bytes}
-use Rattle.coap_journal.specs.Input.{path_bytes, remove_bytes, set_bytes, spelled, text, texts, tick_bytes}
+use Rattle.coap_journal.specs.Input.{Refuse, Remove, Set, Tick, delay_bytes, endpoint_bytes, feed_bytes}
+use Rattle.coap_journal.specs.Input.{format_bytes, path_bytes, refuse_bytes, remove_bytes, set_bytes, spelled, text}
+use Rattle.coap_journal.specs.Input.{texts, tick_bytes}
 use Rattle.coap_journal.proofs.Bytes.{length-half, length-number, length-short, number_one, one_front, one_rest}
 use Rattle.coap_journal.proofs.Bytes.{short_one}
 use Rattle.coap_journal.proofs.Seals.{head_one, length-head, sealed_front}
@@ -214,3 +215,29 @@ one_input (Plain path) (Plain path') r s a b e =
     let t = heads_are 6 6 (path_bytes path ++ r) (path_bytes path' ++ s) e in
     let p = path_one path path' r s a b t.1 in
     (ap (λ (z : List (List ℕ)). Plain z) p.0, p.1)
+one_input (Feed now from bytes word) (Refuse now' from' bytes' word' code') r s a b e = absurd cc
+one_input (Tick now word) (Refuse now' from' bytes' word' code') r s a b e = absurd cc
+one_input (Set now path format body) (Refuse now' from' bytes' word' code') r s a b e = absurd cc
+one_input (Remove now path) (Refuse now' from' bytes' word' code') r s a b e = absurd cc
+one_input (Delay path ms) (Refuse now' from' bytes' word' code') r s a b e = absurd cc
+one_input (Plain path) (Refuse now' from' bytes' word' code') r s a b e = absurd cc
+one_input (Refuse now from bytes word code) (Feed now' from' bytes' word') r s a b e = absurd cc
+one_input (Refuse now from bytes word code) (Tick now' word') r s a b e = absurd cc
+one_input (Refuse now from bytes word code) (Set now' path' format' body') r s a b e = absurd cc
+one_input (Refuse now from bytes word code) (Remove now' path') r s a b e = absurd cc
+one_input (Refuse now from bytes word code) (Delay path' ms') r s a b e = absurd cc
+one_input (Refuse now from bytes word code) (Plain path') r s a b e = absurd cc
+one_input (Refuse now from bytes word code) (Refuse now' from' bytes' word' code') r s a b e =
+    let t = heads_are 10 10 (refuse_bytes now from bytes word code ++ r)
+    (refuse_bytes now' from' bytes' word' code' ++ s) e in
+    let k = heads_are code code' (feed_bytes now from bytes word ++ r) (feed_bytes now' from' bytes' word' ++ s) t.1 in
+    let n = number_first now now' _ _ r s a.0 b.0 k.1 in
+    let w = number_first word word' _ _ r s a.1 b.1 n.1 in
+    let f = endpoint_one from from' _ _ r s a.2 b.2 w.1 in
+    let d = text_one bytes bytes' r s a.3 b.3 f.1 in (
+      ap (λ (z : ℕ). Refuse z from bytes word code) n.0 ∙ ap (λ (z : Endpoint). Refuse now' z bytes word code) f.0
+          ∙ ap (λ (z : List ℕ). Refuse now' from' z word code) d.0
+          ∙ ap (λ (z : ℕ). Refuse now' from' bytes' z code) w.0
+          ∙ ap (λ (z : ℕ). Refuse now' from' bytes' word' z) k.0,
+      d.1,
+    )

@@ -6,7 +6,8 @@ use Rattle.coap_types.specs.declared.endpoint.Endpoint.{Endpoint}
 use Rattle.coap_types.specs.declared.path.TheConstants.{MAX_SEGMENT_LEN as max_segment_len}
 use Rattle.coap_types.specs.declared.path.TheConstants.{MAX_SEGMENTS as max_segments}
 
--- A datagram that came; a tick; a local change and a removal; a delay; a plain path.
+-- A datagram that came; a tick; a local change and a removal; a delay; a plain path; a datagram that came, and whose
+-- request was to be refused with a code.
 pub data Input : Type 0 where
   Feed : (now : ℕ) (from : Endpoint) (bytes : List ℕ) (word : ℕ) → Input
   Tick : (now : ℕ) (word : ℕ) → Input
@@ -14,6 +15,7 @@ pub data Input : Type 0 where
   Remove : (now : ℕ) (path : List (List ℕ)) → Input
   Delay : (path : List (List ℕ)) (ms : ℕ) → Input
   Plain : (path : List (List ℕ)) → Input
+  Refuse : (now : ℕ) (from : Endpoint) (bytes : List ℕ) (word code : ℕ) → Input
 
 -- bytes, with their length in front
 abbrev pub text : List ℕ → List ℕ
@@ -38,6 +40,9 @@ endpoint_bytes e = e.ip ++ half e.port
 abbrev pub feed_bytes : ℕ → Endpoint → List ℕ → ℕ → List ℕ
 feed_bytes now from bytes word = number now ++ (number word ++ (endpoint_bytes from ++ text bytes))
 
+abbrev pub refuse_bytes : ℕ → Endpoint → List ℕ → (word code : ℕ) → List ℕ
+refuse_bytes now from bytes word code = code ∷ feed_bytes now from bytes word
+
 abbrev pub tick_bytes : ℕ → ℕ → List ℕ
 tick_bytes now word = number now ++ number word
 
@@ -58,6 +63,7 @@ spelled (Set now path format body) = 3 ∷ set_bytes now path format body
 spelled (Remove now path) = 4 ∷ remove_bytes now path
 spelled (Delay path ms) = 5 ∷ delay_bytes path ms
 spelled (Plain path) = 6 ∷ path_bytes path
+spelled (Refuse now from bytes word code) = 10 ∷ refuse_bytes now from bytes word code
 
 -- those of several, one after the other
 abbrev pub all_spelled : List Input → List ℕ
@@ -87,6 +93,8 @@ IsInput (Set now path format body) = (now < 2 ^ 64) × IsFormat format × IsSegm
 IsInput (Remove now path) = (now < 2 ^ 64) × IsSegments path
 IsInput (Delay path ms) = (ms < 2 ^ 64) × IsSegments path
 IsInput (Plain path) = IsSegments path
+IsInput (Refuse now from bytes word code) =
+    (now < 2 ^ 64) × (word < 2 ^ 64) × IsEndpoint from × (length bytes < 2 ^ 32) × (code < 2 ^ 8)
 
 abbrev pub AreInputs : List Input → Type 0
 AreInputs [] = Unit {0}

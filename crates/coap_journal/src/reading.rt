@@ -1,7 +1,7 @@
 //! An input, read from its bytes.
 ghost use Rattle.std.specs.Prelude.{◌≡◌, ◌<◌, ◌+◌, ◌^◌, ◌∷◌, ◌++◌, ℕ, List, Option, length, Err, IfOk, IfSome, IfNone};
-ghost use Rattle.coap_journal.specs.Input.{AreShort, Feed, IsFormat, IsInput, IsSegments, Set, endpoint_bytes};
-ghost use Rattle.coap_journal.specs.Input.{feed_bytes};
+ghost use Rattle.coap_journal.specs.Input.{AreShort, Feed, IsFormat, IsInput, IsSegments, Refuse, Set};
+ghost use Rattle.coap_journal.specs.Input.{endpoint_bytes, feed_bytes, refuse_bytes};
 ghost use Rattle.coap_journal.specs.Input.{format_bytes, path_bytes, set_bytes, text, texts, tick_bytes};
 ghost use Rattle.coap_journal.specs.Numbers.{number};
 ghost use Rattle.coap_journal.specs.declared.reading.ReadError.TheVariants.{Unreadable};
@@ -99,6 +99,24 @@ pub fn read_feed(bytes: &[u8]) -> Option<(Fed<'_>, &[u8])>
         },
         rest,
     ))
+}
+
+/// Reads what stands after the kind of a datagram whose request was to be refused: the code, and the datagram.
+pub fn read_refuse(bytes: &[u8]) -> Option<(u8, Fed<'_>, &[u8])>
+    // What is read is the code and the datagram that the bytes spell.
+    ensures some { IfSome result (λ p. bytes.now
+        ≡ refuse_bytes p.1.now.0 p.1.from p.1.bytes.now p.1.word p.0 ++ p.2.now) }
+    // A datagram to be refused that was written is read.
+    ensures none { IfNone result ((now word code : ℕ) (from : EndpointSpec) (xs rest : List ℕ)
+        → IsInput (Refuse now from xs word code) → bytes.now ≡ refuse_bytes now from xs word code ++ rest → ⊥) }
+{
+    match bytes {
+        [code, behind @ ..] => {
+            let (fed, rest) = read_feed(behind)?;
+            Some((*code, fed, rest))
+        }
+        [] => None,
+    }
 }
 
 /// Reads what stands after the kind of a tick: its moment and its word.

@@ -1,6 +1,7 @@
 //! The bytes of an input.
 ghost use Rattle.std.specs.Prelude.{◌≡◌, ◌∷◌, ◌++◌, ◌<◌, ◌^◌, [], length, OnOk, IfOk};
-ghost use Rattle.coap_journal.specs.Input.{Delay, Feed, Plain, Remove, Set, Tick, endpoint_bytes, format_bytes};
+ghost use Rattle.coap_journal.specs.Input.{Delay, Feed, Plain, Refuse, Remove, Set, Tick, endpoint_bytes};
+ghost use Rattle.coap_journal.specs.Input.{feed_bytes as feed_spelled, format_bytes};
 ghost use Rattle.coap_journal.specs.Input.{path_bytes, spelled, text, texts};
 ghost use Rattle.coap_journal.specs.Numbers.{number};
 ghost use Rattle.coap_types.specs.Path.{HoldsAtMost, segments_of};
@@ -23,6 +24,8 @@ pub const DELAY: u8 = 5;
 pub const PLAIN: u8 = 6;
 /// The kind of a turn.
 pub const TURN: u8 = 9;
+/// The kind of a datagram that came, and whose request was to be refused.
+pub const REFUSE: u8 = 10;
 
 // A path without a content-format.
 const NO_FORMAT: [u8; 3] = [0, 0, 0];
@@ -31,7 +34,7 @@ const SOME_FORMAT: u8 = 1;
 
 const _: () = prove!(FEED == 1 && TICK == 2 && SET == 3);
 
-const _: () = prove!(REMOVE == 4 && DELAY == 5 && PLAIN == 6 && TURN == 9);
+const _: () = prove!(REMOVE == 4 && DELAY == 5 && PLAIN == 6 && TURN == 9 && REFUSE == 10);
 
 fn put_text<A: Allocator>(out: &mut Vec<u8, A>, bytes: &[u8]) -> Result<(), AllocError>
     requires { length bytes.now < 2 ^ 32 }
@@ -61,6 +64,23 @@ fn put_format<A: Allocator>(out: &mut Vec<u8, A>, format: Option<u16>) -> Result
     }
 }
 
+// What follows the kind of a datagram.
+fn put_feed<A: Allocator>(
+    out: &mut Vec<u8, A>,
+    now: Moment,
+    from: Endpoint,
+    bytes: &[u8],
+    word: u64,
+) -> Result<(), AllocError>
+    requires { length bytes.now < 2 ^ 32 }
+    ensures { OnOk result (out.new.items ≡ out.old.items ++ feed_spelled now.0 from bytes.now word) }
+{
+    put_number(out, now.0)?;
+    put_number(out, word)?;
+    put_endpoint(out, from)?;
+    put_text(out, bytes)
+}
+
 /// The bytes of a datagram that came.
 pub fn feed_bytes<A: Allocator + Copy>(
     alloc: A,
@@ -74,10 +94,25 @@ pub fn feed_bytes<A: Allocator + Copy>(
     ensures { IfOk result (λ v. v.items ≡ spelled (Feed now.0 from bytes.now word)) }
 {
     let mut out = Vec::from_slice(alloc, &[FEED])?;
-    put_number(&mut out, now.0)?;
-    put_number(&mut out, word)?;
-    put_endpoint(&mut out, from)?;
-    put_text(&mut out, bytes)?;
+    put_feed(&mut out, now, from, bytes, word)?;
+    Ok(out)
+}
+
+/// The bytes of a datagram that came, and whose request was to be refused with this code.
+pub fn refuse_bytes<A: Allocator + Copy>(
+    alloc: A,
+    now: Moment,
+    from: Endpoint,
+    bytes: &[u8],
+    word: u64,
+    code: u8,
+) -> Result<Vec<u8, A>, AllocError>
+    requires { length bytes.now < 2 ^ 32 }
+    // A datagram whose request was to be refused is spelled as a datagram, behind the code.
+    ensures { IfOk result (λ v. v.items ≡ spelled (Refuse now.0 from bytes.now word code)) }
+{
+    let mut out = Vec::from_slice(alloc, &[REFUSE, code])?;
+    put_feed(&mut out, now, from, bytes, word)?;
     Ok(out)
 }
 

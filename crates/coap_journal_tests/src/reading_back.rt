@@ -1,8 +1,8 @@
 //! Inputs and records, read from bytes that were written down by hand: each with a byte behind it.
 use crate::bytes_of_records::{LIFE, PEER, bytes_of, frame, path};
 use coap_journal::{
-    ReadError, journal_law, read_feed, read_frame, read_numbered_path, read_path, read_set,
-    read_tick, read_turn, read_woke,
+    ReadError, journal_law, read_feed, read_frame, read_numbered_path, read_path, read_refuse,
+    read_set, read_tick, read_turn, read_woke,
 };
 use std::test::*;
 
@@ -29,6 +29,16 @@ fn what_came_is_read(rt: HostRuntime) {
         "0000000000000005 0000000000000007 0a000009 1633 00000006 40010001b1",
     );
     assert!(rt; read_feed(short.as_slice()).is_none());
+    // One to be refused has a code before it.
+    let bytes = bytes_of(
+        &rt,
+        "83 0000000000000005 0000000000000007 0a000009 1633 00000006 40010001b174 ff",
+    );
+    let (code, fed, rest) = read_refuse(bytes.as_slice()).expect(&rt, "a datagram");
+    assert!(rt; code == 0x83 && fed.now.0 == 5 && fed.word == 7 && fed.from == PEER);
+    assert_eq!(rt; fed.bytes, get.as_slice());
+    assert_eq!(rt; rest, BEHIND);
+    assert!(rt; read_refuse(&[]).is_none());
 }
 
 #[test]

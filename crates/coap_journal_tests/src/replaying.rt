@@ -1,6 +1,6 @@
 //! A server that is replayed from a journal.
 use crate::bytes_of_records::{LIFE, bytes_of, frame, path};
-use coap_journal::{feed_bytes, turn_bytes};
+use coap_journal::{feed_bytes, refuse_bytes, turn_bytes};
 use coap_replay::{ReplayError, Replayed, replay_frames};
 use coap_replay_laws::{replay_law, silence_law};
 use coap_resource::{MAX_CHANGES_PER_WINDOW, MapStore, Store};
@@ -106,6 +106,29 @@ fn replay<R: Abort + AllocGlobal>(
         Ok((replayed, _)) => Ok(replayed),
         Err(why) => Err(why),
     }
+}
+
+// The code of the answer of a replay of a datagram that was to be refused with this code.
+fn refusal_of<R: Abort + AllocGlobal>(rt: &R, digits: &str, code: u8) -> Result<u8, ReplayError> {
+    let bytes = bytes_of(rt, digits);
+    assert!(rt; bytes.len() < 1 << 30);
+    let input = refuse_bytes(rt.alloc(), Moment(100), PEER, bytes.as_slice(), 1, code).expect(
+        rt, "memory",
+    );
+    let turn = turn_bytes(rt.alloc(), Moment(100), 0, input.as_slice()).expect(rt, "memory");
+    let mut journal = Vec::new(rt.alloc());
+    add(rt, &mut journal, turn.as_slice());
+    let mut server = fresh_server(rt);
+    replay(rt, &mut server, journal.as_slice())?;
+    Ok(take_out(&mut server).1)
+}
+
+#[test]
+fn a_refusal_is_replayed(rt: HostRuntime) {
+    assert!(rt; refusal_of(&rt, PUT, 0x83) == Ok(0x83));
+    // No error is of class 2; and what brings no request, such as a ping, is not refused.
+    assert!(rt; refusal_of(&rt, PUT, 0x44) == Err(ReplayError::Unreadable));
+    assert!(rt; refusal_of(&rt, "40000002", 0x83) == Err(ReplayError::Unreadable));
 }
 
 #[test]

@@ -8,6 +8,7 @@ mod local;
 mod noted;
 mod notes;
 mod opening;
+mod refusing;
 mod replaying;
 
 pub use noted::{Noted, Untold};

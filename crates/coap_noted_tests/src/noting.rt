@@ -1,8 +1,8 @@
 //! What a server took is told as a turn, and nothing goes out before that.
 use coap_noted::{Noted, Notes, Untold};
 use coap_resource::{MAX_CHANGES_PER_WINDOW, MapStore, Store};
-use coap_server::Server;
-use coap_types::{Endpoint, Moment, Path, Szx};
+use coap_server::{ErrorCode, Server};
+use coap_types::{Code, Endpoint, Moment, Path, Szx};
 use std::alloc::{AllocGlobal, Global};
 use std::hash::{BuildHasherDefault, FoldHasher};
 use std::process::Abort;
@@ -103,6 +103,26 @@ fn what_was_taken_is_told_before_anything_goes_out(rt: HostRuntime) {
     // A tick that is not due is not noted.
     assert!(rt; server.tick(Moment(300), 7) == Ok(false));
     tells(&rt, &mut server, SECOND);
+}
+
+// At 100 ms the PUT is refused with 4.03, and a ping, which brings no request, is fed.
+const REFUSED: &str = "09 0000000000000064 0000000000000000
+    0a 83 0000000000000064 0000000000000001 0a000009 1633 00000008 40030001b174ff78
+    01 0000000000000064 0000000000000001 0a000009 1633 00000004 40000002";
+
+#[test]
+fn a_refusal_is_told_as_one(rt: HostRuntime) {
+    let mut server = noting(&rt);
+    let forbidden = ErrorCode::of(Code(0x83)).expect(&rt, "an error");
+    let put = bytes_of(&rt, PUT);
+    let ping = bytes_of(&rt, "40000002");
+    let refused = server.refuse(Moment(100), PEER, put.as_slice(), 1, forbidden);
+    assert!(rt; refused == Ok(true));
+    let fed = server.refuse(Moment(100), PEER, ping.as_slice(), 1, forbidden);
+    assert!(rt; fed == Ok(false));
+    tells(&rt, &mut server, REFUSED);
+    server.begin_anew();
+    assert!(rt; code_out(&mut server) == 0x83);
 }
 
 #[test]

@@ -4,7 +4,7 @@ use Rattle.std.proofs.Common.{arith}
 use Rattle.std.proofs.lemmas.List.{append-nil}
 use Rattle.coap_replay.specs.Doing.{Does, GivesOut, Replays, TakesAll, bodies}
 use Rattle.coap_journal.specs.Frames.{frame, frames}
-use Rattle.coap_journal.specs.Input.{Delay, Feed, Input, Plain, Remove, Set, Tick, all_spelled, spelled}
+use Rattle.coap_journal.specs.Input.{Delay, Feed, Input, Plain, Refuse, Remove, Set, Tick, all_spelled, spelled}
 use Rattle.coap_journal.specs.Records.{Record, record_bytes}
 use Rattle.coap_journal.proofs.Facts.{frames_more}
 
@@ -24,6 +24,7 @@ spelled_some (Set now path format body) = omega arith
 spelled_some (Remove now path) = omega arith
 spelled_some (Delay path ms) = omega arith
 spelled_some (Plain path) = omega arith
+spelled_some (Refuse now from bytes word code) = omega arith
 
 -- frames of records, and one more after them
 pub bodies_more : (records : List Record) (r : Record)

@@ -1,9 +1,11 @@
 -- What a journal makes of a server: its records are done again, in order.
-use Rattle.std.specs.Prelude.{◌≡◌, ℕ, Option, Some, None, List, [], ◌∷◌}
+use Rattle.std.specs.Prelude.{◌≡◌, ℕ, Bool, true, false, Option, Some, None, List, [], ◌∷◌}
+use Rattle.coap_types.specs.declared.endpoint.Endpoint.{Endpoint}
 use Rattle.coap_layer.specs.Trace.{Packet}
 use Rattle.coap_server.specs.Led.{State, Step}
-use Rattle.coap_server.specs.Trace.{Call, Delays, Feeds, Gets, NextOut, Plains, Removes, Sets, TellsApplied, Ticks}
-use Rattle.coap_journal.specs.Input.{Delay, Feed, Input, Plain, Remove, Set, Tick}
+use Rattle.coap_server.specs.Trace.{Call, Delays, Feeds, Gets, NextOut, Plains, Refuses, Removes, Sets, TellsApplied}
+use Rattle.coap_server.specs.Trace.{Ticks}
+use Rattle.coap_journal.specs.Input.{Delay, Feed, Input, Plain, Refuse, Remove, Set, Tick}
 use Rattle.coap_journal.specs.Records.{Begun, Record, Turn, Woke}
 use Rattle.coap_journal.specs.declared.beginning.Life.{Life}
 use Rattle.coap_replay.specs.Doing as D
@@ -15,10 +17,16 @@ input_of (Removes now path answer left) = Some (Remove now path)
 input_of (Delays path ms answer) = Some (Delay path ms)
 input_of (Plains path answer) = Some (Plain path)
 input_of (Feeds now from bytes word up came h below) = Some (Feed now from bytes word)
+input_of (Refuses now from bytes word code up p response below) = Some (Refuse now from bytes word code)
 input_of (Ticks now word below room due passed h id answer) = Some (Tick now word)
 input_of (NextOut answer) = None
 input_of (Gets path answer) = None
 input_of (TellsApplied answer) = None
+
+-- A datagram whose request is to be refused is handed in as such where it brings one, and else as one that is fed.
+abbrev pub refused_as : Bool → ℕ → Endpoint → List ℕ → (word code : ℕ) → Input
+refused_as true now from bytes word code = Refuse now from bytes word code
+refused_as false now from bytes word code = Feed now from bytes word
 
 -- the server takes this input in a call
 pub record Takes (old : State) (input : Input) (new : State) : Type 0 where

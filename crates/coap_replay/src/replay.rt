@@ -16,12 +16,13 @@ ghost use Rattle.coap_replay.specs.Replaying.{Does, GivesOut, Replays, Takes, Ta
 ghost use Rattle.coap_replay.specs.Replaying.{last_life, latest_moment};
 
 use coap_journal::{
-    DELAY, FEED, Life, PLAIN, REMOVE, ReadError, SET, TICK, TURN, WOKE, read_feed, read_frame,
-    read_numbered_path, read_path, read_set, read_tick, read_turn, read_woke,
+    DELAY, FEED, Life, PLAIN, REFUSE, REMOVE, ReadError, SET, TICK, TURN, WOKE, read_feed,
+    read_frame, read_numbered_path, read_path, read_refuse, read_set, read_tick, read_turn,
+    read_woke,
 };
 use coap_resource::{Store, StoreRefusal};
-use coap_server::{DelayRefusal, PlainRefusal, Server};
-use coap_types::Moment;
+use coap_server::{DelayRefusal, ErrorCode, PlainRefusal, Server};
+use coap_types::{Code, Moment};
 use std::alloc::{AllocError, Allocator};
 use std::hash::BuildHasher;
 use thiserror::Error;
@@ -91,6 +92,29 @@ fn replay_feed<'a, S: Store<A>, A: Allocator + Copy, H: BuildHasher>(
             Ok(rest)
         }
         None => Err(ReplayError::Unreadable),
+    }
+}
+
+// A datagram whose request was refused: what brought none stands in the journal as one that was fed.
+fn replay_refuse<'a, S: Store<A>, A: Allocator + Copy, H: BuildHasher>(
+    server: &mut Server<S, A, H>,
+    bytes: &'a [u8],
+) -> Result<&'a [u8], ReplayError>
+    ensures done { IfOk result (λ rest. (input : Input) × (REFUSE ∷ bytes.now ≡ spelled input ++ rest.now)
+        × Takes (state_of S.content server.old) input (state_of S.content server.new)) }
+    ensures same { IfErr result (λ why. why ≢ OtherServer) }
+{
+    let Some((number, fed, rest)) = read_refuse(bytes) else {
+        return Err(ReplayError::Unreadable);
+    };
+    let Some(code) = ErrorCode::of(Code(number)) else {
+        return Err(ReplayError::Unreadable);
+    };
+    let refused = server.refuse(fed.now, fed.from, fed.bytes, fed.word, code)?;
+    if refused {
+        Ok(rest)
+    } else {
+        Err(ReplayError::Unreadable)
     }
 }
 
@@ -234,6 +258,7 @@ fn replay_input<'a, S: Store<A>, A: Allocator + Copy, H: BuildHasher>(
         [REMOVE, rest @ ..] => replay_remove(server, alloc, rest),
         [DELAY, rest @ ..] => replay_delay(server, alloc, rest),
         [PLAIN, rest @ ..] => replay_plain(server, alloc, rest),
+        [REFUSE, rest @ ..] => replay_refuse(server, rest),
         _ => Err(ReplayError::Unreadable),
     }
 }

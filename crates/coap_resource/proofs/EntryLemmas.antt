@@ -1,14 +1,16 @@
 -- Entries as a map.
-use Rattle.std.proofs.Common.{◌≡◌, ◌≢◌, ◌≤◌, ℕ, Bool, true, false, not, ◌+◌, ◌++◌, ◌∙◌, List, [], ◌∷◌, length, refl, ap}
-use Rattle.std.proofs.Common.{sym, subst, arith, Option, Some, None, IfSome, is_some, if◌then◌else◌, length-append}
+use Rattle.std.proofs.Common.{◌≡◌, ◌≢◌, ◌≤◌, ℕ, zero, suc, Bool, true, false, not, ◌||◌, ◌+◌, ◌++◌, ◌∙◌, List, [], ◌∷◌}
+use Rattle.std.proofs.Common.{length, slice_get, refl, ap, sym, subst, arith, Option, Some, None, IfSome, is_some}
+use Rattle.std.proofs.Common.{if◌then◌else◌, length-append}
+use Rattle.std.proofs.lemmas.List.{length-map}
 use Rattle.std.specs.List.{filter}
 use Rattle.coap_resource.specs.declared.entry.Entry.{Entry}
 use Rattle.coap_types.specs.Path.{same_path}
 use Rattle.coap_types.specs.declared.body_limit.TheConstants.{MAX_BODY_LIMIT as max_limit}
-use Rattle.coap_resource.specs.Content.{Held, Changes}
+use Rattle.coap_resource.specs.Content.{Changes, Held, Lists, is_listed}
 use Rattle.coap_resource.specs.Rate.{Tally, counted}
 use Rattle.coap_resource.specs.Entries.{entry_of, held_entries, find, without_path, Unique, HaveAtMost, AreShort}
-use Rattle.coap_resource.specs.Entries.{Enters, Listed, content_of}
+use Rattle.coap_resource.specs.Entries.{Enters, Listed, content_of, paths_of}
 use Rattle.coap_types.proofs.Facts.Paths.{same_path-decides}
 
 pub entries_append : {A : Type 0} (xs ys : List (Entry A))
@@ -268,3 +270,35 @@ change_joined old new now p version was held body more enters joined same tally 
 pub found_there : (es : List (List (List ℕ) × Held)) (old : Listed) (t : Tally) (p : List (List ℕ)) (h k : Held)
     → Some h ≡ find es p → record { entries = es; tally = t } ≡ old → find old.entries p ≡ Some k → h ≡ k
 found_there es old t p h k found is there = some_same h k (cc)
+
+-- a path is listed where it has an entry
+listed_step : (b : Bool) (h : Held) (rest : Bool) (found : Option Held) → rest ≡ is_some found
+    → (b || rest) ≡ is_some (if b then Some h else found)
+listed_step true h rest found ih = refl
+listed_step false h rest found ih = ih
+
+listed : (es : List (List (List ℕ) × Held)) (p : List (List ℕ)) → is_listed p (paths_of es) ≡ is_some (find es p)
+listed [] p = refl
+listed (e ∷ es) p =
+    listed_step (same_path e.0 p) e.1 (is_listed p (paths_of es)) (find es p) (listed es p)
+
+-- .. so a store lists the paths of its entries
+pub lists : (s : Listed) → Lists (content_of s) (paths_of s.entries)
+lists s = record {
+  held = λ p. listed s.entries p;
+  once = length-map s.entries (λ (e : List (List ℕ) × Held). e.0);
+}
+
+-- the path of the entry at a place is the path at that place
+pub path_there : {A : Type 0} (es : List (Entry A)) (place : ℕ) (e : Entry A) → Some e ≡ slice_get es place
+    → Some e.path ≡ slice_get (paths_of (held_entries es)) place
+path_there [] place e at = absurd cc
+path_there (x ∷ es) zero e at = cc
+path_there (x ∷ es) (suc place) e at = path_there es place e at
+
+-- .. and where there is no entry, no path is
+pub none_there : {A : Type 0} (es : List (Entry A)) (place : ℕ) → None ≡ slice_get es place
+    → None ≡ slice_get (paths_of (held_entries es)) place
+none_there [] place at = refl
+none_there (x ∷ es) zero at = absurd cc
+none_there (x ∷ es) (suc place) at = none_there es place at

@@ -3,13 +3,13 @@ use Rattle.std.proofs.Common.{◌≡◌, ◌≤◌, ℕ, Bool, true, false, ◌+
 use Rattle.std.proofs.Common.{Option, Some, None, IfSome, is_some, if◌then◌else◌}
 use Rattle.std.proofs.lemmas.List.{length-map}
 use Rattle.std.specs.BTreeMap.{BTreeMap, UpdatesBy, btree_map_len, get, get_by, insert_entry, is_at}
-use Rattle.std.specs.Map.{lookup, remove_entry}
+use Rattle.std.specs.Map.{keys_of, lookup, remove_entry}
 use Rattle.coap_types.specs.Path.{same_path, path_order}
 use Rattle.coap_types.specs.PathOrder.{path_order_ties}
 use Rattle.coap_types.proofs.Facts.Paths.{same_path-decides}
 use Rattle.coap_resource.specs.declared.representation.Representation.{Representation}
 use Rattle.coap_resource.specs.Content.{Held}
-use Rattle.coap_resource.specs.Entries.{AreShort, Enters, HaveAtMost, find, mapped_entries}
+use Rattle.coap_resource.specs.Entries.{AreShort, Enters, HaveAtMost, find, mapped_entries, paths_of}
 use Rattle.coap_resource.specs.Shown.{held_of, shown}
 use Rattle.std.specs.declared.cmp.Ordering.{Ordering}
 use Rattle.std.specs.declared.cmp.Ordering.TheVariants.{Less, Equal, Greater}
@@ -47,6 +47,12 @@ found {A} (e ∷ es) p =
 
 pub mapped_length : {A : Type 0} (es : List (List (List ℕ) × Representation A)) → length (mapped_entries es) ≡ length es
 mapped_length {A} es = length-map es (λ (e : List (List ℕ) × Representation A). (e.0, held_of e.1))
+
+-- the keys are the paths of the entries
+pub mapped_paths : {A : Type 0} (es : List (List (List ℕ) × Representation A))
+    → keys_of es ≡ paths_of (mapped_entries es)
+mapped_paths [] = refl
+mapped_paths (e ∷ es) = ap (λ (r : List (List (List ℕ))). e.0 ∷ r) (mapped_paths es)
 
 some_shown : {A : Type 0} (r : Option (Representation A)) → is_some (shown r) ≡ is_some r
 some_shown None = refl

@@ -1,6 +1,7 @@
 -- What a store holds, when a change of it is refused, and what a change is (RFC 7252, section 5.8).
-use Rattle.std.specs.Prelude.{◌≡◌, ◌≢◌, ℕ, Bool, not, ◌&&◌, ◌+◌, nat_lt, nat_le, List, length, Option, Some, None}
-use Rattle.std.specs.Prelude.{is_some, if◌then◌else◌}
+use Rattle.std.specs.Prelude.{◌≡◌, ◌≢◌, ℕ, Bool, false, not, ◌&&◌, ◌||◌, ◌+◌, nat_lt, nat_le, List, [], ◌∷◌, length}
+use Rattle.std.specs.Prelude.{Option, Some, None, is_some, if◌then◌else◌}
+use Rattle.coap_types.specs.Path.{same_path}
 use Rattle.coap_resource.specs.declared.refusal.StoreRefusal.{StoreRefusal}
 use Rattle.coap_resource.specs.declared.refusal.StoreRefusal.TheVariants.{Memory, TooLarge, TooManyPaths, RateExceeded}
 use Rattle.coap_resource.specs.declared.refusal.StoreRefusal.TheVariants.{VersionsSpent}
@@ -23,6 +24,16 @@ pub record Content : Type 0 where
 -- a store that was never changed
 abbrev pub nothing : Limits → Content
 nothing limits = record { holds = λ _. None; paths = 0; tally = unused limits }
+
+-- whether a path is one of these
+abbrev pub is_listed : List (List ℕ) → List (List (List ℕ)) → Bool
+is_listed path [] = false
+is_listed path (p ∷ ps) = same_path p path || is_listed path ps
+
+-- These are the paths that hold something, each once: they are as many.
+pub record Lists (s : Content) (paths : List (List (List ℕ))) : Type 0 where
+  pub held : (path : List (List ℕ)) → is_listed path paths ≡ is_some (s.holds path)
+  pub once : length paths ≡ s.paths
 
 -- the same store when a moment has counted
 abbrev pub later : Content → ℕ → Content

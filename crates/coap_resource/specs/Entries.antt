@@ -20,6 +20,10 @@ held_entries {A} es = map (λ (e : Entry A). entry_of e) es
 abbrev pub mapped_entries : {A : Type 0} → List (List (List ℕ) × Representation A) → List (List (List ℕ) × Held)
 mapped_entries {A} es = map (λ (e : List (List ℕ) × Representation A). (e.0, held_of e.1)) es
 
+-- the paths of the entries, in their order
+abbrev pub paths_of : List (List (List ℕ) × Held) → List (List (List ℕ))
+paths_of es = map (λ (e : List (List ℕ) × Held). e.0) es
+
 -- what the entries hold at a path
 abbrev pub find : List (List (List ℕ) × Held) → List (List ℕ) → Option Held
 find [] path = None

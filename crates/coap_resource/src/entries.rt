@@ -1,9 +1,9 @@
 //! The entries of a store that is a list.
 ghost use Rattle.std.specs.Prelude.{◌≡◌, ◌<◌, ◌≤◌, vec_len, ◌++◌, [], ◌∷◌, not, OnOk, OnErr, vec_capacity};
-ghost use Rattle.std.specs.Prelude.{length, option_copied};
+ghost use Rattle.std.specs.Prelude.{length, option_copied, slice_get};
 ghost use Rattle.std.specs.List.{filter};
 ghost use Rattle.coap_types.specs.Path.{same_path};
-ghost use Rattle.coap_resource.specs.Entries.{find, held_entries, without_path};
+ghost use Rattle.coap_resource.specs.Entries.{find, held_entries, paths_of, without_path};
 ghost use Rattle.coap_resource.specs.Shown.{held_of, shown};
 
 use crate::entry::Entry;
@@ -35,6 +35,16 @@ pub(crate) fn paths<A: Allocator + Copy>(entries: &[Entry<A>]) -> usize
     ensures { result ≡ length (held_entries entries.now) }
 {
     entries.len()
+}
+
+/// The path of the entry at this place.
+pub(crate) fn path_at<A: Allocator + Copy>(entries: &[Entry<A>], place: usize) -> Option<&Path<A>>
+    ensures { option_copied result ≡ slice_get (paths_of (held_entries entries.now)) place }
+{
+    match entries.iter().nth(place) {
+        None => None,
+        Some(entry) => Some(&entry.path),
+    }
 }
 
 /// Takes the path's entry out.

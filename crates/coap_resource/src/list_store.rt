@@ -1,7 +1,7 @@
 //! A store that looks through a list.
-ghost use Rattle.coap_resource.specs.Entries.{content_of};
+ghost use Rattle.coap_resource.specs.Entries.{content_of, paths_of};
 
-use crate::entries::{find, paths, put_in, take_out};
+use crate::entries::{find, path_at, paths, put_in, take_out};
 use crate::entry::Entry;
 use crate::refusal::StoreRefusal;
 use crate::representation::Representation;
@@ -34,6 +34,8 @@ impl<A: Allocator> Model for ListStore<A> {
 impl<A: Allocator + Copy> Store<A> for ListStore<A> {
     ghost content = { λ s. content_of s };
 
+    ghost listing = { λ s. paths_of s.entries };
+
     fn new_after(
         alloc: A,
         changes_per_window: u32,
@@ -64,6 +66,10 @@ impl<A: Allocator + Copy> Store<A> for ListStore<A> {
 
     fn paths(&self) -> usize {
         paths(&self.entries)
+    }
+
+    fn path_at(&self, place: usize) -> Option<&Path<A>> {
+        path_at(&self.entries, place)
     }
 
     fn changes_left(&self, now: Moment) -> u32 {

@@ -1,6 +1,7 @@
 //! The entries of a store that is a map.
 ghost use Rattle.std.specs.Prelude.{◌≡◌, ◌<◌, ◌^◌, None, Some, is_some, length, OnOk, OnErr, option_copied};
-ghost use Rattle.coap_resource.specs.Entries.{Enters, find, mapped_entries};
+ghost use Rattle.std.specs.Prelude.{slice_get};
+ghost use Rattle.coap_resource.specs.Entries.{Enters, find, mapped_entries, paths_of};
 ghost use Rattle.coap_resource.specs.Shown.{held_of, shown};
 
 use crate::representation::Representation;
@@ -23,6 +24,16 @@ pub(crate) fn paths<A: Allocator + Copy>(map: &BTreeMap<Path<A>, Representation<
     ensures { result ≡ length (mapped_entries map.now.entries) }
 {
     map.len()
+}
+
+/// The path at this place, in their order.
+pub(crate) fn path_at<A: Allocator + Copy>(
+    map: &BTreeMap<Path<A>, Representation<A>, A>,
+    place: usize,
+) -> Option<&Path<A>>
+    ensures { option_copied result ≡ slice_get (paths_of (mapped_entries map.now.entries)) place }
+{
+    map.keys().nth(place)
 }
 
 /// Puts that at the path. After an `Err` the map is as before.

@@ -1,7 +1,7 @@
 //! A store that looks in a map.
-ghost use Rattle.coap_resource.specs.Entries.{content_of};
+ghost use Rattle.coap_resource.specs.Entries.{content_of, paths_of};
 
-use crate::map_entries::{find, paths, put_in, take_out};
+use crate::map_entries::{find, path_at, paths, put_in, take_out};
 use crate::refusal::StoreRefusal;
 use crate::representation::Representation;
 use crate::store::Store;
@@ -34,6 +34,8 @@ impl<A: Allocator + Copy> Model for MapStore<A> {
 impl<A: Allocator + Copy> Store<A> for MapStore<A> {
     ghost content = { λ s. content_of s };
 
+    ghost listing = { λ s. paths_of s.entries };
+
     fn new_after(
         alloc: A,
         changes_per_window: u32,
@@ -65,6 +67,10 @@ impl<A: Allocator + Copy> Store<A> for MapStore<A> {
 
     fn paths(&self) -> usize {
         paths(&self.map)
+    }
+
+    fn path_at(&self, place: usize) -> Option<&Path<A>> {
+        path_at(&self.map, place)
     }
 
     fn changes_left(&self, now: Moment) -> u32 {

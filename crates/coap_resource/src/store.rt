@@ -1,7 +1,8 @@
 //! The trait of stores.
 ghost use Rattle.std.specs.Prelude.{◌≡◌, ◌≤◌, ◌↔◌, ◌+◌, ◌++◌, None, Some, IfOk, IfErr, IfSome, IsSome, length};
-ghost use Rattle.std.specs.Prelude.{option_copied};
-ghost use Rattle.coap_resource.specs.Content.{Changes, Content, Held, append_refusal, nothing, put_refusal, later};
+ghost use Rattle.std.specs.Prelude.{List, ℕ, option_copied, slice_get};
+ghost use Rattle.coap_resource.specs.Content.{Changes, Content, Held, Lists, append_refusal, nothing, put_refusal};
+ghost use Rattle.coap_resource.specs.Content.{later};
 ghost use Rattle.coap_resource.specs.Limits.{sized_limits, usual_limits};
 ghost use Rattle.coap_resource.specs.Rate.{changes_left, rate_refusal};
 ghost use Rattle.coap_resource.specs.declared.refusal.StoreRefusal.{StoreRefusal};
@@ -28,6 +29,9 @@ const _: () = prove!(MAX_PATHS == 256);
 pub trait Store<A: Allocator + Copy>: Drop {
     /// What it holds.
     ghost content: { Self → Content };
+
+    /// The paths that hold something, in an order of its own, which a change can move.
+    ghost listing: { Self → List (List (List ℕ)) };
 
     /// A store that holds nothing, where a window of 256 s is to take 1 to `MAX_CHANGES_PER_WINDOW`
     /// changes, and a body has at most `DEFAULT_BODY_LIMIT` bytes.
@@ -97,6 +101,14 @@ pub trait Store<A: Allocator + Copy>: Drop {
     fn paths(&self) -> usize
         // The number is that of the paths that hold something.
         ensures { result ≡ (content self.now).paths };
+
+    /// The path at this place of those that hold something, in an order of the store's own, which a change can move;
+    /// None where so many hold nothing.
+    fn path_at(&self, place: usize) -> Option<&Path<A>>
+        // The path is the one at that place of the store's list.
+        ensures at { option_copied result ≡ slice_get (listing self.now) place }
+        // That list has each path that holds something, once, and no other.
+        ensures all { Lists (content self.now) (listing self.now) };
 
     /// How many changes can be made one after the other at this moment: those that its window has left, and no more
     /// than there are versions left. A moment before the last that was handed in counts as that. It does not count.

@@ -6,6 +6,7 @@ pub mod Finishing
 pub mod Turning
 pub mod Lacking
 pub mod EachTurn
+pub mod Sides
 pub mod Numbers
 pub mod Standing
 pub mod Runs

@@ -8,6 +8,7 @@ pub mod Log
 pub mod Telling
 pub mod Lines
 pub mod Happening
+pub mod Sides
 pub mod Lacking
 pub mod Turning
 pub mod Runs

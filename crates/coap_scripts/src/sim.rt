@@ -1,11 +1,12 @@
 //! `sim`: a script is run, and what comes of it is printed.
-ghost use Rattle.std.specs.Prelude.{◌≡◌, ◌≢◌, [], ℕ, List, IfOk, OnOk, map};
+ghost use Rattle.std.specs.Prelude.{◌≡◌, ◌≢◌, [], ℕ, List, Err, IfOk, OnOk, map};
 ghost use Rattle.coap_types.specs.declared.remembered.TheConstants.{DEFAULT_REMEMBERED as default_remembered};
 ghost use Rattle.coap_record.specs.Events.{Event as EventSpec, usual_addresses};
 ghost use Rattle.coap_run.specs.Run.Happening.{event_of};
+ghost use Rattle.coap_run.specs.Run.Runs.{IsFirstWrong, IsRunOf};
 ghost use Rattle.coap_run.specs.declared.running.RunRefusal.TheVariants.{NotLegal};
 ghost use Rattle.coap_scripts.specs.Sims.{IsSim, sim_config};
-ghost use Rattle.coap_scripts.specs.declared.status.Status.TheVariants.{Refused};
+ghost use Rattle.coap_scripts.specs.declared.status.Status.TheVariants.{Done, Refused};
 
 use crate::capture::capture_run;
 use crate::script::{ScriptRefusal, events_of};
@@ -220,7 +221,9 @@ fn print_run<A: Allocator + Copy, W: Write>(
     printing: Printing,
     capture: &mut Option<Vec<u8, A>>,
     out: &mut W,
-) -> Result<(), Stop> {
+) -> Result<Status, Stop>
+    ensures { IfOk result (λ status. status ≡ Done) }
+{
     if let Some(bytes) = capture {
         capture_run(alloc, ends, events, record, bytes).map_err(|error| stop_of(&error))?;
     }
@@ -228,10 +231,46 @@ fn print_run<A: Allocator + Copy, W: Write>(
         Printing::Lines => tell_run(alloc, ends, events, record, out),
         Printing::Chart(ink) => draw_run(alloc, ends, ink, events, record, out),
     };
-    printed.map_err(|error| stop_of(&error))
+    printed.map_err(|error| stop_of(&error))?;
+    Ok(Status::Done)
 }
 
-// Runs the events, and prints what comes of them, or which one is not legal.
+// Runs the events over a client and a server with such a store.
+fn run_over<A: Allocator + Copy>(
+    store: StoreKind,
+    events: &[Event<A>],
+    config: &WorldConfig<A>,
+) -> Result<Record<A>, RunRefusal>
+    ensures record { IfOk result (λ shown. IsRunOf config.now (map event_of events.now) shown) }
+    ensures wrong { (number : ℕ) → result ≡ Err (NotLegal number)
+        → IsFirstWrong config.now (map event_of events.now) number }
+{
+    match store {
+        StoreKind::List => run_with::<ListStore<A>, A>(events, config),
+        StoreKind::Map => run_with::<MapStore<A>, A>(events, config),
+    }
+}
+
+// Runs the events, with what they begin with, and prints what comes of them, or which one is not legal.
+fn run_by<A: Allocator + Copy, W: Write>(
+    alloc: A,
+    events: &[Event<A>],
+    store: StoreKind,
+    config: &WorldConfig<A>,
+    ends: Addresses,
+    printing: Printing,
+    capture: &mut Option<Vec<u8, A>>,
+    out: &mut W,
+) -> Result<Status, Stop>
+    ensures { IfOk result (IsSim config.now (map event_of events.now)) }
+{
+    match run_over(store, events, config) {
+        Ok(record) => print_run(alloc, ends, events, &record, printing, capture, out),
+        Err(refusal) => tell_refusal(refusal, out),
+    }
+}
+
+// The same, where the ends stand at these addresses and remember so many messages, and these paths are plain.
 fn run_events<A: Allocator + Copy, W: Write>(
     alloc: A,
     events: &[Event<A>],
@@ -245,21 +284,10 @@ fn run_events<A: Allocator + Copy, W: Write>(
 ) -> Result<Status, Stop>
     ensures { IfOk result (IsSim (sim_config ends remembered plains.now) (map event_of events.now)) }
 {
-    let config = match config_at(alloc, plains, remembered, ends) {
-        Ok(config) => config,
-        Err(NoConfig::Words) => return Ok(Status::Words),
-        Err(NoConfig::Memory) => return Err(Stop::Memory),
-    };
-    let ran = match store {
-        StoreKind::List => run_with::<ListStore<A>, A>(events, &config),
-        StoreKind::Map => run_with::<MapStore<A>, A>(events, &config),
-    };
-    match ran {
-        Ok(record) => {
-            print_run(alloc, ends, events, &record, printing, capture, out)?;
-            Ok(Status::Done)
-        }
-        Err(refusal) => tell_refusal(refusal, out),
+    match config_at(alloc, plains, remembered, ends) {
+        Ok(config) => run_by(alloc, events, store, &config, ends, printing, capture, out),
+        Err(NoConfig::Words) => Ok(Status::Words),
+        Err(NoConfig::Memory) => Err(Stop::Memory),
     }
 }
 

@@ -1,5 +1,6 @@
 pub mod DelayLists
 pub mod FeedIsACall
+pub mod RefusalIsACall
 pub mod PassedOver
 pub mod RequestIsHandled
 pub mod RequestIsServed

@@ -6,3 +6,4 @@ pub mod Holding
 pub mod Observing
 pub mod Rest
 pub mod Serving
+pub mod Refusing

@@ -8,7 +8,8 @@ use Rattle.coap_exchange.specs.declared.answerer.Due.TheVariants as due
 use Rattle.coap_exchange.specs.AnswererTrace as E
 use Rattle.coap_server.specs.Trace.{Own, Handling, Replies, Serves, Waits, Notifies, Call, Sets}
 use Rattle.coap_server.specs.Trace.{Removes}
-use Rattle.coap_server.specs.Trace.{Delays, Plains, Feeds, Ticks, NextOut, Gets, TellsApplied}
+use Rattle.coap_server.specs.Trace.{Delays, Plains, Feeds, Refuses, Ticks, NextOut, Gets, TellsApplied}
+use Rattle.coap_server.specs.Refusing.{refusing}
 use Rattle.coap_server.specs.Serving.{response_to}
 use Rattle.coap_server.specs.Deferring.{deferral}
 use Rattle.coap_observe.specs.Observers.{Observer}
@@ -46,6 +47,8 @@ lower s (Delays path ms answer) = []
 lower s (Plains path answer) = []
 lower s (Feeds now from bytes word up came h below) =
     answering (heard s now (incoming s now from bytes up came)) came h below ++ incoming s now from bytes up came ∷ []
+lower s (Refuses now from bytes word code up p response below) =
+    refusing p.0 response below ++ incoming s now from bytes up (Some p) ∷ []
 lower s (Ticks now word below room d passed h id answer) =
     responding (heard s now (ticking s now below room d)) d passed h word id ++ ticking s now below room d ∷ []
 lower s (NextOut answer) = E.Take answer ∷ []

@@ -1,6 +1,7 @@
 pub mod Trace
 pub mod Responses
 pub mod Checks
+pub mod Refusing
 pub mod Uploads
 pub mod Observers
 pub mod Serving
@@ -13,6 +14,7 @@ pub mod Asks
 pub mod Steps
 pub mod Law
 pub mod Led
+pub mod Makes
 pub mod Follows
 pub mod Object
 pub mod Turns

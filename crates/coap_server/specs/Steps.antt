@@ -14,8 +14,9 @@ use Rattle.coap_exchange.specs.AnswererSteps.{asked_in}
 use Rattle.coap_exchange.specs.AnswererSteps as P
 use Rattle.coap_exchange.specs.AnswererTrace as E
 use Rattle.coap_server.specs.Trace.{Waiting, Applied, Own, Handling, Serves, Notifies, Call, Sets}
-use Rattle.coap_server.specs.Trace.{Removes, Delays, Plains, Feeds, Ticks, NextOut, Gets, TellsApplied}
+use Rattle.coap_server.specs.Trace.{Removes, Delays, Plains, Feeds, Refuses, Ticks, NextOut, Gets, TellsApplied}
 use Rattle.coap_server.specs.Checks.{verdict_on}
+use Rattle.coap_server.specs.Refusing.{IsRefused, refusing}
 use Rattle.coap_server.specs.Uploads.{uploads_after}
 use Rattle.coap_server.specs.Observers.{marked_if}
 use Rattle.coap_server.specs.Serving.{observers_served, applied_by}
@@ -38,6 +39,7 @@ IsRight s (Delays path ms answer) = answer ≡ may_delay path s.delays
 IsRight s (Plains path answer) = answer ≡ may_be_plain path s.plains
 IsRight s (Feeds now from bytes word up came h below) =
     HandlesCame (heard s now (incoming s now from bytes up came)) came h
+IsRight s (Refuses now from bytes word code up p response below) = IsRefused code p.1 response
 IsRight s (Ticks now word below room d passed h id answer) =
     HandlesDue (heard s now (ticking s now below room d)) d passed h × (answer ≡ is_done d h)
 IsRight s (NextOut answer) = Unit {0}
@@ -108,6 +110,15 @@ due_after s d h id asks =
       waiting = waiting_due s.clock (ready_in d) s.waiting;
     }
 
+-- a request that is refused leaves the store, the uploads and the observers as they were
+abbrev pub refused_after : Own → ℕ → E.Call → List E.Call → Own
+refused_after s now first asks =
+    record s {
+      clock = max s.clock now;
+      exchanges = exchanges_after (P.after s.exchanges first) asks;
+      applied = [];
+    }
+
 abbrev pub after : Own → Call → Own
 after s (Sets now path format body answer left) =
     record s {
@@ -128,6 +139,8 @@ after s (Plains path answer) = record s { plains = plains_with path answer s.pla
 after s (Feeds now from bytes word up came h below) =
     came_after (heard s now (incoming s now from bytes up came)) came h
     (answering (heard s now (incoming s now from bytes up came)) came h below)
+after s (Refuses now from bytes word code up p response below) =
+    refused_after s now (incoming s now from bytes up (Some p)) (refusing p.0 response below)
 after s (Ticks now word below room d passed h id answer) =
     due_after (heard s now (ticking s now below room d)) d h id
     (responding (heard s now (ticking s now below room d)) d passed h word id)

@@ -11,10 +11,11 @@ mod local;
 mod notification;
 mod observation;
 mod observation_end;
-mod option_list;
 mod parts;
+mod paths;
 mod peers;
 mod plain;
+mod refusing;
 mod request;
 mod request_checks;
 mod separate_response;
@@ -22,11 +23,10 @@ mod served;
 mod tick;
 mod upload;
 
-ghost use Rattle.std.specs.Prelude.{◌≡◌, ◌≢◌, ◌≤◌, ◌<◌, ◌^◌, ℕ, max, Bool, true, false, Option, Some, [], ◌∷◌};
+ghost use Rattle.std.specs.Prelude.{◌≡◌, ◌≢◌, ◌≤◌, ◌<◌, ◌^◌, ℕ, max, true, false, Some, [], ◌∷◌};
 ghost use Rattle.std.specs.Prelude.{Ok};
 ghost use Rattle.std.specs.Prelude.{Err};
 ghost use Rattle.std.specs.Prelude.{is_ok, is_some, length, IfNone, IfOk, IfSome, IsOk, OnErr, OnOk, option_copied};
-ghost use Rattle.coap_codec.specs.Message.{Message};
 ghost use Rattle.coap_layer.specs.Machine.State.{answer_of, copies, made, usual};
 ghost use Rattle.coap_layer.specs.Machine.Ups.{IsQuiet};
 ghost use Rattle.coap_layer.specs.Trace as below;
@@ -35,15 +35,13 @@ ghost use Rattle.coap_resource.specs.Limits.{Limits};
 ghost use Rattle.coap_resource.specs.Shown.{shown};
 ghost use Rattle.coap_resource.specs.declared.refusal.StoreRefusal.{StoreRefusal as StoreRefusalSpec};
 ghost use Rattle.coap_resource.specs.declared.refusal.StoreRefusal.TheVariants as store_refusals;
-ghost use Rattle.coap_exchange.specs.declared.answerer.Asked.{Asked as AskedSpec};
-ghost use Rattle.coap_exchange.specs.declared.answerer.Due.{Due};
 ghost use Rattle.coap_server.specs.Deferring.{delay_of, may_delay};
 ghost use Rattle.coap_server.specs.declared.server.delays.DelayRefusal.TheVariants as delay_refusals;
 ghost use Rattle.coap_server.specs.declared.server.plain.PlainRefusal.TheVariants as plain_refusals;
 ghost use Rattle.coap_server.specs.Led.{Led, Step, fresh_state};
+ghost use Rattle.coap_server.specs.Makes.{Fed, Makes, Ticked};
 ghost use Rattle.coap_server.specs.Plain.{is_plain, may_be_plain};
-ghost use Rattle.coap_server.specs.Trace.{Delays, Feeds, Gets, Handling, NextOut, Removes, Sets};
-ghost use Rattle.coap_server.specs.Trace.{Plains, TellsApplied, Ticks};
+ghost use Rattle.coap_server.specs.Trace.{Delays, Gets, NextOut, Plains, Removes, Sets, TellsApplied};
 ghost use Rattle.coap_server.specs.Object.Shown.{applied_list, kept_of, state_of};
 ghost use Rattle.coap_server.specs.Turns.Idle.{IsIdle, moment};
 ghost use Rattle.coap_server.specs.Turns.WhenDue.{TicksDo, latest};
@@ -171,9 +169,7 @@ impl<S: Store<A>, A: Allocator + Copy, H: BuildHasher> Server<S, A, H> {
         word: u64,
     ) -> Result<(), AllocError>
         // What a datagram makes of the server is a step of its machine.
-        ensures step { OnOk result ((up : below.Answer) × (came : Option (AskedSpec × Message)) × (h : Handling)
-            × (sent : below.Answer)
-            × Step (state_of S.content self.old) (Feeds now.0 from bytes.now word up came h sent)
+        ensures step { OnOk result (Makes (state_of S.content self.old) (Fed now.0 from bytes.now word)
             (state_of S.content self.new)) }
         // A datagram that is refused memory leaves the server as it was.
         ensures err { OnErr result (self.new ≡ self.old) }
@@ -191,9 +187,7 @@ impl<S: Store<A>, A: Allocator + Copy, H: BuildHasher> Server<S, A, H> {
     /// is as before.
     pub fn tick(&mut self, now: Moment, word: u64) -> Result<bool, AllocError>
         // Whether a tick did something, and what that leaves, is a step of the server's machine.
-        ensures step { IfOk result (λ did. (done : below.Answer) × (room : Bool) × (due : Due) × (passed : ℕ)
-            × (h : Handling) × (id : ℕ)
-            × Step (state_of S.content self.old) (Ticks now.0 word done room due passed h id did)
+        ensures step { IfOk result (λ did. Makes (state_of S.content self.old) (Ticked now.0 word did)
             (state_of S.content self.new)) }
         // Each tick of a server that does something leaves less to be done at its moment.
         ensures less { result ≡ Ok true

@@ -1,3 +1,4 @@
+pub mod Listed
 pub mod AsReplayed
 pub mod BlockSizes
 pub mod Carried

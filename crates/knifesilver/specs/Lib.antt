@@ -9,6 +9,7 @@ pub mod Formats
 pub mod Fresh
 pub mod Journals
 pub mod Known
+pub mod Listing
 pub mod Loads
 pub mod NamesCalls
 pub mod NamesHeld

@@ -1,6 +1,5 @@
 -- A request that is refused before it is fed (RFC 7252, sections 5.2.1 and 5.9.2).
-use Rattle.std.specs.Prelude.{◌≡◌, ◌≤◌, ℕ, ◌/◌, ◌==◌, ◌||◌, ◌&&◌, Bool, false, nat_le, List, [], ◌∷◌, length, take}
-use Rattle.std.specs.Prelude.{slice_set, if◌then◌else◌}
+use Rattle.std.specs.Prelude.{◌≡◌, ◌≤◌, ℕ, ◌/◌, ◌==◌, ◌||◌, Bool, List, [], length, take}
 use Rattle.coap_types.specs.Roles.{role_of}
 use Rattle.coap_types.specs.declared.message.Kind.TheVariants.{Con, Ack}
 use Rattle.coap_types.specs.declared.role.Role.TheVariants.{Request}
@@ -27,13 +26,3 @@ pub record IsRefusal (datagram : List ℕ) (code : ℕ) (room : List ℕ) (len :
   pub is : IsAsked asked
   pub fits : len ≤ length room
   pub answers : Spells (take len room) (refusal_of asked code)
-
--- its code, the second byte, is that of a request: of class 0, and not 0.00
-abbrev pub is_asking : List ℕ → Bool
-is_asking [] = false
-is_asking (b ∷ []) = false
-is_asking (b ∷ code ∷ bs) = nat_le 1 code && nat_le code 31
-
--- the datagram, with 0.31 as its code where that is so, a method that there is none of
-abbrev pub refused : List ℕ → List ℕ
-refused bytes = if is_asking bytes then slice_set bytes 1 31 else bytes

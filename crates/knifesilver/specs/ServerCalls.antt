@@ -1,7 +1,7 @@
 -- Which call of a server an export makes, by what the export was handed and answered.
 use Rattle.std.specs.Prelude.{◌≡◌, ◌≢◌, ◌<◌, ◌⊎◌, ◌^◌, ◌+◌, max, nat_lt, ℕ, ℤ, pos, negsuc, Bool, true, false, List}
 use Rattle.std.specs.Prelude.{length, take}
-use Rattle.std.specs.Prelude.{Option, Some, None, Result, Ok, Err}
+use Rattle.std.specs.Prelude.{Option, Some, None, Result, Ok, Err, is_some}
 use Rattle.coap_types.specs.declared.endpoint.Endpoint.{Endpoint}
 use Rattle.coap_codec.specs.Message.{Message}
 use Rattle.coap_layer.specs.Trace as below
@@ -11,6 +11,7 @@ use Rattle.coap_resource.specs.declared.refusal.StoreRefusal.{StoreRefusal}
 use Rattle.coap_exchange.specs.declared.answerer.Asked.{Asked}
 use Rattle.coap_exchange.specs.declared.answerer.Due.{Due}
 use Rattle.coap_server.specs.Led.{State}
+use Rattle.coap_server.specs.Refusing.{refused_or_fed}
 use Rattle.coap_server.specs.Trace.{Applied, Call, Delays, Feeds, Handling, NextOut, Plains, Removes, Sets}
 use Rattle.coap_server.specs.Trace.{TellsApplied, Ticks}
 use Rattle.coap_server.specs.Turns.WhenDue.{TicksDo, latest}
@@ -30,6 +31,12 @@ use Rattle.coap_noted.specs.Notes.{IsNotDue}
 abbrev pub IsFeed : ℕ → Endpoint → List ℕ → ℕ → Call → Type 0
 IsFeed now from bytes word call = (up : below.Answer) × (came : Option (Asked × Message)) × (h : Handling)
     × (sent : below.Answer) × (call ≡ Feeds now from bytes word up came h sent)
+
+-- a datagram is taken whose request is to be refused with this code, and the answer says whether it brought one
+abbrev pub IsRefuse : ℕ → Endpoint → List ℕ → (word code : ℕ) → ℤ → Call → Type 0
+IsRefuse now from bytes word code answer call = (up : below.Answer) × (came : Option (Asked × Message))
+    × (response : Option ℕ) × (sent : below.Answer) × (answer ≡ told (is_some came))
+    × (call ≡ refused_or_fed now from bytes word code up came response sent)
 
 -- a tick, and the answer says whether it did something
 abbrev pub IsTick : ℕ → ℕ → ℤ → Call → Type 0

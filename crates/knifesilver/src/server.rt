@@ -5,6 +5,7 @@ mod load;
 mod local;
 pub(crate) mod made;
 mod out;
+mod paths;
 mod peers;
 mod plain;
 mod refusing;

@@ -1,5 +1,5 @@
 -- What contracts see of a client's operations, observations and reports (RFC 7252, section 5.1).
-use Rattle.std.specs.Prelude.{ℕ, List, Option, Some, None, Result, Ok, Err}
+use Rattle.std.specs.Prelude.{ℕ, Option, Some, None, Result, Ok, Err}
 use Rattle.std.specs.Option.{option_map}
 use Rattle.coap_client.specs.declared.refusals.CallRefusal.{CallRefusal}
 use Rattle.coap_client.specs.Trace.{Report, Reported, Requested, Body, Valid, Done, Value, Ended}
@@ -15,6 +15,7 @@ use Rattle.coap_client.specs.declared.client.operation.Waiting as W
 use Rattle.coap_client.specs.declared.client.operation.Waiting.TheVariants as waiting
 use Rattle.coap_client.specs.declared.client.operation.Notified as N
 use Rattle.coap_client.specs.declared.client.operation.Observation as B
+use Rattle.coap_client.specs.declared.client.last_request.SentRequest.{SentRequest}
 use Rattle.coap_client.specs.declared.client.report.CallId.{CallId}
 use Rattle.coap_client.specs.declared.client.report.Report as R
 use Rattle.coap_client.specs.declared.client.report.Report.TheVariants as report
@@ -75,9 +76,9 @@ module _ {A : Type 0} where
   shown_reported r = record { number = r.0.0; report = shown_report r.1 }
 
 -- the request that was sent
-abbrev pub shown_asked : Option (CallId × List ℕ) → Option Requested
+abbrev pub shown_asked : Option SentRequest → Option Requested
 shown_asked None = None
-shown_asked (Some r) = Some (record { number = r.0.0; token = r.1 })
+shown_asked (Some r) = Some (record { number = r.call.0; token = r.token })
 
 -- the number that a call is given
 abbrev pub number_of : Result CallId CallRefusal → Result ℕ CallRefusal

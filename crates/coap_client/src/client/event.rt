@@ -11,17 +11,17 @@ ghost use Rattle.coap_client.specs.Object.Shown.{shown_asked, shown_report};
 
 use crate::client::end::{end_call, end_observation, fail};
 use crate::client::heard::Heard;
+use crate::client::last_request::SentRequest;
 use crate::client::notification::{hear_notification, hear_registration};
 use crate::client::observation_fetch::hear_rest;
 use crate::client::operation::Waiting;
 use crate::client::parts::{Now, Parts};
-use crate::client::report::{CallId, Report};
+use crate::client::report::Report;
 use crate::client::request::note_sending;
 use crate::client::taken_call::TakenCall;
 use coap_codec::View;
 use coap_exchange::Event;
 use coap_operations::Running;
-use coap_types::Token;
 use std::alloc::{AllocError, Allocator};
 use std::hash::BuildHasher;
 use std::mem;
@@ -67,7 +67,7 @@ fn happen_now<A: Allocator + Copy, H: BuildHasher>(
     parts: &mut Parts<A, H>,
     now: Now,
     event: Event<'_>,
-) -> Result<Option<(CallId, Token)>, AllocError>
+) -> Result<Option<SentRequest>, AllocError>
     requires room { deque_len parts.old.held.reports < deque_capacity parts.old.held.reports }
     requires apart { Apart (own_of parts.old.held) }
     requires watched { Watched now.at.0 (own_of parts.old.held) }
@@ -93,7 +93,7 @@ fn happen_now<A: Allocator + Copy, H: BuildHasher>(
 fn hear_failure<A: Allocator + Copy, H: BuildHasher>(
     parts: &mut Parts<A, H>,
     report: Report<A>,
-) -> Option<(CallId, Token)>
+) -> Option<SentRequest>
     requires room { deque_len parts.old.held.reports < deque_capacity parts.old.held.reports }
     requires apart { Apart (own_of parts.old.held) }
     ensures happens { (at word : ℕ) → Happens parts.old.asker.state
@@ -110,7 +110,7 @@ fn hear_answer<A: Allocator + Copy, H: BuildHasher>(
     parts: &mut Parts<A, H>,
     now: Now,
     m: &View<'_>,
-) -> Result<Option<(CallId, Token)>, AllocError>
+) -> Result<Option<SentRequest>, AllocError>
     requires room { deque_len parts.old.held.reports < deque_capacity parts.old.held.reports }
     requires apart { Apart (own_of parts.old.held) }
     ensures happens { IfOk result (λ asked. Happens parts.old.asker.state
@@ -150,7 +150,7 @@ fn hear_for_call<A: Allocator + Copy, H: BuildHasher>(
     now: Now,
     ongoing: Ongoing<A>,
     m: &View<'_>,
-) -> Result<Option<(CallId, Token)>, AllocError>
+) -> Result<Option<SentRequest>, AllocError>
     requires room { deque_len parts.old.held.reports < deque_capacity parts.old.held.reports }
     requires apart { Apart (running (Calling ongoing.number ongoing.call.request ongoing.call.transfer)
         (own_of parts.old.held)) }
@@ -184,7 +184,7 @@ fn ask_next<A: Allocator + Copy, H: BuildHasher>(
     now: Now,
     number: u64,
     mut call: TakenCall<A>,
-) -> Result<Option<(CallId, Token)>, AllocError>
+) -> Result<Option<SentRequest>, AllocError>
     requires room { deque_len parts.old.held.reports < deque_capacity parts.old.held.reports }
     requires apart { Apart (running (Calling number call.request call.transfer) (own_of parts.old.held)) }
     requires idle { parts.old.held.operations.running ≡ None }

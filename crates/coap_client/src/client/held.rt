@@ -3,10 +3,11 @@ ghost use Rattle.std.specs.Prelude.{◌≡◌};
 ghost use Rattle.coap_client.specs.Own.{start};
 ghost use Rattle.coap_client.specs.Object.Held.{own_of};
 
+use crate::client::last_request::SentRequest;
 use crate::client::operation::ClientOperations;
 use crate::client::report::{CallId, Report};
 use coap_operations::Operations;
-use coap_types::{BodyLimit, Moment, Szx, Token};
+use coap_types::{BodyLimit, Moment, Szx};
 use std::alloc::{Allocator, Global};
 use std::collections::VecDeque;
 
@@ -30,7 +31,7 @@ pub struct Held<A: Allocator + Copy = Global> {
     /// The reports that wait to be taken.
     pub reports: VecDeque<(CallId, Report<A>), A>,
     /// The request that the last datagram or tick sent first, and of which call.
-    pub asked: Option<(CallId, Token)>,
+    pub asked: Option<SentRequest>,
 }
 
 impl<A: Allocator + Copy> Held<A> {

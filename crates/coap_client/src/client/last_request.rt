@@ -11,12 +11,23 @@ use crate::client::report::CallId;
 use coap_types::Token;
 use std::alloc::Allocator;
 
-/// The request that the last datagram or tick sent first: of which call or observation, and its
-/// token. It takes no memory.
-pub fn asked<A: Allocator + Copy>(held: &Held<A>) -> Option<(CallId, Token)>
+/// A request that a client sent.
+#[derive(Debug, Drop)]
+pub struct SentRequest {
+    /// Of which call or observation it is.
+    pub call: CallId,
+    /// Its token (RFC 7252, section 5.3.1).
+    pub token: Token,
+}
+
+/// The request that the last datagram or tick sent first. It takes no memory.
+pub fn asked<A: Allocator + Copy>(held: &Held<A>) -> Option<SentRequest>
     ensures step { (x : exchange.State)
         → Step (left (own_of held.now) x) (Asked (shown_asked result)) (left (own_of held.now) x) }
 {
-    let (id, token) = held.asked.as_ref()?;
-    Some((*id, token.copy()))
+    let sent = held.asked.as_ref()?;
+    Some(SentRequest {
+        call: sent.call,
+        token: sent.token.copy(),
+    })
 }

@@ -18,17 +18,18 @@ ghost use Rattle.coap_client.specs.Object.AnswerSteps.{CanTakeBack, rest_by, val
 use crate::client::get_answer::representation;
 use crate::client::heard::Part;
 use crate::client::held::Held;
+use crate::client::last_request::SentRequest;
 use crate::client::observations;
 use crate::client::operation::Notified;
 use crate::client::parts::{Now, Parts};
-use crate::client::report::{CallId, Report, give};
+use crate::client::report::{Report, give};
 use crate::client::request::{get, note_sending};
 use crate::client::request_options::bytes_in;
 use crate::client::responses::take_part;
 use crate::client::transfer::block2_of;
 use coap_block::{Fetch, Step};
 use coap_codec::View;
-use coap_types::{BodyLimit, Code, Szx, Token};
+use coap_types::{BodyLimit, Code, Szx};
 use std::alloc::{AllocError, Allocator};
 use std::hash::BuildHasher;
 
@@ -85,7 +86,7 @@ pub fn hear_rest<A: Allocator + Copy, H: BuildHasher>(
     now: Now,
     number: u64,
     m: &View<'_>,
-) -> Result<Option<(CallId, Token)>, AllocError>
+) -> Result<Option<SentRequest>, AllocError>
     requires room { deque_len parts.old.held.reports < deque_capacity parts.old.held.reports }
     requires apart { Apart (own_of parts.old.held) }
     requires idle { parts.old.held.operations.running ≡ None }
@@ -140,7 +141,7 @@ fn ask_next<A: Allocator + Copy, H: BuildHasher>(
     now: Now,
     number: u64,
     mut rest: Notified<A>,
-) -> Result<Option<(CallId, Token)>, AllocError>
+) -> Result<Option<SentRequest>, AllocError>
     requires there { is_some (observation_of number (own_of parts.old.held).observations) ≡ true }
     requires room { deque_len parts.old.held.reports < deque_capacity parts.old.held.reports }
     requires apart { Apart (own_of parts.old.held) }

@@ -15,6 +15,7 @@ ghost use Rattle.coap_client.specs.Object.Happens.{Apart, Closes};
 ghost use Rattle.coap_client.specs.Object.Held.{own_of, seen};
 
 use crate::client::end::fail;
+use crate::client::last_request::SentRequest;
 use crate::client::observations::{block_asked, segments_of, token_of};
 use crate::client::operation::{ClientOperations, Waiting};
 use crate::client::parts::{Now, Parts};
@@ -155,7 +156,7 @@ pub fn note_sending<A: Allocator + Copy, H: BuildHasher>(
     parts: &mut Parts<A, H>,
     at: Moment,
     given: Option<Token>,
-) -> Option<(CallId, Token)>
+) -> Option<SentRequest>
     requires room { deque_len parts.old.held.reports < deque_capacity parts.old.held.reports }
     requires apart { Apart (own_of parts.old.held) }
     ensures closes { Closes (own_of parts.old.held) at.0 given parts.old.asker.state (shown_asked result)
@@ -165,7 +166,8 @@ pub fn note_sending<A: Allocator + Copy, H: BuildHasher>(
     match given {
         Some(token) => {
             parts.held.sent = at;
-            Some((CallId(number_of(&parts.held.operations)?), token))
+            let call = CallId(number_of(&parts.held.operations)?);
+            Some(SentRequest { call, token })
         }
         None => {
             fail(parts, true, Report::NoIds);

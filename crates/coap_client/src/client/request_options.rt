@@ -3,7 +3,7 @@ ghost use Rattle.std.specs.Prelude.{◌≡◌, ◌<◌, ◌≤◌, ◌+◌, ◌+
 ghost use Rattle.std.specs.Option.{option_map};
 ghost use Rattle.coap_types.specs.declared.path.TheConstants.{MAX_SEGMENTS as max_segments};
 ghost use Rattle.coap_types.specs.declared.tag.TheConstants.{MAX_TAGS as max_tags};
-ghost use Rattle.coap_types.specs.CoapOption.{option, options_of as of_list};
+ghost use Rattle.coap_types.specs.CoapOption.{option};
 ghost use Rattle.coap_types.specs.OptionValues.{option_with};
 ghost use Rattle.coap_types.specs.Path.{segments_of};
 ghost use Rattle.coap_types.specs.Uint.{uint};
@@ -19,9 +19,8 @@ use coap_codec::options_len;
 use coap_types::option_number::{
     ACCEPT, BLOCK1, BLOCK2, CONTENT_FORMAT, ETAG, IF_MATCH, IF_NONE_MATCH, OBSERVE, URI_PATH,
 };
-use coap_types::{Method, Opt, Path, Request, Tags, UintBytes, uint_bytes};
+use coap_types::{Method, OptionList, Path, Request, Tags, UintBytes, uint_bytes};
 use std::alloc::Allocator;
-use std::marker::Model;
 
 /// The most options that a request has: the tags, If-None-Match, the path, Content-Format or
 /// Accept, and a Block option.
@@ -29,88 +28,28 @@ pub const MAX_OPTIONS: usize = 24;
 
 const _: () = prove!(MAX_OPTIONS == 24);
 
-/// At most `MAX_OPTIONS` options, in order.
-#[derive(Drop)]
-pub struct RequestOptions<'a> {
-    options: [Opt<'a>; MAX_OPTIONS],
-    len: usize,
+// Adds an option for each tag.
+fn push_tags<'a>(options: &mut OptionList<'a, MAX_OPTIONS>, number: u16, tags: &'a Tags)
+    requires room { length options.old + length tags.now ≤ MAX_OPTIONS }
+    ensures list { options.new ≡ options.old ++ map (option number) tags.now }
+    ensures len { length options.new ≡ length options.old + length tags.now }
+{
+    for tag in tags.as_slice() {
+        options.push(number, tag.as_slice());
+    }
 }
 
-impl<'a> Model for RequestOptions<'a> {
-    ghost use Rattle.std.specs.Prelude.{List, ◌≡◌, ◌≤◌, length, take};
-    ghost use Rattle.coap_types.specs.CoapOption.{CoapOption, options_of};
-    ghost use Rattle.coap_client.specs.declared.client.request_options.TheConstants.{MAX_OPTIONS};
-
-    ghost Value = { List CoapOption };
-
-    ghost view = { λ o. options_of (take o.len o.options) };
-
-    ghost invariant = { λ o. (length o.options ≡ MAX_OPTIONS) × (o.len ≤ MAX_OPTIONS) };
-}
-
-impl<'a> RequestOptions<'a> {
-    /// No option.
-    pub fn new() -> RequestOptions<'a>
-        ensures { result ≡ [] }
-    {
-        let unused = Opt {
-            number: 0,
-            value: &[],
-        };
-        RequestOptions {
-            options: [unused; MAX_OPTIONS],
-            len: 0,
-        }
-    }
-
-    /// Adds an option at the end.
-    pub fn push(&mut self, number: u16, value: &'a [u8])
-        requires room { length self.old < MAX_OPTIONS }
-        ensures list { self.new ≡ self.old ++ option number value.now ∷ [] }
-        ensures len { length self.new ≡ length self.old + 1 }
-    {
-        self.options[self.len] = Opt { number, value };
-        self.len += 1;
-    }
-
-    /// .. where it has a value.
-    pub fn push_some(&mut self, number: u16, value: Option<&'a [u8]>)
-        requires room { length self.old < MAX_OPTIONS }
-        ensures list { self.new ≡ self.old ++ option_with number (option_copied value.entry) }
-        ensures len { length self.new ≤ length self.old + 1 }
-    {
-        if let Some(value) = value {
-            self.push(number, value);
-        }
-    }
-
-    /// Adds an option for each tag.
-    pub fn push_tags(&mut self, number: u16, tags: &'a Tags)
-        requires room { length self.old + length tags.now ≤ MAX_OPTIONS }
-        ensures list { self.new ≡ self.old ++ map (option number) tags.now }
-        ensures len { length self.new ≡ length self.old + length tags.now }
-    {
-        for tag in tags.as_slice() {
-            self.push(number, tag.as_slice());
-        }
-    }
-
-    /// Adds an option for each segment (RFC 7252, section 5.10.1).
-    pub fn push_path<A: Allocator + Copy>(&mut self, path: &'a [Vec<u8, A>])
-        requires room { length self.old + length path.now ≤ MAX_OPTIONS }
-        ensures list { self.new ≡ self.old ++ path_options (segments_of path.now) }
-        ensures len { length self.new ≡ length self.old + length path.now }
-    {
-        for segment in path {
-            self.push(URI_PATH, segment.as_slice());
-        }
-    }
-
-    /// The options in order.
-    pub fn as_slice(&self) -> &[Opt<'a>]
-        ensures { of_list result.now ≡ self.now }
-    {
-        &self.options[..self.len]
+// Adds an option for each segment (RFC 7252, section 5.10.1).
+fn push_path<'a, A: Allocator + Copy>(
+    options: &mut OptionList<'a, MAX_OPTIONS>,
+    path: &'a [Vec<u8, A>],
+)
+    requires room { length options.old + length path.now ≤ MAX_OPTIONS }
+    ensures list { options.new ≡ options.old ++ path_options (segments_of path.now) }
+    ensures len { length options.new ≡ length options.old + length path.now }
+{
+    for segment in path {
+        options.push(URI_PATH, segment.as_slice());
     }
 }
 
@@ -141,30 +80,33 @@ pub fn call_options<'a, A: Allocator + Copy>(
     format: Option<&'a [u8]>,
     number: u16,
     block: Option<&'a [u8]>,
-) -> RequestOptions<'a>
+) -> OptionList<'a, MAX_OPTIONS>
     requires { option_copied format ≡ told_value (shown_request request.now) }
     ensures { result ≡ options_of (shown_request request.now) ++ option_with number (option_copied block.entry) }
 {
     request.ranges();
-    let mut options = RequestOptions::new();
+    let mut options = OptionList::new();
     push_before(&mut options, request);
-    options.push_path(request.path.segments());
+    push_path(&mut options, request.path.segments());
     push_after(&mut options, request.method, format);
     options.push_some(number, block);
     options
 }
 
 // The options before the path.
-fn push_before<'a, A: Allocator + Copy>(options: &mut RequestOptions<'a>, request: &'a Request<A>)
+fn push_before<'a, A: Allocator + Copy>(
+    options: &mut OptionList<'a, MAX_OPTIONS>,
+    request: &'a Request<A>,
+)
     requires { options.old ≡ [] }
     ensures list { options.new ≡ before_path request.now.method (shown_request request.now) }
     ensures few { length options.new ≤ max_tags + 1 }
 {
     request.ranges();
     match request.method {
-        Method::Get => options.push_tags(ETAG, &request.etags),
+        Method::Get => push_tags(options, ETAG, &request.etags),
         Method::Post | Method::Put | Method::Delete => {
-            options.push_tags(IF_MATCH, &request.if_match);
+            push_tags(options, IF_MATCH, &request.if_match);
             if request.if_none_match {
                 options.push(IF_NONE_MATCH, &[]);
             }
@@ -173,7 +115,11 @@ fn push_before<'a, A: Allocator + Copy>(options: &mut RequestOptions<'a>, reques
 }
 
 // The option after the path.
-fn push_after<'a>(options: &mut RequestOptions<'a>, method: Method, format: Option<&'a [u8]>)
+fn push_after<'a>(
+    options: &mut OptionList<'a, MAX_OPTIONS>,
+    method: Method,
+    format: Option<&'a [u8]>,
+)
     requires room { length options.old + 1 < MAX_OPTIONS }
     ensures list { (r : Asking) → option_copied format.entry ≡ option_map uint (told_number method r)
         → options.new ≡ options.old ++ after_path method r }
@@ -191,14 +137,14 @@ pub fn get_options<'a, A: Allocator + Copy>(
     observe: Option<&'a [u8]>,
     path: &'a [Vec<u8, A>],
     block: Option<&'a [u8]>,
-) -> RequestOptions<'a>
+) -> OptionList<'a, MAX_OPTIONS>
     requires { length path.now ≤ max_segments }
     ensures { result ≡ option_with OBSERVE (option_copied observe.entry)
         ++ (path_options (segments_of path.now) ++ option_with BLOCK2 (option_copied block.entry)) }
 {
-    let mut options = RequestOptions::new();
+    let mut options = OptionList::new();
     options.push_some(OBSERVE, observe);
-    options.push_path(path);
+    push_path(&mut options, path);
     options.push_some(BLOCK2, block);
     options
 }
@@ -242,7 +188,7 @@ pub fn is_long_path<A: Allocator + Copy>(path: &Path<A>) -> bool
 }
 
 // Whether options take over `MAX_OPTIONS_LEN` bytes.
-fn exceed(options: &RequestOptions<'_>) -> bool
+fn exceed(options: &OptionList<'_, MAX_OPTIONS>) -> bool
     requires { IsGood 0 options.now }
     ensures { result ≡ nat_lt MAX_OPTIONS_LEN (length (options_bytes 0 options.now)) }
 {

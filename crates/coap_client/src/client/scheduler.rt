@@ -147,6 +147,23 @@ fn pass_idly<A: Allocator + Copy, H: BuildHasher>(
         rest(&mut parts.held, now.at);
         return Ok(false);
     }
+    start_next(parts, now)
+}
+
+// Where none runs, the fetch for an observation starts, or the first of what waits.
+fn start_next<A: Allocator + Copy, H: BuildHasher>(
+    parts: &mut Parts<A, H>,
+    now: Now,
+) -> Result<bool, AllocError>
+    requires apart { Apart (own_of parts.old.held) }
+    requires none { parts.old.held.operations.running ≡ None }
+    ensures happens { OnOk result (Comes parts.old.asker.state (idle_now now.at.0 (own_of parts.old.held)) now.at.0
+        now.word (seen parts.new)) }
+    ensures did { IfOk result (λ did. did ≡ asks (idle_now now.at.0 (own_of parts.old.held)).deed) }
+    ensures held { OnErr result (own_of parts.new.held ≡ own_of parts.old.held) }
+    ensures before { parts.new.asker.before ≡ parts.old.asker.before }
+    ensures quiet { asks (idle_now now.at.0 (own_of parts.old.held)).deed ≡ false → IsOk result }
+{
     match to_fetch(&parts.held.operations) {
         Some(number) => start_fetch(parts, now, number),
         None => start_first(parts, now),

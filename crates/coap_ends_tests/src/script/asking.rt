@@ -3,7 +3,7 @@ use super::ends::Ends;
 use super::reports::{body_of, head_of};
 use super::words::{cut, first, method_of, path_of, push_tag, text_of};
 use bytes::Bytes;
-use coap_ends::{CallId, CallRefusal, Report};
+use coap_ends::{CallId, CallRefusal, Report, SentRequest};
 use coap_types::{Moment, Request, Tags};
 use std::alloc::Allocator;
 use std::test::Fail;
@@ -121,9 +121,10 @@ impl<A: Allocator + Copy> Ends<'_, A> {
     }
 
     pub(super) fn asked(&self, words: &str) -> Result<(), Fail> {
-        let Some((CallId(id), token)) = self.client.asked() else {
+        let Some(SentRequest { call, token }) = self.client.asked() else {
             return self.is_same("nothing", words);
         };
+        let CallId(id) = call;
         let token = hex::encode(self.alloc, token.as_slice())?;
         let came = format!(in self.alloc; "{id} {token}")?;
         self.is_same(came.as_str(), words)

@@ -1,5 +1,5 @@
 -- What contracts see of a client's side.
-use Rattle.std.specs.Prelude.{◌≤◌, ℕ, Option, Some, None, List, length}
+use Rattle.std.specs.Prelude.{◌≤◌, ℕ, Bool, Option, Some, None, List, length}
 use Rattle.coap_types.specs.declared.endpoint.Endpoint.{Endpoint}
 use Rattle.coap_layer.specs.Sendable.{IsSendable}
 use Rattle.coap_layer.specs.Machine.State as L
@@ -13,10 +13,11 @@ use Rattle.coap_exchange.specs.AskerRequests.{content_of}
 use Rattle.coap_exchange.specs.AskerLaw.{State}
 use Rattle.coap_types.specs.declared.token.TheConstants.{MAX_TOKEN_LEN as max_token_len}
 
--- its state, and the state that `undo` would leave
+-- its state, the state that `undo` would leave, and whether there is room for a message
 pub record Shown : Type 0 where
   pub state : State
   pub before : Option State
+  pub has_room : Bool
 
 abbrev pub own_with : ℕ → Endpoint → ℕ → Held → Own
 own_with clock server word held =

@@ -53,6 +53,9 @@ impl<A: Allocator + Copy, S: BuildHasher> Answerer<A, S> {
         // failure comes first, it takes no memory.
         ensures quiet { copies (max self.old.state.own.clock now.0) self.old.state.layer.open_cons ≡ []
             → takes_response self.old.state now.0 ≡ false → IsOk result }
+        // Where no retransmission is due and there is room for a response, the tick takes no memory.
+        ensures had { copies (max self.old.state.own.clock now.0) self.old.state.layer.open_cons ≡ []
+            → self.old.room ≡ true → IsOk result }
         // Where no copy is due and the layer has a failure, the tick tells that.
         ensures fails { copies (max self.old.state.own.clock now.0) self.old.state.layer.open_cons ≡ []
             → answer_of self.old.state.layer (max self.old.state.own.clock now.0) below.Ticks ≢ below.Idle

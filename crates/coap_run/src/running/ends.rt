@@ -6,7 +6,7 @@ ghost use Rattle.coap_run.specs.Run.Telling.{applied_told, version_told};
 
 use crate::running::record::Record;
 use crate::running::senders::Senders;
-use coap_ends::{Client, Server};
+use coap_ends::{Client, SentRequest, Server};
 use coap_record::Addresses;
 use coap_resource::Store;
 use std::alloc::{AllocError, Allocator};
@@ -26,8 +26,8 @@ impl<A: Allocator + Copy> ClientEnd<A> {
             → sender_in self.new.senders token ≡ noted token self.old.client.own.asked
             (sender_in self.old.senders token)) }
     {
-        if let Some((id, token)) = self.client.asked() {
-            self.senders.note(id, token)?;
+        if let Some(SentRequest { call, token }) = self.client.asked() {
+            self.senders.note(call, token)?;
         }
         Ok(())
     }

@@ -9,6 +9,7 @@ ghost use Rattle.coap_run.specs.Run.Ends.{ClientLed, ServerLed};
 ghost use Rattle.coap_run.specs.Run.Happening.{what_of};
 ghost use Rattle.coap_run.specs.Run.Log.{given_of};
 ghost use Rattle.coap_run.specs.Run.Senders.{sender_in};
+ghost use Rattle.coap_run.specs.Run.Sides.{stranger_to, ticks_of};
 ghost use Rattle.coap_run.specs.Run.Turning.{Turned, ClientTurned, ServerTurned};
 
 use crate::running::copies::copied;
@@ -223,6 +224,55 @@ fn on_server_stranger<S: Store<A>, A: Allocator + Copy>(
     Ok(())
 }
 
+// The ticks of one of the ends.
+fn on_tick<S: Store<A>, A: Allocator + Copy>(
+    client: &mut ClientEnd<A>,
+    server: &mut ServerEnd<S, A>,
+    log: &mut Record<A>,
+    when: When,
+    side: Side,
+) -> Result<(), AllocError>
+    ensures { OnOk result ((past : List Turn)
+        → Turned when.addresses ClientLed (ServerLed S.content) past
+        (record { at = when.at.0; word = when.word; what = ticks_of side })
+        client.old server.old log.old client.new server.new log.new) }
+{
+    match side {
+        Side::Client => on_client_tick(client, log, when),
+        Side::Server => on_server_tick(server, &client.senders, log, when),
+    }
+}
+
+// A stranger's datagram comes to one of the ends, if it isn't from an end's address.
+fn on_stranger<S: Store<A>, A: Allocator + Copy>(
+    client: &mut ClientEnd<A>,
+    server: &mut ServerEnd<S, A>,
+    log: &mut Record<A>,
+    when: When,
+    side: Side,
+    from: Endpoint,
+    bytes: &[u8],
+) -> Result<(), Stop>
+    ensures ok { OnOk result ((past : List Turn)
+        → Turned when.addresses ClientLed (ServerLed S.content) past
+        (record { at = when.at.0; word = when.word; what = stranger_to side from bytes.now })
+        client.old server.old log.old client.new server.new log.new) }
+    ensures wrong { result ≡ Err Stop.NotLegal → (past : List Turn)
+        → MayCome when.addresses past when.at.0 (stranger_to side from bytes.now) → ⊥ }
+{
+    if is_end(from, when.addresses.client) {
+        return Err(Stop::NotLegal);
+    }
+    if is_end(from, when.addresses.server) {
+        return Err(Stop::NotLegal);
+    }
+    match side {
+        Side::Client => on_client_stranger(client, log, when, from, bytes)?,
+        Side::Server => on_server_stranger(server, &client.senders, log, when, from, bytes)?,
+    }
+    Ok(())
+}
+
 /// What an event makes of the two ends.
 pub(crate) fn turn<S: Store<A>, A: Allocator + Copy>(
     addresses: Addresses,
@@ -253,24 +303,10 @@ pub(crate) fn turn<S: Store<A>, A: Allocator + Copy>(
         What::Forget(id) => on_forget(client, log, when, *id)?,
         What::Set(path, format, body) => on_set(server, log, when, path, *format, body.as_slice())?,
         What::Remove(path) => on_remove(server, log, when, path)?,
-        What::Tick(side) => match side {
-            Side::Client => on_client_tick(client, log, when)?,
-            Side::Server => on_server_tick(server, &client.senders, log, when)?,
-        },
+        What::Tick(side) => on_tick(client, server, log, when, *side)?,
         What::Deliver(number) => deliver(addresses, client, server, log, at, word, *number)?,
         What::Stranger(side, from, bytes) => {
-            if is_end(*from, addresses.client) {
-                return Err(Stop::NotLegal);
-            }
-            if is_end(*from, addresses.server) {
-                return Err(Stop::NotLegal);
-            }
-            match side {
-                Side::Client => { on_client_stranger(client, log, when, *from, bytes.as_slice())? }
-                Side::Server => {
-                    on_server_stranger(server, &client.senders, log, when, *from, bytes.as_slice())?
-                }
-            }
+            on_stranger(client, server, log, when, *side, *from, bytes.as_slice())?
         }
     }
     Ok(())

@@ -1,6 +1,6 @@
 -- Where what a server serves, and each block that it takes, comes from (RFC 7252, sections 4.5 and 5.2; RFC 7959,
 -- section 2.5).
-use Rattle.std.specs.Prelude.{◌≡◌, ℕ, true, false, Some, List, ◌∷◌, ◌++◌, map}
+use Rattle.std.specs.Prelude.{◌≡◌, ℕ, true, false, Some, None, List, ◌∷◌, ◌++◌, map}
 use Rattle.coap_types.specs.Past.{Ever, Sometime, Always}
 use Rattle.coap_codec.specs.Message.{Message}
 use Rattle.coap_layer.specs.Trace.{Receive, Becomes, Request, Entry}
@@ -15,7 +15,7 @@ use Rattle.coap_server.specs.Trace.{Call}
 use Rattle.coap_server.specs.Checks.{Verdict, Asks, Uploads, verdict_on}
 use Rattle.coap_server.specs.Uploads.{key_of}
 use Rattle.coap_server.specs.Law.{own_of, layer_of}
-use Rattle.coap_server.specs.Follows.Serves.{Serving, serving}
+use Rattle.coap_server.specs.Follows.Serves.{Serving, serving, hands, refuses}
 use Rattle.coap_server.specs.Follows.Takes.{Took, took, takes_block, blocks_since}
 
 -- the request arrives, is handed up and remembered, and comes to this
@@ -48,9 +48,12 @@ module _ (limits : Limits) (szx : ℕ) where
   AsksBy past c a q (Uploads p b) = Completes past c a p b q
   AsksBy past c a q _ = ⊥
 
+  -- .. in a call that hands it up, and doesn't refuse it
   pub record Brings (setup : Setup) (past : List Call) (c : Call) (a : Asked) (q : Question) : Type 0 where
     pub verdict : Verdict
     pub comes : Comes setup past c a verdict
+    pub handed : hands c ≡ Some a
+    pub taken : refuses c ≡ None
     pub asks : AsksBy past c a q verdict
 
   -- What is served was handed up, at once or before, and asks this.

@@ -1,5 +1,5 @@
 -- The law leaves each call of a server one answer, one of each layer beneath it, and one state of each after it.
-use Rattle.std.specs.Prelude.{◌≡◌, ℕ, Bool, Option, List, ◌∷◌, Result}
+use Rattle.std.specs.Prelude.{◌≡◌, ℕ, Bool, Option, Some, List, ◌∷◌, Result}
 use Rattle.coap_types.specs.declared.endpoint.Endpoint.{Endpoint}
 use Rattle.coap_codec.specs.Message.{Message}
 use Rattle.coap_layer.specs.Trace as L
@@ -13,6 +13,7 @@ use Rattle.coap_exchange.specs.AnswererLaw as E
 use Rattle.coap_server.specs.Trace.{Applied, Own, Handling, Call, Sets, Removes, Delays, Feeds, Ticks}
 use Rattle.coap_server.specs.Trace.{NextOut, Gets, Plains, TellsApplied}
 use Rattle.coap_server.specs.Handling.{incoming, ticking, heard}
+use Rattle.coap_server.specs.Refusing.{refused_or_fed}
 use Rattle.coap_server.specs.Asks.{answering, responding}
 use Rattle.coap_server.specs.Law.{ServerLaw, own_of, lower_of}
 
@@ -58,6 +59,14 @@ pub record IsExact (limits : Limits) (szx : ℕ) (setup : Setup) (past : List Ca
       × (answering (fed limits szx past now from bytes up came) came h below
       ≡ answering (fed limits szx past now from bytes other come) come k beyond)
       × LeaveAlike limits szx past (Feeds now from bytes w up came h below) (Feeds now from bytes w other come k beyond)
+  pub refuses :
+      (now : ℕ) (from : Endpoint) (bytes : List ℕ) (w code : ℕ) (up other : L.Answer)
+      (came come : Option (Asked × Message)) (response another : Option ℕ) (below beyond : L.Answer)
+      → ServerLaw limits szx setup (refused_or_fed now from bytes w code up came response below ∷ past)
+      → ServerLaw limits szx setup (refused_or_fed now from bytes w code other come another beyond ∷ past)
+      → (up ≡ other) × (came ≡ come) × ((p : Asked × Message) → came ≡ Some p → response ≡ another)
+      × LeaveAlike limits szx past (refused_or_fed now from bytes w code up came response below)
+      (refused_or_fed now from bytes w code other come another beyond)
   pub ticks :
       (now w : ℕ) (below other : L.Answer) (room space : Bool) (d due : Due) (passed skipped : ℕ) (h k : Handling)
       (id number : ℕ) (answer another : Bool)

@@ -1,6 +1,7 @@
 -- Which requests a server hands up and serves (RFC 7252, sections 4.5 and 5.2).
 use Rattle.std.specs.Prelude.{◌≡◌, ◌<◌, ℕ, ◌+◌, Option, Some, None, List, [], ◌∷◌}
 use Rattle.coap_types.specs.Past.{Always}
+use Rattle.coap_codec.specs.Message.{Message}
 use Rattle.coap_resource.specs.Content.{Content}
 use Rattle.coap_resource.specs.Serves.{Question, Reply}
 use Rattle.coap_resource.specs.Limits.{Limits}
@@ -8,7 +9,7 @@ use Rattle.coap_exchange.specs.declared.answerer.Asked.{Asked}
 use Rattle.coap_exchange.specs.declared.answerer.Due.TheVariants as due
 use Rattle.coap_exchange.specs.AnswererFollows.{hits, same_asked}
 use Rattle.coap_exchange.specs.AnswererSteps.{asked_in}
-use Rattle.coap_server.specs.Trace.{Own, Serves, Call, Feeds, Ticks}
+use Rattle.coap_server.specs.Trace.{Own, Serves, Call, Feeds, Refuses, Ticks}
 use Rattle.coap_server.specs.Observers.{registers, sequence_if}
 use Rattle.coap_server.specs.Handling.{incoming, ticking, heard}
 use Rattle.coap_server.specs.Law.{own_of}
@@ -16,7 +17,13 @@ use Rattle.coap_server.specs.Law.{own_of}
 -- the request that a call hands up
 abbrev pub hands : Call → Option Asked
 hands (Feeds now from bytes word up came h below) = asked_in came
+hands (Refuses now from bytes word code up p response below) = Some p.0
 hands _ = None
+
+-- .. and of these the one that it refuses
+abbrev pub refuses : Call → Option (Asked × Message)
+refuses (Refuses now from bytes word code up p response below) = Some p
+refuses _ = None
 
 -- a request that the store serves: of which request, what is asked and answered, what the store held and what it is
 -- left, and the number that Observe says in the response

@@ -13,14 +13,19 @@ ghost use Rattle.coap_exchange.specs.Machine.AnswererShown.{IsAnswerWith};
 ghost use Rattle.coap_server.specs.Responses.{response_with};
 ghost use Rattle.coap_server.specs.Object.FullResponses.{response_as};
 
-use crate::server::option_list::OptionList;
 use bytes::Bytes;
 use coap_exchange::{Response as Answer, notifiable_law};
 use coap_resource::Response;
 use coap_types::option_number::{BLOCK1, BLOCK2, CONTENT_FORMAT, ETAG, OBSERVE};
-use coap_types::{Block, Code, MAX_NUM, MAX_UINT_LEN, Tag, UintBytes, uint_bytes};
+use coap_types::{Block, Code, MAX_NUM, MAX_UINT_LEN, OptionList, Tag, UintBytes, uint_bytes};
 use std::alloc::Allocator;
 use std::marker::Model;
+
+// The most options that a response of a server has: ETag, Observe, Content-Format, Block2 and
+// Block1.
+const MAX_OPTIONS: usize = 5;
+
+const _: () = prove!(MAX_OPTIONS == 5);
 
 /// A response with all its options, each as its bytes (RFC 7252, section 5.2). It fits a message
 /// with any token.
@@ -53,9 +58,7 @@ fn number_bytes(number: Option<u32>) -> Option<UintBytes>
     ensures bytes { result ≡ option_map uint number }
     ensures few { IfSome result (λ bytes. length bytes ≤ MAX_UINT_LEN) }
 {
-    let bytes = uint_bytes(number?);
-    let _few = bytes.as_slice();
-    Some(bytes)
+    Some(uint_bytes(number?))
 }
 
 // The bytes of a Block option, where there is one.
@@ -139,20 +142,20 @@ impl<A: Allocator> FullResponse<A> {
     }
 
     /// Its options, to be lent to `with`.
-    pub(crate) fn options(&self) -> OptionList<'_>
+    pub(crate) fn options(&self) -> OptionList<'_, MAX_OPTIONS>
         ensures { result ≡ self.now.options }
     {
         let mut options = OptionList::new();
-        options.push(ETAG, tag_slice(&self.tag));
-        options.push(OBSERVE, uint_slice(&self.observe));
-        options.push(CONTENT_FORMAT, uint_slice(&self.format));
-        options.push(BLOCK2, uint_slice(&self.block2));
-        options.push(BLOCK1, uint_slice(&self.block1));
+        options.push_some(ETAG, tag_slice(&self.tag));
+        options.push_some(OBSERVE, uint_slice(&self.observe));
+        options.push_some(CONTENT_FORMAT, uint_slice(&self.format));
+        options.push_some(BLOCK2, uint_slice(&self.block2));
+        options.push_some(BLOCK1, uint_slice(&self.block1));
         options
     }
 
     /// As the exchanges send it, with its options.
-    pub(crate) fn with<'a>(&'a self, options: &'a OptionList<'a>) -> Answer<'a>
+    pub(crate) fn with<'a>(&'a self, options: &'a OptionList<'a, MAX_OPTIONS>) -> Answer<'a>
         requires own { options.now ≡ self.now.options }
         ensures same { result ≡ self.now }
         ensures sendable { (token : List ℕ) → length token ≤ max_token_len → IsAnswerWith token result }

@@ -1,21 +1,9 @@
-use Rattle.std.proofs.Common.{◌∙◌, sym}
-use Rattle.coap_scripts.proofs.RunEnds.{of_run, of_wrong}
-use Rattle.coap_scripts.proofs.sim.run_events.Goals.{in-List, in-Map}
+use Rattle.std.proofs.Common.{map, subst}
+use Rattle.std.specs.Prelude.{IfOk}
+use Rattle.coap_run.specs.Run.Happening.{event_of}
+use Rattle.coap_scripts.specs.Sims.{IsSim}
 use Rattle.coap_scripts.proofs.sim.run_events.Goals as goal
 
-pub returns-in-Ok-ran : goal.returns-in-Ok-ran
-returns-in-Ok-ran g c = elim c.match-store.branch [
-  | in-List w ↦ of_run _ _ _ w.run_with-ran.result _ c.in-Ok.ensures.at (sym w.ran-is ∙ c.in-Ok-ran.is)
-      w.run_with-ran.ensures.record
-  | in-Map w ↦ of_run _ _ _ w.run_with-ran-in-Map.result _ c.in-Ok.ensures.at (sym w.ran-is ∙ c.in-Ok-ran.is)
-      w.run_with-ran-in-Map.ensures.record
-]
-
-pub returns : goal.returns
-returns g c = elim c.match-store.branch [
-  | in-List w ↦ of_wrong _ _ _ w.run_with-ran.result _ c.tell_refusal.result c.in-Ok.ensures.at
-      (sym w.ran-is ∙ c.in-Err.is)
-      w.run_with-ran.ensures.wrong c.tell_refusal.ensures
-  | in-Map w ↦ of_wrong _ _ _ w.run_with-ran-in-Map.result _ c.tell_refusal.result c.in-Ok.ensures.at
-      (sym w.ran-is ∙ c.in-Err.is) w.run_with-ran-in-Map.ensures.wrong c.tell_refusal.ensures
-]
+pub returns-in-Ok : goal.returns-in-Ok
+returns-in-Ok g c =
+    subst (λ k. IfOk c.run_by.result (IsSim k (map event_of c.args.events.now))) c.in-Ok.ensures.at c.run_by.ensures

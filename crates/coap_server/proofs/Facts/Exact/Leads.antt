@@ -1,5 +1,5 @@
 -- One call more, for all calls of a server.
-use Rattle.std.proofs.Common.{◌≡◌, ◌↔◌, ℕ, List, [], ◌∷◌, ◌++◌, refl, ap, ◌∙◌, subst, sym}
+use Rattle.std.proofs.Common.{◌≡◌, ◌↔◌, ℕ, Some, List, [], ◌∷◌, ◌++◌, refl, ap, ◌∙◌, subst, sym}
 use Rattle.coap_layer.specs.Machine.State as S
 use Rattle.coap_layer.specs.Machine.Steps as G
 use Rattle.coap_layer.specs.Machine.Steps.{Steps}
@@ -10,9 +10,10 @@ use Rattle.coap_exchange.specs.AnswererTrace as E
 use Rattle.coap_exchange.specs.AnswererLaw as X
 use Rattle.coap_exchange.specs.AnswererSteps as P
 use Rattle.coap_exchange.proofs.Facts.ServerSide.{led_start, led_exchanged, led_law}
-use Rattle.coap_server.specs.Trace.{Own, Call, Feeds, Ticks, NextOut}
+use Rattle.coap_server.specs.Trace.{Own, Call, Feeds, Refuses, Ticks, NextOut}
 use Rattle.coap_server.specs.Handling.{incoming, ticking, heard}
 use Rattle.coap_server.specs.Asks.{answering, responding, lower}
+use Rattle.coap_server.specs.Refusing.{refusing}
 use Rattle.coap_server.specs.Steps.{IsRight, after, exchanges_after}
 use Rattle.coap_server.specs.Law.{own_of, lower_of, ServerLaw}
 use Rattle.coap_server.proofs.Facts.Exact.Asked.{joined}
@@ -36,6 +37,10 @@ exchanges_kept limits szx (Feeds now from bytes word up came h below ∷ t) =
     let first : E.Call = incoming s now from bytes up came in
     kept_behind s.exchanges first (answering (heard s now first) came h below) (lower_of limits szx t)
     (exchanges_kept limits szx t)
+exchanges_kept limits szx (Refuses now from bytes word code up p response below ∷ t) =
+    let s : Own = own_of limits szx t in
+    kept_behind s.exchanges (incoming s now from bytes up (Some p)) (refusing p.0 response below)
+    (lower_of limits szx t) (exchanges_kept limits szx t)
 exchanges_kept limits szx (Ticks now word below room d passed h id answer ∷ t) =
     let s : Own = own_of limits szx t in
     let first : E.Call = ticking s now below room d in

@@ -1,5 +1,5 @@
 -- What a server hands up, its message layer hands up in the same call.
-use Rattle.std.proofs.Common.{◌≡◌, inl, inr, ℕ, max, true, Some, List, [], ◌∷◌, ◌++◌, refl, ap, sym, subst, ◌∙◌}
+use Rattle.std.proofs.Common.{◌≡◌, inl, inr, ℕ, max, true, Option, Some, List, [], ◌∷◌, ◌++◌, refl, ap, sym, subst, ◌∙◌}
 use Rattle.std.proofs.Common.{append_assoc}
 use Rattle.coap_types.specs.Past.{Ever}
 use Rattle.coap_types.proofs.Facts.Traces.{Ever_front, Ever_back, Ever_map}
@@ -18,9 +18,10 @@ use Rattle.coap_exchange.specs.AnswererSteps.{asked_of}
 use Rattle.coap_exchange.specs.AnswererLaw as W
 use Rattle.coap_exchange.specs.AskerRequests.{asked}
 use Rattle.coap_exchange.specs.AskerArrivals.{id_in, replying}
-use Rattle.coap_server.specs.Trace.{Own, Handling, Call, Feeds}
+use Rattle.coap_server.specs.Trace.{Own, Handling, Call, Feeds, Refuses}
 use Rattle.coap_server.specs.Checks.{Verdict, verdict_on}
 use Rattle.coap_server.specs.Handling.{incoming, heard}
+use Rattle.coap_server.specs.Refusing.{refusing}
 use Rattle.coap_server.specs.Asks.{lower, answering}
 use Rattle.coap_server.specs.Law.{ServerLaw, own_of, lower_of}
 use Rattle.coap_server.specs.Follows.Brings.{HandsUp, Comes}
@@ -162,4 +163,15 @@ module _ (limits : Limits) (szx : ℕ) (setup : Setup) (t : List Call) where
       let first : E.Call = incoming s now from bytes up (Some p) in
       comes_by (Feeds now from bytes w up (Some p) h below) p.0 p.1 (verdict_on szx p.1) law refl
       (Ever_back (Comes_in p.0 p.1) (answering (heard s now first) (Some p) h below) (first ∷ [])
+      (inl (max s.clock now, from, bytes, up, refl)))
+
+  pub comes_refused : (now : ℕ) (from : Endpoint) (bytes : List ℕ) (w code : ℕ) (up : L.Answer) (p : Asked × Message)
+      (response : Option ℕ) (below : L.Answer)
+      → ServerLaw limits szx setup (Refuses now from bytes w code up p response below ∷ t)
+      → Comes limits szx setup t (Refuses now from bytes w code up p response below) p.0 (verdict_on szx p.1)
+  comes_refused now from bytes w code up p response below law =
+      let s : Own = own_of limits szx t in
+      let first : E.Call = incoming s now from bytes up (Some p) in
+      comes_by (Refuses now from bytes w code up p response below) p.0 p.1 (verdict_on szx p.1) law refl
+      (Ever_back (Comes_in p.0 p.1) (refusing p.0 response below) (first ∷ [])
       (inl (max s.clock now, from, bytes, up, refl)))

@@ -1,5 +1,5 @@
 -- Requests that are alike are equal.
-use Rattle.std.proofs.Common.{◌≡◌, ◌==◌, ◌&&◌, ◌-◌, true}
+use Rattle.std.proofs.Common.{◌≡◌, ◌==◌, ◌&&◌, true}
 use Rattle.std.proofs.Common.{refl, ap, ◌∙◌}
 use Rattle.std.specs.Cmp.{unsigned_Decides}
 use Rattle.coap_types.specs.declared.message.Kind.{Kind}

@@ -21,7 +21,7 @@ use Rattle.coap_layer.specs.declared.setup.Setup.{Setup}
 use Rattle.coap_observe.specs.Observers.{Observer}
 use Rattle.coap_resource.specs.Limits.{Limits}
 use Rattle.coap_server.specs.Trace.{Waiting, Own, Handling, Serves, Notifies}
-use Rattle.coap_server.specs.Trace.{Call, Sets, Removes, Delays, Plains, Feeds, Ticks, NextOut, Gets}
+use Rattle.coap_server.specs.Trace.{Call, Sets, Removes, Delays, Plains, Feeds, Refuses, Ticks, NextOut, Gets}
 use Rattle.coap_server.specs.Trace.{TellsApplied}
 use Rattle.coap_server.specs.Serving.{IsServed}
 use Rattle.coap_server.specs.Deferring.{AnswersWaiting, delay_for, deferral, deferral_by}
@@ -282,6 +282,10 @@ module _ (limits : Limits) (szx : ℕ) (setup : Setup) where
     mirrored (Feeds now from bytes w up c h below) law =
         fed now from bytes w up c h below (came (heard (own t) now (incoming (own t) now from bytes up c)) c h
         law.rows.0)
+    mirrored (Refuses now from bytes w code up p None below) law =
+        record { clock = let k = m.clock in omega (arith, k); lists = m.lists }
+    mirrored (Refuses now from bytes w code up p (Some n) below) law =
+        record { clock = let k = m.clock in omega (arith, k); lists = m.lists }
     mirrored (Ticks now w below room d passed h id answer) law = ticked now w below room d passed h id answer law
     mirrored _ law = record { clock = m.clock; lists = m.lists }
 
@@ -314,4 +318,5 @@ module _ (limits : Limits) (szx : ℕ) (setup : Setup) where
       here (Gets path answer) m law a is = absurd (cc is)
       here (TellsApplied answer) m law a is = absurd (cc is)
       here (Feeds now from bytes w up came h below) m law a is = absurd (cc is)
+      here (Refuses now from bytes w code up p response below) m law a is = absurd (cc is)
       here (NextOut answer) m law a is = absurd (cc is)

@@ -1,9 +1,11 @@
-use Rattle.std.proofs.Common.{sym, ap, ◌∙◌}
-use Rattle.coap_record.specs.Events.{Sets, StrangerToClient, StrangerToServer}
-use Rattle.coap_run.specs.declared.running.event.What.TheVariants.{Tick, Stranger}
+use Rattle.std.proofs.Common.{rules, subst, sym, ap, ◌∙◌}
+use Rattle.coap_record.specs.Events.{Sets}
+use Rattle.coap_record.specs.Legal.{MayCome}
 use Rattle.coap_run.specs.Run.Happening.{what_of}
 use Rattle.coap_run.specs.Run.Senders.{sender_in}
+use Rattle.coap_run.specs.Run.Sides.{stranger_to}
 use Rattle.coap_run.proofs.Recording.EachTurn.{by_client, by_server}
+use Rattle.coap_run.proofs.Recording.Sides.{of_same, stranger_is, ticks_are}
 use Rattle.coap_run.proofs.running.turn.turn.Goals as goal
 
 pub returns-in_ok-on_call-in-Call-clause-ok : goal.returns-in_ok-on_call-in-Call-clause-ok
@@ -42,34 +44,23 @@ returns-in_ok-on_remove-in-Remove-clause-ok g c = λ past is.
     (ap what_of c.in-Remove.is)
     _ _ _ _ _ (c.in_ok-on_remove-in-Remove.ensures (sender_in c.args.client.now.senders) past)
 
-pub returns-in_ok-on_client_tick-in-Client-clause-ok : goal.returns-in_ok-on_client_tick-in-Client-clause-ok
-returns-in_ok-on_client_tick-in-Client-clause-ok g c = λ past is.
-    by_client c.args.addresses g.S.Store.content past c.args.at.0 c.args.word _ _
-    (ap what_of c.in-Tick.is ∙ ap (λ e. what_of {A = g.row.A.Denot} (Tick e)) c.in-Client.is)
-    _ _ _ _ _ (c.in_ok-on_client_tick-in-Client.ensures past)
+pub returns-in_ok-on_tick-in-Tick-clause-ok : goal.returns-in_ok-on_tick-in-Tick-clause-ok
+returns-in_ok-on_tick-in-Tick-clause-ok g c = λ past is.
+    of_same c.args.addresses g.S.Store.content past c.args.at.0 c.args.word _ _
+    (ap what_of c.in-Tick.is ∙ ticks_are g.row.A.Denot c.in-Tick.side)
+    _ _ _ _ _ _ (c.in_ok-on_tick-in-Tick.ensures past)
 
-pub returns-in_ok-on_server_tick-in-Server-clause-ok : goal.returns-in_ok-on_server_tick-in-Server-clause-ok
-returns-in_ok-on_server_tick-in-Server-clause-ok g c = λ past is.
-    by_server c.args.addresses g.S.Store.content past c.args.at.0 c.args.word _ _
-    (ap what_of c.in-Tick.is ∙ ap (λ e. what_of {A = g.row.A.Denot} (Tick e)) c.in-Server.is)
-    _ _ _ _ _ (c.in_ok-on_server_tick-in-Server.ensures past)
+pub returns-in_ok-on_stranger-in-Stranger-clause-ok : goal.returns-in_ok-on_stranger-in-Stranger-clause-ok
+returns-in_ok-on_stranger-in-Stranger-clause-ok g c = λ past is.
+    of_same c.args.addresses g.S.Store.content past c.args.at.0 c.args.word _ _
+    (ap what_of c.in-Stranger.is ∙ stranger_is g.row.A.Denot c.in-Stranger.side c.in-Stranger.from
+    c.in-Stranger.bytes ∙ ap (stranger_to c.in-Stranger.side c.in-Stranger.from) (sym c.as_slice-in-Stranger.ensures))
+    _ _ _ _ _ _ (c.in_ok-on_stranger-in-Stranger.ensures.ok past)
 
-pub returns-in_ok-on_client_stranger-in-Client-side-clause-ok :
-    goal.returns-in_ok-on_client_stranger-in-Client-side-clause-ok
-returns-in_ok-on_client_stranger-in-Client-side-clause-ok g c = λ past is.
-    by_client c.args.addresses g.S.Store.content past c.args.at.0 c.args.word _ _
-    (ap what_of c.in-Stranger.is ∙ ap (λ e. what_of {A = g.row.A.Denot}
-    (Stranger e c.in-Stranger.from c.in-Stranger.bytes)) c.in-Client-side.is
-    ∙ ap (λ b. StrangerToClient c.in-Stranger.from b) (sym c.as_slice-in-Client-side.ensures))
-    _ _ _ _ _ (c.in_ok-on_client_stranger-in-Client-side.ensures past
-    (c.is_end.ensures.no c.if-is_end.false, c.is_end-in-Stranger.ensures.no c.if-is_end-2.false))
-
-pub returns-in_ok-on_server_stranger-in-Server-side-clause-ok :
-    goal.returns-in_ok-on_server_stranger-in-Server-side-clause-ok
-returns-in_ok-on_server_stranger-in-Server-side-clause-ok g c = λ past is.
-    by_server c.args.addresses g.S.Store.content past c.args.at.0 c.args.word _ _
-    (ap what_of c.in-Stranger.is ∙ ap (λ e. what_of {A = g.row.A.Denot}
-    (Stranger e c.in-Stranger.from c.in-Stranger.bytes)) c.in-Server-side.is
-    ∙ ap (λ b. StrangerToServer c.in-Stranger.from b) (sym c.as_slice-in-Server-side.ensures))
-    _ _ _ _ _ (c.in_ok-on_server_stranger-in-Server-side.ensures past
-    (c.is_end.ensures.no c.if-is_end.false, c.is_end-in-Stranger.ensures.no c.if-is_end-2.false))
+pub returns-in_err-on_stranger-in-Stranger-clause-wrong : goal.returns-in_err-on_stranger-in-Stranger-clause-wrong
+returns-in_err-on_stranger-in-Stranger-clause-wrong g c = λ e past is may.
+    c.on_stranger.ensures.wrong (search rules) past
+    (subst (MayCome c.args.addresses past c.args.at.0)
+    (ap what_of c.in-Stranger.is ∙ stranger_is g.row.A.Denot c.in-Stranger.side c.in-Stranger.from
+    c.in-Stranger.bytes ∙ ap (stranger_to c.in-Stranger.side c.in-Stranger.from) (sym c.as_slice-in-Stranger.ensures))
+    may)

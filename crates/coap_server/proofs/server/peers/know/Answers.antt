@@ -1,4 +1,4 @@
-use Rattle.std.proofs.Common.{◌≡◌, ◌∙◌, ℕ, ap, max, sym}
+use Rattle.std.proofs.Common.{◌≡◌, ◌∙◌, ℕ, ap, max}
 use Rattle.std.specs.List.{list_any}
 use Rattle.coap_types.specs.SameEndpoint.{same_endpoint}
 use Rattle.coap_block.specs.AssemblyState.{forgotten}

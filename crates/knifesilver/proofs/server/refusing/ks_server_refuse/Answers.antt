@@ -1,52 +1,38 @@
-use Rattle.std.proofs.Common.{◌≡◌, ◌∙◌, ap, sym, subst, w32, true, false, List, ℕ, if◌then◌else◌, slice_set}
+use Rattle.std.proofs.Common.{ℤ, ◌≡◌, ◌∙◌, ap, false, of_z, pos, refl, subst, sym, to_z, true, w32}
 use Rattle.std.proofs.Math.Facts.{to_z-of_z}
-use Rattle.coap_journal.specs.Input.{Feed}
+use Rattle.coap_types.specs.declared.endpoint.Endpoint.{Endpoint}
 use Rattle.knifesilver.specs.Answers.{IsAnswered}
-use Rattle.knifesilver.specs.Refusing.{is_asking, refused}
-use Rattle.knifesilver.specs.ServerCalls.{IsFeed}
-use Rattle.knifesilver.specs.ServerHeld.{IsNoted, Made}
+use Rattle.knifesilver.specs.ServerCalls.{IsRefuse}
+use Rattle.knifesilver.specs.ServerHeld.{Made}
+use Rattle.knifesilver.proofs.Either.{either}
 use Rattle.knifesilver.proofs.server.refusing.ks_server_refuse.Goals as goal
 
-as_it_is : (bytes : List ℕ) → is_asking bytes ≡ false → bytes ≡ refused bytes
-as_it_is bytes plain = sym (ap (λ b. if b then slice_set bytes 1 31 else bytes) plain)
-
-changed : (bytes copy : List ℕ) → is_asking bytes ≡ true → copy ≡ slice_set bytes 1 31 → copy ≡ refused bytes
-changed bytes copy asks is = is ∙ sym (ap (λ b. if b then slice_set bytes 1 31 else bytes) asks)
-
-pub returns-then-not-is_asking-clause-led : goal.returns-then-not-is_asking-clause-led
-returns-then-not-is_asking-clause-led c answered =
+pub returns-then-answer-eq-DONE-clause-led : goal.returns-then-answer-eq-DONE-clause-led
+returns-then-answer-eq-DONE-clause-led c = λ _.
     let given = c.args in
-    let fed = c.ks_server_feed in
-    let same = as_it_is given.datagram.now (sym c.is_asking.ensures ∙ c.if-not-is_asking.true) in
-    subst (λ bytes. Made (IsFeed given.now (record { ip = given.from.now.ip; port = given.from.now.port }) bytes given.word)
-    given.handle.now.held fed.new.handle.held) same
-    (fed.ensures.led (subst IsAnswered (to_z-of_z {w = w32} {z = fed.result} (record { sfits = fed.type_inv })) answered))
+    let there : Endpoint = record { ip = given.from.now.ip; port = given.from.now.port } in
+    let done = c.ks_server_refuse_by-answer in
+    let same = to_z-of_z {w = w32} {z = done.result} (record { sfits = done.type_inv }) in
+    let is : done.result ≡ pos 1 = sym same ∙ ap (λ n. to_z w32 n) c.if-answer-eq-DONE.true in (
+      refl,
+      true,
+      subst (λ (n : ℤ). Made (IsRefuse given.now there given.datagram.now given.word 133 n) given.handle.now.held
+          done.new.handle.held) is (done.ensures.led (subst IsAnswered (sym is) tt)),
+      done.ensures.noted is,
+    )
 
-pub returns-in-Ok-clause-led : goal.returns-in-Ok-clause-led
-returns-in-Ok-clause-led c answered =
+pub returns-else-answer-eq-DONE-clause-led : goal.returns-else-answer-eq-DONE-clause-led
+returns-else-answer-eq-DONE-clause-led c = λ told.
     let given = c.args in
-    let fed = c.ks_server_feed-in-Ok in
-    let same = changed given.datagram.now c.as_slice.result.now (sym c.is_asking.ensures ∙ c.if-not-is_asking.false)
-    (c.as_slice.ensures.value ∙ c.in-Ok.ensures) in
-    subst (λ bytes. Made (IsFeed given.now (record { ip = given.from.now.ip; port = given.from.now.port }) bytes given.word)
-    given.handle.now.held fed.new.handle.held) same
-    (fed.ensures.led (subst IsAnswered (to_z-of_z {w = w32} {z = fed.result} (record { sfits = fed.type_inv })) answered))
-
-pub returns-then-not-is_asking-clause-noted : goal.returns-then-not-is_asking-clause-noted
-returns-then-not-is_asking-clause-noted c answered =
-    let given = c.args in
-    let fed = c.ks_server_feed in
-    let same = as_it_is given.datagram.now (sym c.is_asking.ensures ∙ c.if-not-is_asking.true) in
-    subst (λ bytes. IsNoted (Feed given.now (record { ip = given.from.now.ip; port = given.from.now.port }) bytes given.word)
-    given.now given.handle.now.held fed.new.handle.held) same
-    (fed.ensures.noted (subst IsAnswered (to_z-of_z {w = w32} {z = fed.result} (record { sfits = fed.type_inv })) answered))
-
-pub returns-in-Ok-clause-noted : goal.returns-in-Ok-clause-noted
-returns-in-Ok-clause-noted c answered =
-    let given = c.args in
-    let fed = c.ks_server_feed-in-Ok in
-    let same = changed given.datagram.now c.as_slice.result.now (sym c.is_asking.ensures ∙ c.if-not-is_asking.false)
-    (c.as_slice.ensures.value ∙ c.in-Ok.ensures) in
-    subst (λ bytes. IsNoted (Feed given.now (record { ip = given.from.now.ip; port = given.from.now.port }) bytes given.word)
-    given.now given.handle.now.held fed.new.handle.held) same
-    (fed.ensures.noted (subst IsAnswered (to_z-of_z {w = w32} {z = fed.result} (record { sfits = fed.type_inv })) answered))
+    let there : Endpoint = record { ip = given.from.now.ip; port = given.from.now.port } in
+    let done = c.ks_server_refuse_by-answer in
+    let same = to_z-of_z {w = w32} {z = done.result} (record { sfits = done.type_inv }) in
+    let answered : IsAnswered done.result = subst IsAnswered same told in
+    let zero : done.result ≡ pos 0 =
+    either (λ is. is) (λ is. absurd (c.if-answer-eq-DONE.false (ap (λ z. of_z w32 z) is))) (done.ensures.tells answered) in (
+      same ∙ zero,
+      false,
+      subst (λ (n : ℤ). Made (IsRefuse given.now there given.datagram.now given.word 133 n) given.handle.now.held
+          done.new.handle.held) zero (done.ensures.led answered),
+      done.ensures.fed zero,
+    )

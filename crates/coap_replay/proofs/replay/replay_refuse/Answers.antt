@@ -1,0 +1,15 @@
+use Rattle.std.proofs.Common.{ap, sym, List, ℕ, ◌∷◌, ◌∙◌}
+use Rattle.coap_journal.specs.Input.{Refuse}
+use Rattle.coap_replay.proofs.RefusedTakes.{refused_takes}
+use Rattle.coap_replay.proofs.replay.replay_refuse.Goals as goal
+
+pub returns-then-refused-clause-done : goal.returns-then-refused-clause-done
+returns-then-refused-clause-done g c =
+    let s = c.in_ok-refused.ensures.step in
+    let fed = c.in-Some.fed in
+    let number = c.in-Some.number in (
+      Refuse fed.now.0 fed.from fed.bytes.now fed.word number,
+      ap (λ (xs : List ℕ). 10 ∷ xs) c.in-Some.ensures.some,
+      refused_takes _ _ fed.now.0 fed.from fed.bytes.now fed.word _ number s.0 s.1 s.2 s.3
+          (sym c.if-refused.true ∙ s.4) c.in-Some-of.ensures.1 s.5,
+    )
