@@ -1,6 +1,6 @@
 -- What the datagrams of a legal run are: each that comes from an end's address was given out by that end, for the one
 -- that it comes to, at most 100,000 ms before.
-use Rattle.std.specs.Prelude.{◌≡◌, ◌≤◌, ℕ, ◌+◌, List}
+use Rattle.std.specs.Prelude.{◌≡◌, ◌≤◌, ℕ, ◌+◌, Option, Some, None, List}
 use Rattle.coap_types.specs.declared.endpoint.Endpoint.{Endpoint}
 use Rattle.coap_record.specs.Legal.{max_delivery}
 use Rattle.coap_record.specs.Record.{Given, Entry, OfClient, OfServer, Turn, given_in}
@@ -15,11 +15,16 @@ pub record GaveOut (from to : Endpoint) (bytes : List ℕ) (when : ℕ) (g : Giv
   pub early : g.at ≤ when
   pub young : when ≤ g.at + max_delivery
 
--- the server, and the client, is fed these bytes from there
+-- the datagram that arrives in a call of the server, and where it comes from
+abbrev pub arrives : S.Call → Option (Endpoint × List ℕ)
+arrives (S.Feeds now from bytes word up came h below) = Some (from, bytes)
+arrives (S.Refuses now from bytes word code up p response below) = Some (from, bytes)
+arrives c = None
+
+-- these bytes arrive at the server, and at the client, from there
 abbrev pub FedToServer : Endpoint → List ℕ → Entry → Type 0
 FedToServer from bytes (OfClient c) = ⊥
-FedToServer from bytes (OfServer c) = (now : _) × (word : _) × (up : _) × (came : _) × (h : _) × (below : _)
-    × (c ≡ S.Feeds now from bytes word up came h below)
+FedToServer from bytes (OfServer c) = arrives c ≡ Some (from, bytes)
 
 abbrev pub FedToClient : Endpoint → List ℕ → Entry → Type 0
 FedToClient from bytes (OfClient c) =

@@ -6,7 +6,8 @@ use Rattle.coap_layer.specs.Trace.{Packet}
 use Rattle.coap_layer.specs.declared.setup.Setup.{Setup}
 use Rattle.coap_resource.specs.Limits.{Limits}
 use Rattle.coap_server.specs.Led.{Led, State, Step}
-use Rattle.coap_server.specs.Trace.{Call, Delays, Feeds, Gets, NextOut, Plains, Removes, Sets, TellsApplied, Ticks}
+use Rattle.coap_server.specs.Trace.{Call, Delays, Feeds, Gets, NextOut, Plains, Refuses, Removes, Sets, TellsApplied}
+use Rattle.coap_server.specs.Trace.{Ticks}
 use Rattle.coap_server.proofs.Facts.EachCall.{led_further}
 use Rattle.coap_journal.specs.Input.{Delay, Feed, Input, Plain, Remove, Set, Tick}
 use Rattle.coap_journal.specs.Records.{Begun, Record, Turn, Woke}
@@ -31,6 +32,7 @@ some_is (Removes now path answer left) input e = refl
 some_is (Delays path ms answer) input e = refl
 some_is (Plains path answer) input e = refl
 some_is (Feeds now from bytes word up came h below) input e = refl
+some_is (Refuses now from bytes word code up p response below) input e = refl
 some_is (Ticks now word below room due passed h id answer) input e = refl
 some_is (NextOut answer) input e = absurd cc
 some_is (Gets path answer) input e = refl

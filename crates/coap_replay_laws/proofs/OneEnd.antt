@@ -19,9 +19,9 @@ use Rattle.coap_server.specs.Follows.Exact.{IsExact, LeaveAlike}
 use Rattle.coap_server.specs.Law.{ServerLaw, lower_of, own_of}
 use Rattle.coap_server.specs.Led.{Led, State, Step, state_left}
 use Rattle.coap_server.specs.Trace.{Call, Delays, Feeds, Gets, Handling, NextOut, Own, Plains, Removes, Sets}
-use Rattle.coap_server.specs.Trace.{TellsApplied, Ticks}
+use Rattle.coap_server.specs.Trace.{Refuses, TellsApplied, Ticks}
 use Rattle.coap_server.proofs.Facts.EachCall.{led_further, led_lawful}
-use Rattle.coap_journal.specs.Input.{Input, Feed, Tick, Set, Remove, Delay, Plain}
+use Rattle.coap_journal.specs.Input.{Input, Feed, Refuse, Tick, Set, Remove, Delay, Plain}
 use Rattle.coap_journal.specs.Records.{Begun, Record, Turn, Woke}
 use Rattle.coap_replay.specs.Replaying.{GivesOut, Replays, Takes, TakesAll, Turned, input_of}
 use Rattle.coap_replay_laws.proofs.Leading.{gives_leads, turn_leads}
@@ -53,6 +53,12 @@ feeds_same : (now : ℕ) (from : Endpoint) (bytes : List ℕ) (word : ℕ) (now'
     → Some (Feed now from bytes word) ≡ Some (Feed now' from' bytes' word')
     → Feeds now' from' bytes' word' up came h below ≡ Feeds now from bytes word up came h below
 feeds_same now from bytes word now' from' bytes' word' up came h below e = cc
+
+refuses_same : (now : ℕ) (from : Endpoint) (bytes : List ℕ) (word code now' : ℕ) (from' : Endpoint) (bytes' : List ℕ)
+    (word' code' : ℕ) (up : L2.Answer) (p : Asked × Message) (response : Option ℕ) (below : L2.Answer)
+    → Some (Refuse now from bytes word code) ≡ Some (Refuse now' from' bytes' word' code')
+    → Refuses now' from' bytes' word' code' up p response below ≡ Refuses now from bytes word code up p response below
+refuses_same now from bytes word code now' from' bytes' word' code' up p response below e = cc
 
 ticks_same : (now : ℕ) (word : ℕ) (now' : ℕ) (word' : ℕ) (below : L2.Answer) (room : Bool) (due : Due) (passed : ℕ)
     (h : Handling) (id : ℕ) (answer : Bool) → Some (Tick now word) ≡ Some (Tick now' word')
@@ -118,6 +124,9 @@ module _ (limits : Limits) (szx : ℕ) (setup : Setup)
       by (Sets now path format body answer left) (NextOut answer') e s law lawful = absurd cc
       by (Sets now path format body answer left) (Gets path' answer') e s law lawful = absurd cc
       by (Sets now path format body answer left) (TellsApplied answer') e s law lawful = absurd cc
+      by (Sets now path format body answer left)
+          (Refuses now' from' bytes' word' code' up' p' response' below') e s law lawful =
+          absurd cc
       by (Removes now path answer left) (Sets now' path' format' body' answer' left') e s law lawful = absurd cc
       by (Removes now path answer left) (Removes now' path' answer' left') e s law lawful =
           let same : (Removes now' path' answer' left') ≡ (Removes now path answer' left') = removes_same now path now'
@@ -135,6 +144,8 @@ module _ (limits : Limits) (szx : ℕ) (setup : Setup)
       by (Removes now path answer left) (NextOut answer') e s law lawful = absurd cc
       by (Removes now path answer left) (Gets path' answer') e s law lawful = absurd cc
       by (Removes now path answer left) (TellsApplied answer') e s law lawful = absurd cc
+      by (Removes now path answer left) (Refuses now' from' bytes' word' code' up' p' response' below') e s law lawful =
+          absurd cc
       by (Delays path ms answer) (Sets now' path' format' body' answer' left') e s law lawful = absurd cc
       by (Delays path ms answer) (Removes now' path' answer' left') e s law lawful = absurd cc
       by (Delays path ms answer) (Delays path' ms' answer') e s law lawful =
@@ -149,6 +160,8 @@ module _ (limits : Limits) (szx : ℕ) (setup : Setup)
       by (Delays path ms answer) (NextOut answer') e s law lawful = absurd cc
       by (Delays path ms answer) (Gets path' answer') e s law lawful = absurd cc
       by (Delays path ms answer) (TellsApplied answer') e s law lawful = absurd cc
+      by (Delays path ms answer) (Refuses now' from' bytes' word' code' up' p' response' below') e s law lawful =
+          absurd cc
       by (Plains path answer) (Sets now' path' format' body' answer' left') e s law lawful = absurd cc
       by (Plains path answer) (Removes now' path' answer' left') e s law lawful = absurd cc
       by (Plains path answer) (Delays path' ms' answer') e s law lawful = absurd cc
@@ -163,6 +176,8 @@ module _ (limits : Limits) (szx : ℕ) (setup : Setup)
       by (Plains path answer) (NextOut answer') e s law lawful = absurd cc
       by (Plains path answer) (Gets path' answer') e s law lawful = absurd cc
       by (Plains path answer) (TellsApplied answer') e s law lawful = absurd cc
+      by (Plains path answer) (Refuses now' from' bytes' word' code' up' p' response' below') e s law lawful =
+          absurd cc
       by (Feeds now from bytes word up came h below) (Sets now' path' format' body' answer' left') e s law lawful
           = absurd cc
       by (Feeds now from bytes word up came h below) (Removes now' path' answer' left') e s law lawful = absurd cc
@@ -183,6 +198,9 @@ module _ (limits : Limits) (szx : ℕ) (setup : Setup)
       by (Feeds now from bytes word up came h below) (NextOut answer') e s law lawful = absurd cc
       by (Feeds now from bytes word up came h below) (Gets path' answer') e s law lawful = absurd cc
       by (Feeds now from bytes word up came h below) (TellsApplied answer') e s law lawful = absurd cc
+      by (Feeds now from bytes word up came h below)
+          (Refuses now' from' bytes' word' code' up' p' response' below') e s law lawful =
+          absurd cc
       by (Ticks now word below room due passed h id answer) (Sets now' path' format' body' answer' left') e s law lawful
           = absurd cc
       by (Ticks now word below room due passed h id answer) (Removes now' path' answer' left') e s law lawful = absurd
@@ -204,6 +222,40 @@ module _ (limits : Limits) (szx : ℕ) (setup : Setup)
       by (Ticks now word below room due passed h id answer) (NextOut answer') e s law lawful = absurd cc
       by (Ticks now word below room due passed h id answer) (Gets path' answer') e s law lawful = absurd cc
       by (Ticks now word below room due passed h id answer) (TellsApplied answer') e s law lawful = absurd cc
+      by (Ticks now word below room due passed h id answer)
+          (Refuses now' from' bytes' word' code' up' p' response' below') e s law lawful =
+          absurd cc
+      by (Refuses now from bytes word code up p response below)
+          (Sets now' path' format' body' answer' left') e s law lawful =
+          absurd cc
+      by (Refuses now from bytes word code up p response below) (Removes now' path' answer' left') e s law lawful =
+          absurd cc
+      by (Refuses now from bytes word code up p response below) (Delays path' ms' answer') e s law lawful =
+          absurd cc
+      by (Refuses now from bytes word code up p response below) (Plains path' answer') e s law lawful =
+          absurd cc
+      by (Refuses now from bytes word code up p response below)
+          (Feeds now' from' bytes' word' up' came' h' below') e s law lawful =
+          absurd cc
+      by (Refuses now from bytes word code up p response below)
+          (Ticks now' word' below' room' due' passed' h' id' answer') e s law lawful =
+          absurd cc
+      by (Refuses now from bytes word code up p response below) (NextOut answer') e s law lawful =
+          absurd cc
+      by (Refuses now from bytes word code up p response below) (Gets path' answer') e s law lawful =
+          absurd cc
+      by (Refuses now from bytes word code up p response below) (TellsApplied answer') e s law lawful =
+          absurd cc
+      by (Refuses now from bytes word code up p response below)
+          (Refuses now' from' bytes' word' code' up' p' response' below') e s law lawful =
+          let same : (Refuses now' from' bytes' word' code' up' p' response' below')
+          ≡ (Refuses now from bytes word code up' p' response' below') =
+          refuses_same now from bytes word code now' from' bytes' word' code' up' p' response' below' e in
+          let one = (exact past).refuses now from bytes word code up up' (Some p) (Some p') response response' below
+          below' law (subst (λ (x : Call). ServerLaw limits szx setup (x ∷ past)) same lawful) in
+          one_left past (Refuses now from bytes word code up p response below)
+          (Refuses now from bytes word code up' p' response' below') one.3
+          ∙ ap (λ (x : Call). state_left limits szx setup (x ∷ past)) (sym same)
       by (NextOut answer) d e s law lawful = absurd s
       by (Gets path answer) d e s law lawful = absurd s
       by (TellsApplied answer) d e s law lawful = absurd s

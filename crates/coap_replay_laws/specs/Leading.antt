@@ -4,7 +4,8 @@ use Rattle.coap_layer.specs.Trace.{Packet}
 use Rattle.coap_layer.specs.declared.setup.Setup.{Setup}
 use Rattle.coap_resource.specs.Limits.{Limits}
 use Rattle.coap_server.specs.Led.{Led, State}
-use Rattle.coap_server.specs.Trace.{Call, Delays, Feeds, Gets, NextOut, Plains, Removes, Sets, TellsApplied, Ticks}
+use Rattle.coap_server.specs.Trace.{Call, Delays, Feeds, Gets, NextOut, Plains, Refuses, Removes, Sets, TellsApplied}
+use Rattle.coap_server.specs.Trace.{Ticks}
 use Rattle.coap_journal.specs.Input.{Input}
 use Rattle.coap_journal.specs.Records.{Begun, Record, Turn, Woke}
 use Rattle.coap_replay.specs.Replaying.{input_of}
@@ -16,6 +17,7 @@ given_by (Removes now path answer left) = None
 given_by (Delays path ms answer) = None
 given_by (Plains path answer) = None
 given_by (Feeds now from bytes word up came h below) = None
+given_by (Refuses now from bytes word code up p response below) = None
 given_by (Ticks now word below room due passed h id answer) = None
 given_by (NextOut answer) = answer
 given_by (Gets path answer) = None

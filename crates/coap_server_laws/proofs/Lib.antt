@@ -9,3 +9,4 @@ pub mod Rest
 pub mod Serving
 pub mod Telling
 pub mod Witness
+pub mod Silence

@@ -11,3 +11,4 @@ pub mod ServedWasHandedUp
 pub mod TimesHanded
 pub mod WaitsByDelay
 pub mod UnknownIsRefused
+pub mod RefusedIsNotServed

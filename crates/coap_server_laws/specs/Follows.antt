@@ -17,10 +17,12 @@ pub mod Outs
 pub mod Reads
 pub mod Recognised
 pub mod Refusals
+pub mod Refuses
 pub mod Registered
 pub mod Rejects
 pub mod SentAs
 pub mod Shows
+pub mod Silent
 pub mod Table
 pub mod Tokens
 pub mod Told

@@ -13,6 +13,7 @@ ghost use Rattle.coap_server_laws.specs.Follows.Marks.{AllMark, StayDue};
 ghost use Rattle.coap_server_laws.specs.Follows.Registered.{AllRegister};
 ghost use Rattle.coap_server_laws.specs.Follows.Recognised.{AllRecognised, BodiesShort};
 ghost use Rattle.coap_server_laws.specs.Follows.Refusals.{NeverServed, RefusesUnknown};
+ghost use Rattle.coap_server_laws.specs.Follows.Refuses.{AllRefused};
 ghost use Rattle.coap_server_laws.specs.Follows.Rejects.{RejectsSo};
 ghost use Rattle.coap_server_laws.specs.Follows.SentAs.{AllSentSo};
 ghost use Rattle.coap_server.specs.Follows.Exact.{IsExact};
@@ -40,6 +41,7 @@ ghost use Rattle.coap_server.specs.Follows.Observes.{AreObservers, EndsObservati
 ghost use Rattle.coap_server.specs.Follows.Observes.{EndsOnRequest, EndsSo};
 ghost use Rattle.coap_server_laws.specs.Follows.Outs.{GivesInOrder};
 ghost use Rattle.coap_server_laws.specs.Follows.Shows.{NoticesShow, ShowsHeld};
+ghost use Rattle.coap_server_laws.specs.Follows.Silent.{ForgetsTheSilent, StaysSilent};
 ghost use Rattle.coap_server_laws.specs.Follows.Tokens.{ShortTokens};
 ghost use Rattle.coap_server_laws.specs.Follows.Table.{AllMethods, AllUploads, VerdictsAsk};
 ghost use Rattle.coap_server.specs.Follows.Tells.{Follows};
@@ -232,14 +234,27 @@ pub fn server_must_law()
     ensures begins { ServerHolds AllBeginNext }
 {}
 
-/// What is refused at a server: a request of a method that there is none of, and so each datagram that is fed as one.
+/// What is refused at a server: a request that it is to refuse, and one of a method that there is none of, and so each
+/// datagram that is fed as one.
 pub fn refusal_law()
+    // A request that a server is to refuse is answered with an error in that call, or ignored; it is not served, now or
+    // later, and the store, the uploads and the observers are as they were (RFC 7252, sections 5.4.1 and 5.9).
+    ensures refused { ServerHolds (λ limits szx _ t. AllRefused limits szx t) }
     // A request whose code is that of no method is ignored, or answered with an error; it is not served, now or later,
     // and nothing is changed (RFC 7252, sections 5.8 and 5.9.2).
     ensures unknown { ServerHolds (λ limits szx _ t. Always (RefusesUnknown limits szx) t) }
     // So is each datagram that is fed with 0.31 as its code, where it had that of a request: it never changes what a
     // path holds.
     ensures never { ServerHolds (λ limits szx _ t. Always (NeverServed limits szx) t) }
+{}
+
+/// What a server doesn't do of itself.
+pub fn silence_law()
+    // A server that knows nothing of a peer gives out no datagram to it, until one arrives from there (RFC 7252, 5).
+    ensures silent { (limits : Limits) (szx : ℕ) (setup : Setup) (t : List Call) → StaysSilent limits szx setup t }
+    // Of a peer from which no datagram has come for EXCHANGE_LIFETIME it remembers none (RFC 7252, section 4.5).
+    ensures forgotten { (limits : Limits) (szx : ℕ) (setup : Setup) (t : List Call)
+        → ForgetsTheSilent limits szx setup t }
 {}
 
 /// Histories that stand in that law, with their bytes.

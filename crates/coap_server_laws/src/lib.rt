@@ -3,4 +3,4 @@
 
 mod laws;
 
-pub use laws::{refusal_law, server_law, server_must_law, server_runs};
+pub use laws::{refusal_law, server_law, server_must_law, server_runs, silence_law};

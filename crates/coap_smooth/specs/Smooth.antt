@@ -111,6 +111,7 @@ to_client c = None
 
 abbrev pub to_server : S.Call → Option ℕ
 to_server (S.Feeds now from bytes word up came h below) = came_at now up
+to_server (S.Refuses now from bytes word code up p response below) = came_at now up
 to_server c = None
 
 -- from this moment on, for EXCHANGE_LIFETIME

@@ -15,6 +15,7 @@ use Rattle.coap_smooth.specs.Smooth.{max_age, ServerRests}
 -- hands nothing in
 abbrev pub IsNoFeed : S.Call → Type 0
 IsNoFeed (S.Feeds now from bytes word up came h below) = ⊥
+IsNoFeed (S.Refuses now from bytes word code up p response below) = ⊥
 IsNoFeed c = Unit {0}
 
 module _ (config : Config) where

@@ -6,6 +6,7 @@ pub mod CameFrom
 pub mod HandedUpOnce
 pub mod HoldsChanges
 pub mod LastRequests
+pub mod NoneRefused
 pub mod OfACall
 pub mod OptionsKept
 pub mod Promised

@@ -25,7 +25,7 @@ use Rattle.coap_record.specs.Record.{IsNumber, ClientTick, ServerTick, Makes}
 use Rattle.coap_promise.proofs.Facts.Delivery.ClientInTime as client
 use Rattle.coap_promise.proofs.Facts.Delivery.ClientTurns as client_turns
 use Rattle.coap_promise.proofs.Facts.Delivery.GivenOutBefore.{one_call, tick_of, packet_is, server_call, client_call}
-use Rattle.coap_promise.proofs.Facts.Delivery.GivenOutBefore.{never_there}
+use Rattle.coap_promise.proofs.Facts.Delivery.GivenOutBefore.{arrives_so, same_bytes, same_source, never_there}
 use Rattle.coap_promise.proofs.Facts.Delivery.GivenOutBefore.{never_here}
 use Rattle.coap_promise.proofs.Facts.Delivery.HopsAreEntries.{begins_silent, near_is, far_is}
 use Rattle.coap_promise.proofs.Facts.Delivery.SentByTheLayer.{found_in, sent_still, begins_by, client_down, server_down}
@@ -60,19 +60,22 @@ module _ (addresses : Addresses) (c : Clocks) (past : List Turn) (at word : ℕ)
       → Ever (FedToServer addresses.client bytes) entries → Ever (GaveOut addresses.client addresses.server bytes)
       (all_of (given_in addresses) past)
   to_server (Sets path format body) m may h = let k =
-      one_call _ _ refused m.0 m.1 (server_call addresses.client bytes m.0 entries m.2 h) in absurd (cc (k.1.2, k.2.6))
+      one_call _ _ refused m.0 m.1 (server_call addresses.client bytes m.0 entries m.2 h) in
+      absurd (cc (arrives_so k.1.2 k.2))
   to_server (Removes path) m may h = let k =
-      one_call _ _ false m.0 m.1.0 (server_call addresses.client bytes m.0 entries m.2 h) in absurd (cc (k.1.2, k.2.6))
+      one_call _ _ false m.0 m.1.0 (server_call addresses.client bytes m.0 entries m.2 h) in
+      absurd (cc (arrives_so k.1.2 k.2))
   to_server TickServer m may h = let k = tick_of (ServerTick at word) _ refused m.0 m.1
-      (server_call addresses.client bytes m.0 entries m.2 h) in absurd (cc (k.2.6, k.3.6))
+      (server_call addresses.client bytes m.0 entries m.2 h) in absurd (cc (arrives_so k.2.6 k.3))
   to_server (StrangerToServer from b) m may h =
       let k = one_call _ _ refused m.0 m.1 (server_call addresses.client bytes m.0 entries m.2 h) in
-      let same : from ≡ addresses.client = cc (k.1.4, k.2.6) in
+      let same : from ≡ addresses.client = same_source _ _ _ _ (arrives_so k.1.4 k.2) in
       absurd (may.0 same)
   to_server (Deliver number) m may h = elim m.2 [
     | inl d ↦ (let k = one_call _ _ refused d.1 d.2 (server_call addresses.client bytes d.1 entries d.3 h) in
-        gave addresses past number m.0 m.1 addresses.client addresses.server bytes (cc (k.1.4, k.2.6)) d.0
-        (cc (k.1.4, k.2.6)))
+        gave addresses past number m.0 m.1 addresses.client addresses.server bytes
+        (same_source _ _ _ _ (arrives_so k.1.4 k.2)) d.0
+        (same_bytes _ _ _ _ (arrives_so k.1.4 k.2)))
     | inr d ↦ absurd (never_there addresses.client bytes d.1 entries d.3 h)
   ]
   to_server _ m may h = absurd (never_there addresses.client bytes m.0 entries m.2 h)

@@ -18,7 +18,8 @@ use Rattle.coap_promise.proofs.Facts.Delivery.BothEnds.{client_side, server_side
 use Rattle.coap_promise.proofs.Facts.Delivery.End.{taken_out}
 use Rattle.coap_promise.proofs.Facts.Delivery.GivenOutBefore.{number_unique, one_call, tick_of, packet_is, server_call}
 use Rattle.coap_promise.proofs.Facts.Delivery.GivenOutBefore.{client_call}
-use Rattle.coap_promise.proofs.Facts.Delivery.GivenOutBefore.{never_there, never_here}
+use Rattle.coap_promise.proofs.Facts.Delivery.GivenOutBefore.{arrives_so, same_bytes, same_source, never_there}
+use Rattle.coap_promise.proofs.Facts.Delivery.GivenOutBefore.{never_here}
 use Rattle.coap_promise.proofs.Facts.Delivery.OneEndATurn.{ClientTurn, ServerTurn, each_one, each_tick}
 use Rattle.coap_promise.proofs.Facts.Delivery.ClientInTime as client
 use Rattle.coap_promise.proofs.Facts.Delivery.ClientTurns as client_turns
@@ -228,19 +229,20 @@ module _ (config : Config) (two : config.addresses.client ≡ config.addresses.s
         (all_of (given_in config.addresses) past)
     to_server (Sets path format body) m may h = let k =
         one_call _ _ refused m.0 m.1 (server_call config.addresses.client bytes m.0 entries m.2 h) in absurd
-        (cc (k.1.2, k.2.6))
+        (cc (arrives_so k.1.2 k.2))
     to_server (Removes path) m may h = let k =
         one_call _ _ false m.0 m.1.0 (server_call config.addresses.client bytes m.0 entries m.2 h) in absurd
-        (cc (k.1.2, k.2.6))
+        (cc (arrives_so k.1.2 k.2))
     to_server TickServer m may h = let k = tick_of (ServerTick at word) _ refused m.0 m.1
-        (server_call config.addresses.client bytes m.0 entries m.2 h) in absurd (cc (k.2.6, k.3.6))
+        (server_call config.addresses.client bytes m.0 entries m.2 h) in absurd (cc (arrives_so k.2.6 k.3))
     to_server (StrangerToServer from b) m may h =
         let k = one_call _ _ refused m.0 m.1 (server_call config.addresses.client bytes m.0 entries m.2 h) in
-        let same : from ≡ config.addresses.client = cc (k.1.4, k.2.6) in
+        let same : from ≡ config.addresses.client = same_source _ _ _ _ (arrives_so k.1.4 k.2) in
         absurd (may.0 same)
     to_server (Deliver number) m may h = elim m.2 [
       | inl d ↦ (let k = one_call _ _ refused d.1 d.2 (server_call config.addresses.client bytes d.1 entries d.3 h) in
-          client_gave past made legal at number may m.0 m.1 bytes (cc (k.1.4, k.2.6)) d.0 (cc (k.1.4, k.2.6)))
+          client_gave past made legal at number may m.0 m.1 bytes (same_source _ _ _ _ (arrives_so k.1.4 k.2)) d.0
+          (same_bytes _ _ _ _ (arrives_so k.1.4 k.2)))
       | inr d ↦ absurd (never_there config.addresses.client bytes d.1 entries d.3 h)
     ]
     to_server _ m may h = absurd (never_there config.addresses.client bytes m.0 entries m.2 h)

@@ -27,7 +27,8 @@ use Rattle.coap_promise.proofs.Facts.Requests.LastRequests.{Final}
 use Rattle.coap_promise.proofs.Facts.Requests.OfACall.{Lawful, lawful_back, later_back, Known, known, one_sending}
 use Rattle.coap_promise.proofs.Reports.Codes.{applied_by, reply_right}
 use Rattle.coap_promise.proofs.Facts.Reports.HandedOnce.{counted_in}
-use Rattle.coap_promise.proofs.Facts.Reports.Located.{LaterAll, SentAll, Origin, TakesIn, brought_served, server_later}
+use Rattle.coap_promise.proofs.Facts.Reports.Located.{HandsIn, LaterAll, SentAll, Origin, TakesIn, brought_served}
+use Rattle.coap_promise.proofs.Facts.Reports.Located.{server_later}
 
 module _ (config : Config) (number : ℕ) (all : List Entry) (small : config.client_sizes.szx ≤ 6)
     (whole : Lawful config all)
@@ -94,6 +95,7 @@ module _ (config : Config) (number : ℕ) (all : List Entry) (small : config.cli
     pub verdict : Verdict
     pub final : Final verdict
     pub comes : Comes request.asked verdict
+    pub handed : Sometime (HandsIn request.asked) (server_trace config t)
     pub took : (p : _) (b : _) → verdict ≡ Uploads p b → Sometime (TakesIn config request.asked) (server_trace config t)
     pub served : Sometime (λ past c. serving (own_of config.limits config.server_szx past) c ≡ Some request)
         (server_trace config t)
@@ -114,6 +116,7 @@ module _ (config : Config) (number : ℕ) (all : List Entry) (small : config.cli
         verdict = b.verdict;
         final = b.final;
         comes = b.origin;
+        handed = b.handed;
         took = b.took;
         served = inl a.here;
         right = sym (reply_right a.request.old table.0 a.request.question a.request.reply a.request.left table.1)
@@ -136,6 +139,7 @@ module _ (config : Config) (number : ℕ) (all : List Entry) (small : config.cli
         verdict = k.verdict;
         final = k.final;
         comes = k.comes;
+        handed = server_later config (HandsIn k.request.asked) e w k.handed;
         took = λ p b is. server_later config (TakesIn config k.request.asked) e w (k.took p b is);
         served = server_later config (λ past c. serving (own_of config.limits config.server_szx past) c
             ≡ Some k.request)

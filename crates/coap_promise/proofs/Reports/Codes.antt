@@ -25,6 +25,7 @@ use Rattle.coap_client.specs.Trace as C
 use Rattle.coap_server_laws.specs.Follows.Gives.{refusal_in, NoticeOf}
 use Rattle.coap_server.specs.Checks.{bad_request}
 use Rattle.coap_server.specs.Serving.{is_applied}
+use Rattle.coap_server.specs.Steps.{IsRight}
 use Rattle.coap_server.specs.Trace as S
 use Rattle.coap_client_laws.proofs.Facts.EachCall.{apart}
 use Rattle.coap_server_laws.proofs.Facts.EachCall.{refusals_are_errors}
@@ -149,12 +150,13 @@ module _ (old : Content) (at : ℕ) (q : Question) (reply : Reply) (left : Conte
   reply_right h = unless_right (precondition_fails (old.holds q.path) q.options) h
 
 -- no refusal says success
-pub refusal_none : (s : S.Own) (c : S.Call) (code : ℕ) → refusal_in s c ≡ Some code → is_applied code ≡ false
-refusal_none s c code is = all_apart (apart code created (λ e. omega (arith, h, e)))
+pub refusal_none : (s : S.Own) (c : S.Call) → IsRight s c → (code : ℕ) → refusal_in s c ≡ Some code
+    → is_applied code ≡ false
+refusal_none s c right code is = all_apart (apart code created (λ e. omega (arith, h, e)))
     (apart code deleted (λ e. omega (arith, h, e))) (apart code changed (λ e. omega (arith, h, e)))
   where
     h : bad_request ≤ code
-    h = refusals_are_errors s c code is
+    h = refusals_are_errors s c right code is
 
     all_apart : (code == created) ≡ false → (code == deleted) ≡ false → (code == changed) ≡ false
         → is_applied code ≡ false

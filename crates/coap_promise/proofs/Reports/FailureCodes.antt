@@ -1,4 +1,5 @@
--- What the codes 4.04 and 4.12 say: of a reply of the store, of a notification, and that no refusal says them.
+-- What the codes 4.04 and 4.12 say: of a reply of the store, of a notification, and that no refusal says them, save of
+-- a request that the server is to refuse.
 use Rattle.std.proofs.Common.{◌≡◌, ℕ, ◌==◌, nat_le, nat_lt, Bool, true, false, ◌&&◌, ◌||◌, not, Option, Some, None}
 use Rattle.std.proofs.Common.{List, length, refl, ap, sym, ◌∙◌, cond, arith}
 use Rattle.std.proofs.lemmas.Bool.{and_parts}
@@ -36,6 +37,7 @@ use Rattle.coap_exchange.specs.declared.answerer.Asked.{Asked}
 use Rattle.coap_server.specs.Checks.{Verdict, Ignored, Refused, Asks, Uploads, verdict_on, bad_by, asked_by, uploading}
 use Rattle.coap_server.specs.Checks.{question, asks, is_reserved, bad_request, proxying_not_supported}
 use Rattle.coap_server_laws.specs.Follows.Gives.{NoticeOf, refusal_by, refusal_of, refusal_in}
+use Rattle.coap_server.specs.Follows.Serves.{refuses}
 use Rattle.coap_server.specs.Trace as S
 use Rattle.coap_server.specs.Uploads.{ruling_of}
 
@@ -223,15 +225,16 @@ of_verdict uploads at a (Refused code) h = h
 of_verdict uploads at a (Asks q) h = refl
 of_verdict uploads at a (Uploads q b) h = block_none (ruling_of uploads at a q b)
 
-in_call : (s : S.Own) (c : S.Call) → said_none (refusal_in s c) ≡ true
-in_call s (S.Feeds now from bytes word up (Some p) h below) =
+in_call : (s : S.Own) (c : S.Call) → refuses c ≡ None → said_none (refusal_in s c) ≡ true
+in_call s (S.Feeds now from bytes word up (Some p) h below) taken =
     of_verdict s.uploads _ p.0 (verdict_on s.szx p.1) (verdict_none s.szx p.1)
-in_call s _ = refl
+in_call s (S.Refuses now from bytes word code up p response below) taken = absurd (cc taken)
+in_call s _ taken = refl
 
-pub refusal_says_none : (s : S.Own) (c : S.Call) (code : ℕ) → refusal_in s c ≡ Some code
+pub refusal_says_none : (s : S.Own) (c : S.Call) → refuses c ≡ None → (code : ℕ) → refusal_in s c ≡ Some code
     → (code ≡ not_found → ⊥) × (code ≡ failed → ⊥)
-refusal_says_none s c code is =
-    let none : says_none code ≡ true = sym (ap said_none is) ∙ in_call s c in (
+refusal_says_none s c taken code is =
+    let none : says_none code ≡ true = sym (ap said_none is) ∙ in_call s c taken in (
       λ e. (let k : false ≡ true = sym (ap says_none e) ∙ none in cc k),
       λ e. (let k : false ≡ true = sym (ap says_none e) ∙ none in cc k),
     )

@@ -107,7 +107,7 @@ module _ (config : Config) where
     named_here (replies x here r) = by_reply x here r
     named_here (continues x size taken more asks r) = absurd (no_code codes.CONTINUE.0 r.code refl)
     named_here (refuses a v n comes handed unserved refusal r) =
-        absurd (no_code n r.code (refused_not n (refusals_are_errors own c n refusal)))
+        absurd (no_code n r.code (refused_not n (refusals_are_errors own c law.server.rows.0 n refusal)))
     named_here (notifies o reply here made notice r) = absurd (told_not o reply (own.store.holds o.path) notice r)
 
   pub named_in : (m : Message) → m.code ≡ valid → lacks_critical Response m.options ≡ false → (w : List Entry)

@@ -258,7 +258,8 @@ module _ (config : Config) (clocks : Clocks) (all : List Entry) (small : config.
           absurd ((server_facts.continues config.limits config.server_szx config.server_setup
           (server_trace config (OfServer c ∷ past)) p.law.server).0 s here (sym is.code ∙ code))
       zero_by m token code past c p (refuses a v k comes handed unserved why is) =
-          absurd (refusal_not (own_of config.limits config.server_szx (server_trace config past)) c k why
+          absurd (refusal_not (own_of config.limits config.server_szx (server_trace config past)) c
+          p.law.server.rows.0 k why
           (sym is.code ∙ code))
       zero_by m token code past c p (notifies o reply here made shows is) =
           absurd (notice_not o.szx ((own_of config.limits config.server_szx (server_trace config past)).store.holds

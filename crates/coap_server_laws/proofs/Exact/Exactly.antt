@@ -18,6 +18,8 @@ use Rattle.coap_exchange.specs.AnswererLaw.{ResponseLaw}
 use Rattle.coap_exchange.proofs.Facts.ServerSide.{exact}
 use Rattle.coap_server.specs.Trace.{Own, Handling, Replies, Serves, Notifies, Call}
 use Rattle.coap_server.specs.Trace.{Feeds}
+use Rattle.coap_server.specs.Responses.{bare}
+use Rattle.coap_server.specs.Refusing.{refused_or_fed, refusing}
 use Rattle.coap_server.specs.Trace.{Ticks}
 use Rattle.coap_server.specs.Serving.{response_to}
 use Rattle.coap_server.specs.Deferring.{deferral, question_of}
@@ -29,7 +31,8 @@ use Rattle.coap_server.specs.Notifying.{notified}
 use Rattle.coap_observe.specs.Observers.{Observer}
 use Rattle.coap_resource.specs.Content.{Held}
 use Rattle.coap_server.proofs.Facts.Observing.Outcomes.{never_notifies_ready}
-use Rattle.coap_server.specs.Steps.{came_after, due_after, exchanges_after, handled, observers_due, ready_in}
+use Rattle.coap_server.specs.Steps.{came_after, refused_after, due_after, exchanges_after, handled, observers_due}
+use Rattle.coap_server.specs.Steps.{ready_in}
 use Rattle.coap_server.specs.Steps.{waiting_due}
 use Rattle.coap_server.specs.Law.{own_of, lower_of, ServerLaw}
 use Rattle.coap_server.specs.Follows.Exact.{fed, turned, LeaveAlike, IsExact}
@@ -53,6 +56,13 @@ module _ (setup : Setup) (s : Own) where
         ((exact setup ((deferral s a.0 u ++ first ∷ []) ++ calls)).answers a.0
         (response_to s.store s.observers a.0 u reply) below beyond p q)
     answering_alike _ _ below beyond p q = refl
+
+    pub refusing_alike : (p : Asked × Message) (response : Option ℕ) (below beyond : L.Answer)
+        → LawOf (refusing p.0 response below) → LawOf (refusing p.0 response beyond)
+        → refusing p.0 response below ≡ refusing p.0 response beyond
+    refusing_alike p None below beyond x y = refl
+    refusing_alike p (Some n) below beyond x y =
+        ap (λ z. E.Answers p.0 (bare n) z ∷ []) ((exact setup (first ∷ calls)).answers p.0 (bare n) below beyond x y)
 
   -- a turn
   module _ (w : ℕ) (below : L.Answer) (calls : List E.Call) where
@@ -233,6 +243,63 @@ module _ (limits : Limits) (szx : ℕ) (setup : Setup) (past : List Call) where
       (subst (λ z. FedAlike now from bytes w up came h below beyond up came z) handled r)) in
       (e.0, e.1, handled, f.0, f.1)
 
+  -- of equal refusals: the same comes, and where that is a request, it is answered alike
+  module _ (now : ℕ) (from : Endpoint) (bytes : List ℕ) (w code : ℕ) where
+    abbrev at : ℕ
+    at = max own.clock now
+
+    abbrev OfRefusal : L.Answer → Option (Asked × Message) → Option ℕ → L.Answer → Type 0
+    OfRefusal up came response below = Law (refused_or_fed now from bytes w code up came response below)
+
+    came_first : (up : L.Answer) (came : Option (Asked × Message)) (response : Option ℕ) (below : L.Answer)
+        → OfRefusal up came response below → ResponseLaw setup (E.Incoming at from bytes up came ∷ calls)
+    came_first up None response below p = p.exchanges
+    came_first up (Some a) response below p =
+        let first : E.Call = E.Incoming at from bytes up (Some a) in
+        let asks : List E.Call = refusing a.0 response below in
+        back setup asks (first ∷ calls) (subst (ResponseLaw setup) (joined asks first calls) p.exchanges)
+
+    said_alike : (up : L.Answer) (a : Asked × Message) (response another : Option ℕ) (below beyond : L.Answer)
+        → OfRefusal up (Some a) response below → OfRefusal up (Some a) another beyond → response ≡ another
+    said_alike up a response another below beyond p q = p.rows.0.is ∙ sym q.rows.0.is
+
+    left_alike_so : (up : L.Answer) (came : Option (Asked × Message)) (response another : Option ℕ)
+        (below beyond : L.Answer) → OfRefusal up came response below → OfRefusal up came another beyond
+        → ((a : Asked × Message) → came ≡ Some a → response ≡ another)
+        × Alike (refused_or_fed now from bytes w code up came response below)
+        (refused_or_fed now from bytes w code up came another beyond)
+    left_alike_so up None response another below beyond p q =
+        (λ a e. absurd (cc e), record { own = refl; beneath = refl })
+    left_alike_so up (Some a) response another below beyond p q =
+        let first : E.Call = E.Incoming at from bytes up (Some a) in
+        let said = said_alike up a response another below beyond p q in
+        let same : OfRefusal up (Some a) response beyond = subst (λ o. OfRefusal up (Some a) o beyond) (sym said) q in
+        let asks = refusing_alike setup own first calls a response below beyond p.exchanges same.exchanges in
+        let all = asks ∙ ap (λ o. refusing a.0 o beyond) said in (
+          λ b e. said,
+          record {
+            own = ap (λ z. refused_after own now first z) all;
+            beneath = ap (λ z. W.lower_of ((z ++ first ∷ []) ++ calls)) all;
+          },
+        )
+
+    refused_alike : (up other : L.Answer) (came come : Option (Asked × Message)) (response another : Option ℕ)
+        (below beyond : L.Answer) → OfRefusal up came response below → OfRefusal other come another beyond
+        → (up ≡ other) × (came ≡ come) × ((a : Asked × Message) → came ≡ Some a → response ≡ another)
+        × Alike (refused_or_fed now from bytes w code up came response below)
+        (refused_or_fed now from bytes w code other come another beyond)
+    refused_alike up other came come response another below beyond p q =
+        let e = (exact setup calls).incoming at from bytes up other came come
+        (came_first up came response below p) (came_first other come another beyond q) in
+        let same : OfRefusal up came another beyond = subst (λ z. OfRefusal z came another beyond) (sym e.0)
+        (subst (λ z. OfRefusal other z another beyond) (sym e.1) q) in
+        let k = left_alike_so up came response another below beyond p same in
+        let alike = subst (λ z. Alike (refused_or_fed now from bytes w code up came response below)
+        (refused_or_fed now from bytes w code z come another beyond)) e.0
+        (subst (λ z. Alike (refused_or_fed now from bytes w code up came response below)
+        (refused_or_fed now from bytes w code up z another beyond)) e.1 k.1) in
+        (e.0, e.1, k.0, alike)
+
   -- of equal turns
   module _ (now w : ℕ) (below : L.Answer) (room space : Bool) (d : Due) (passed skipped : ℕ) (h k : Handling)
       (id number : ℕ) (answer another : Bool) where
@@ -303,6 +370,7 @@ module _ (limits : Limits) (szx : ℕ) (setup : Setup) (past : List Call) where
     delays = λ path ms answer another p q. p.rows.0 ∙ sym q.rows.0;
     plains = λ path answer another p q. p.rows.0 ∙ sym q.rows.0;
     feeds = heard_alike;
+    refuses = refused_alike;
     ticks = turns_alike;
     next_out = λ answer another p q. (exact setup calls).take answer another p.exchanges q.exchanges;
     gets = λ path answer another p q. p.rows.0 ∙ sym q.rows.0;

@@ -13,6 +13,7 @@ use Rattle.coap_exchange.specs.declared.separate.Separate.{Separate}
 use Rattle.coap_exchange.specs.AnswererTrace as E
 use Rattle.coap_exchange.specs.AnswererSteps.{separate_after, separate_unless, reset_by, failed_by, may_defer}
 use Rattle.coap_server.specs.Trace.{Own, Handling, Silent, Replies, Serves, Waits, Notifies, Call}
+use Rattle.coap_server.specs.Refusing.{refusing}
 use Rattle.coap_server.specs.Deferring.{deferral, deferral_by, delay_for}
 use Rattle.coap_server.specs.Notifying.{readies}
 use Rattle.coap_server.specs.Asks.{answering, notifies_by}
@@ -76,6 +77,10 @@ module _ (x : Telling) where
 
     deferral_later : (s : Own) (a : Asked) (q : Question) → Later (deferral s a q)
     deferral_later s a q = deferring_later (delay_for a.kind q.path s.delays) (may_defer s.exchanges.deferred) s.clock a
+
+    pub refusing_later : (a : Asked) (response : Option ℕ) (below : L.Answer) → Later (refusing a response below)
+    refusing_later a None below = tt
+    refusing_later a (Some code) below = (tt, tt)
 
     pub readies_later : (at n : ℕ) (os : List Observer) → Later (readies at n os)
     readies_later at n [] = tt

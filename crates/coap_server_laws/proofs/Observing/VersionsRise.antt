@@ -1,6 +1,6 @@
 -- What is told under one registration follows on: the versions rise, and each CON was acknowledged.
 use Rattle.std.proofs.Common.{◌≡◌, ◌⊎◌, inl, inr, ℕ, max, Bool, true, false, Option, Some, None, List}
-use Rattle.std.proofs.Common.{[], ◌∷◌, ◌++◌, refl, ap, sym, ◌∙◌, cond}
+use Rattle.std.proofs.Common.{[], ◌∷◌, ◌++◌, refl, ap, sym, subst, ◌∙◌, cond}
 use Rattle.coap_types.specs.declared.endpoint.Endpoint.{Endpoint}
 use Rattle.coap_codec.specs.Message.{Message}
 use Rattle.coap_layer.specs.Trace as L
@@ -18,11 +18,12 @@ use Rattle.coap_exchange.specs.declared.answerer.Due.{Due}
 use Rattle.coap_exchange.specs.declared.answerer.Due.TheVariants as due
 use Rattle.coap_exchange.specs.declared.answerer.Ended.{Ended}
 use Rattle.coap_exchange.specs.AnswererTrace as E
-use Rattle.coap_exchange.specs.AnswererSteps.{reset_by, failed_by, unmatched_by}
+use Rattle.coap_exchange.specs.AnswererSteps as P
+use Rattle.coap_exchange.specs.AnswererSteps.{reset_by, failed_by, separate_after, unmatched_by}
 use Rattle.coap_exchange.specs.AnswererTrace.{Sending}
 use Rattle.coap_server.specs.Trace.{Own, Handling, Silent, Replies, Serves, Waits, Notifies, Call}
 use Rattle.coap_server.specs.Trace.{Sets}
-use Rattle.coap_server.specs.Trace.{Removes, Feeds, Ticks}
+use Rattle.coap_server.specs.Trace.{Removes, Feeds, Refuses, Ticks}
 use Rattle.coap_server.specs.Serving.{observers_served}
 use Rattle.coap_server.specs.Observers.{observes, registers, observers_with, marked_if, unless_ended, unless_rejected}
 use Rattle.coap_server.specs.Notifying.{marked, readies, notification, notified}
@@ -30,7 +31,8 @@ use Rattle.coap_server.specs.Handling.{incoming, ticking, heard}
 use Rattle.coap_server.specs.Asks.{answering, responding}
 use Rattle.coap_server.specs.Plain.{by_plain}
 use Rattle.coap_server.specs.Steps.{exchanges_after}
-use Rattle.coap_server.specs.Law.{ServerLaw, own_of}
+use Rattle.coap_server.specs.Law.{ServerLaw, lower_of, own_of}
+use Rattle.coap_server.specs.Refusing.{refusing}
 use Rattle.coap_server.specs.Follows.Tells.{Pair, Telling, registering}
 use Rattle.coap_server.specs.Follows.Tells.{NoneMade, registers_by}
 use Rattle.coap_server.proofs.Facts.Observing.StoreChanges.{served_effect, sets_effect, removes_effect}
@@ -42,10 +44,13 @@ use Rattle.coap_server_laws.proofs.Observing.LivesOn.{Lives, LivesAt, turned}
 use Rattle.coap_server_laws.proofs.Observing.Flights.{E1, FlightOf, flight_fed, flight_ticked, flight_later}
 use Rattle.coap_server_laws.proofs.Observing.Flights.{flight_more}
 use Rattle.coap_server_laws.proofs.Observing.Flights.{Later, answering_later, notifies_later, readies_later}
+use Rattle.coap_server_laws.proofs.Observing.Flights.{refusing_later}
 use Rattle.coap_server.proofs.Facts.Observing.Outcomes.{Came, came, nobody, ignored, replied, served, waits, Turned}
 use Rattle.coap_server.proofs.Facts.Observing.Outcomes.{copied}
 use Rattle.coap_server.proofs.Facts.Observing.Outcomes.{expired, lost, responded, rests, noticed, turned as turned_by}
 use Rattle.coap_server.proofs.Facts.Serving.Brought.{server_back}
+use Rattle.coap_server.proofs.Facts.Exact.FirstRow.{first_row}
+use Rattle.coap_server_laws.proofs.Replying.Replies.{came_by}
 
 abbrev own : Limits → ℕ → List Call → Own
 own limits szx t = own_of limits szx t
@@ -264,6 +269,19 @@ module _ (x : Telling) where
     step t after (Feeds now from bytes w up c h below) law none l =
         fed_step t after now from bytes w up below c h
         (came (heard (own limits szx t) now (incoming (own limits szx t) now from bytes up c)) c h law.rows.0) none l
+    step t after (Refuses now from bytes w code up p response below) law none l =
+        let s : Own = own limits szx t in
+        let first : E.Call = incoming s now from bytes up (Some p) in
+        let asks : List E.Call = refusing p.0 response below in
+        let c : Call = Refuses now from bytes w code up p response below in
+        let row = first_row setup asks first (lower_of limits szx t) law.exchanges in
+        let same : separate_after from up s.exchanges.separate ≡ s.exchanges.separate =
+        ap (λ u. separate_after from u s.exchanges.separate) (came_by from up p.0 p.1 row).up_is in
+        map_lives s.store s.observers
+        (λ f. flight_later x x.way (P.after s.exchanges first) asks (c ∷ after)
+        (λ id. refusing_later x id p.0 response below)
+        (subst (λ xs. FlightOf x x.way xs (c ∷ after)) (sym same)
+        (flight_more x x.way s.exchanges.separate after c f))) l
     step t after (Ticks now w below room d passed h id answer) law none l =
         tick_step t after now w below room passed id answer d h
         (turned_by (heard (own limits szx t) now (ticking (own limits szx t) now below room d)) passed d h law.rows.0.0)

@@ -28,7 +28,7 @@ use Rattle.coap_exchange.specs.AnswererLaw as W
 use Rattle.coap_exchange.specs.AnswererLaw.{ResponseLaw}
 use Rattle.coap_server.specs.Trace.{Own, Handling, Silent, Replies, Serves, Waits, Notifies, Call}
 use Rattle.coap_server.specs.Trace.{Sets}
-use Rattle.coap_server.specs.Trace.{Removes, Feeds, Ticks}
+use Rattle.coap_server.specs.Trace.{Removes, Feeds, Refuses, Ticks}
 use Rattle.coap_server.specs.Responses.{bare}
 use Rattle.coap_server.specs.Checks.{Verdict, Ignored, Refused, Asks, Uploads, verdict_on}
 use Rattle.coap_server.specs.Uploads.{ruling_of, whole, continuing, last_block}
@@ -41,6 +41,8 @@ use Rattle.coap_server.specs.Local.{SetsBy, RemovesBy}
 use Rattle.coap_server.specs.Handling.{heard, HandlesBlock, Handles, HandlesCame, HandlesDue, is_done}
 use Rattle.coap_server.specs.Asks.{answering, responding}
 use Rattle.coap_server.specs.Law.{ServerLaw, own_of, lower_of}
+use Rattle.coap_server.specs.Refusing.{is_error, refusal, refused_or_fed}
+use Rattle.coap_server.proofs.Facts.Refusing.ErrorsRespond.{refusal_says}
 use Rattle.coap_server_laws.specs.Follows.GoesOn.{GoesOn}
 use Rattle.coap_server.specs.Follows.Waits.{deferred_as}
 use Rattle.coap_server_laws.proofs.Progress.AnswererGoing.{Takes, takes, answers, defers, responds}
@@ -263,6 +265,48 @@ module _ (limits : Limits) (szx : ℕ) (setup : Setup) (t : List Call) (law : Se
         let h = handled r.0 r.1 r.2 in
         (r.0, r.1, h.0, h.1, record { rows = (h.2, law.rows); exchanges = h.3 })
 
+    -- .. and one whose request is refused
+    module _ (w code : ℕ) (error : is_error code ≡ true) where
+      abbrev Refusal : Type 0
+      Refusal =
+          (up : L.Answer) × (came : Option (Asked × Message)) × (response : Option ℕ) × (below : L.Answer)
+          × ServerLaw limits szx setup (refused_or_fed now from bytes w code up came response below ∷ t)
+
+      answered : (up : L.Answer) (p : Asked × Message)
+          → Receives setup under law.exchanges at from bytes late up (Some p) → (response : Option ℕ)
+          → response ≡ refusal code p.1 → Refusal
+      answered up p r None is = (
+        up,
+        Some p,
+        None,
+        L.Nothing,
+        record {
+          rows = (record { error = error; is = is }, law.rows);
+          exchanges = r.law_of;
+        },
+      )
+      answered up p r (Some n) is =
+          let can = r.takes_it p refl in
+          let e = refusal_says code p.1 error n (sym is) in
+          let least = e.least in
+          let most = e.most in
+          let good = bare_response p.0.token n can.short e.responds (omega (arith, least)) (omega (arith, most)) in
+          let a = answers setup (came_first up (Some p) ∷ under) r.law_of p.0 (bare n) refl good can in (
+            up,
+            Some p,
+            Some n,
+            a.0,
+            record { rows = (record { error = error; is = is }, law.rows); exchanges = a.1 },
+          )
+
+      refused : (up : L.Answer) (came : Option (Asked × Message))
+          → Receives setup under law.exchanges at from bytes late up came → Refusal
+      refused up None r = (up, None, None, L.Nothing, record { rows = (refl, law.rows); exchanges = r.law_of })
+      refused up (Some p) r = answered up p r (refusal code p.1) refl
+
+      refuses_on : Refusal
+      refuses_on = let r = receives setup under law.exchanges at from bytes late in refused r.0 r.1 r.2
+
   -- time passes
   module _ (now w : ℕ) where
     abbrev moment : ℕ
@@ -379,6 +423,7 @@ module _ (limits : Limits) (szx : ℕ) (setup : Setup) (t : List Call) (law : Se
     delays = λ path ms. (may_delay path mine.delays, record { rows = (refl, law.rows); exchanges = law.exchanges });
     plains = λ path. (may_be_plain path mine.plains, record { rows = (refl, law.rows); exchanges = law.exchanges });
     feeds = λ now from bytes w. feeds_on now from bytes w;
+    refuses = λ now from bytes w code error. refuses_on now from bytes w code error;
     ticks = ticks_on;
     next_out = let k = takes setup under law.exchanges in (k.0, record { rows = (tt, law.rows); exchanges = k.1 });
     gets = λ path. (mine.store.holds path, record { rows = (refl, law.rows); exchanges = law.exchanges });

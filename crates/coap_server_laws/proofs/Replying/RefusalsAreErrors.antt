@@ -22,11 +22,13 @@ use Rattle.coap_block.specs.declared.block_verdict.BlockVerdict.TheVariants.{Ref
 use Rattle.coap_resource.specs.RequestOptions.{block_said}
 use Rattle.coap_resource.specs.Serves.{Question}
 use Rattle.coap_exchange.specs.declared.answerer.Asked.{Asked}
-use Rattle.coap_server.specs.Trace.{Own, Call, Feeds}
+use Rattle.coap_server.specs.Trace.{Own, Call, Feeds, Refuses}
 use Rattle.coap_server.specs.Checks.{Verdict, Ignored, Refused, Asks, Uploads, verdict_on, bad_by}
 use Rattle.coap_server.specs.Checks.{asked_by, uploading, question, asks, is_reserved, bad_request}
 use Rattle.coap_server.specs.Checks.{proxying_not_supported}
 use Rattle.coap_server.specs.Uploads.{ruling_of}
+use Rattle.coap_server.specs.Steps.{IsRight}
+use Rattle.coap_server.proofs.Facts.Refusing.ErrorsRespond.{response_says}
 use Rattle.coap_server_laws.specs.Follows.Gives.{refusal_by, refusal_of, refusal_in}
 use Rattle.coap_exchange.proofs.Facts.Comparisons.{lt_not}
 
@@ -91,11 +93,11 @@ pub refused_with : (szx : ℕ) (m : Message) (uploads : AssemblyState) (at : ℕ
 refused_with szx m uploads at a code is = at_least (refusal_of uploads at a (verdict_on szx m)) code
     (refusal_not uploads at a (verdict_on szx m) (verdict_not szx m)) is
 
--- .. and a call does
-in_call : (s : Own) (c : Call) → is_below (refusal_in s c) ≡ false
-in_call s (Feeds now from bytes word up (Some p) h below) =
-    refusal_not s.uploads _ p.0 (verdict_on s.szx p.1) (verdict_not s.szx p.1)
-in_call s _ = refl
-
-pub refusals_are_errors : (s : Own) (c : Call) (code : ℕ) → refusal_in s c ≡ Some code → bad_request ≤ code
-refusals_are_errors s c code is = at_least (refusal_in s c) code (in_call s c) is
+-- .. and where a call refuses
+pub refusals_are_errors : (s : Own) (c : Call) → IsRight s c → (code : ℕ) → refusal_in s c ≡ Some code
+    → bad_request ≤ code
+refusals_are_errors s (Feeds now from bytes word up (Some p) h below) right code is =
+    refused_with s.szx p.1 s.uploads _ p.0 code is
+refusals_are_errors s (Refuses now from bytes word n up p response below) right code is =
+    (response_says n p.1 response right code is).least
+refusals_are_errors s _ right code is = absurd (cc is)

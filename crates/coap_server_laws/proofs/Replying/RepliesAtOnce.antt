@@ -1,6 +1,6 @@
 -- Each reply of a server's message layer is given at once, also where a deferral was refused before.
-use Rattle.std.proofs.Common.{◌≡◌, ℕ, zero, suc, Bool, true, false, Option, Some, None, List, [], ◌∷◌, ◌++◌, refl}
-use Rattle.std.proofs.Common.{ap, sym, subst}
+use Rattle.std.proofs.Common.{◌≡◌, ℕ, zero, suc, max, Bool, true, false, Option, Some, None, List, [], ◌∷◌, ◌++◌}
+use Rattle.std.proofs.Common.{refl, ap, sym, subst}
 use Rattle.coap_types.specs.declared.endpoint.Endpoint.{Endpoint}
 use Rattle.coap_types.specs.declared.message.Kind.{Kind}
 use Rattle.coap_types.specs.declared.message.Kind.TheVariants.{Con, Ack}
@@ -25,8 +25,9 @@ use Rattle.coap_exchange.specs.AnswererLaw as W
 use Rattle.coap_exchange.specs.AskerRequests.{asked}
 use Rattle.coap_server.specs.Trace.{Own, Handling, Silent, Replies, Serves, Waits, Notifies, Call}
 use Rattle.coap_server.specs.Trace.{Sets}
-use Rattle.coap_server.specs.Trace.{Removes, Delays, Plains, Feeds, Ticks, NextOut, Gets, TellsApplied}
+use Rattle.coap_server.specs.Trace.{Removes, Delays, Plains, Feeds, Refuses, Ticks, NextOut, Gets, TellsApplied}
 use Rattle.coap_server.specs.Serving.{response_to}
+use Rattle.coap_server.specs.Responses.{bare}
 use Rattle.coap_server.specs.Deferring.{delay_for, deferral_by}
 use Rattle.coap_server.specs.Notifying.{marked, notification, readies}
 use Rattle.coap_server.specs.Handling.{incoming, ticking, heard}
@@ -184,6 +185,14 @@ module _ (limits : Limits) (szx : ℕ) (setup : Setup) where
           let s : Own = own_of limits szx t in
           fed setup (lower_of limits szx t) so (heard s now (incoming s now from bytes up came)) from bytes up came h
           below law.exchanges.rows (law.exchanges.left, law.exchanges.layer)
+      here (Refuses now from bytes w code up p None below) law so =
+          N.incoming setup (lower_of limits szx t) so (max (own_of limits szx t).clock now) from bytes up (Some p)
+          (law.exchanges.left, law.exchanges.layer)
+      here (Refuses now from bytes w code up p (Some n) below) law so =
+          let first : E.Call = incoming (own_of limits szx t) now from bytes up (Some p) in
+          N.answered setup (lower_of limits szx t) so (max (own_of limits szx t).clock now) from bytes up p (bare n)
+          below law.exchanges.rows (one_back setup (E.Answers p.0 (bare n) below) (first ∷ lower_of limits szx t)
+          (law.exchanges.left, law.exchanges.layer))
       here (Ticks now w below room d passed h id answer) law so =
           let s : Own = own_of limits szx t in
           let first : E.Call = ticking s now below room d in

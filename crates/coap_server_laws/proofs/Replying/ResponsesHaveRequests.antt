@@ -26,7 +26,7 @@ use Rattle.coap_exchange.specs.AnswererTrace as E
 use Rattle.coap_exchange.specs.AnswererLaw as W
 use Rattle.coap_exchange.proofs.Facts.ServerSide.{layer_stands}
 use Rattle.coap_server.specs.Trace.{Own, Handling, Replies, Serves, Waits, Call}
-use Rattle.coap_server.specs.Trace.{Feeds, Ticks, NextOut}
+use Rattle.coap_server.specs.Trace.{Feeds, Refuses, Ticks, NextOut}
 use Rattle.coap_server.specs.Responses.{bare, response_with}
 use Rattle.coap_server.specs.Checks.{Verdict, Ignored, Refused, Asks, Uploads, verdict_on}
 use Rattle.coap_server.specs.Checks.{bad_request}
@@ -42,13 +42,13 @@ use Rattle.coap_server.specs.Follows.Takes.{took, took_by, taken_by}
 use Rattle.coap_server_laws.specs.Follows.Gives.{Carries, refusal_by, refusal_of, size_by, size_of}
 use Rattle.coap_server_laws.specs.Follows.Gives.{NoticeOf}
 use Rattle.coap_server_laws.specs.Follows.Gives.{CarriesResponse, SentResponses, SendsResponses}
-use Rattle.coap_server.proofs.Facts.Serving.Brought.{server_back, comes_here}
+use Rattle.coap_server.proofs.Facts.Serving.Brought.{server_back, comes_here, comes_refused}
 use Rattle.coap_server_laws.proofs.Serving.ServedWasHandedUp.{joins_more}
 use Rattle.coap_server.proofs.Facts.Observing.ObserversWereMade.{notified_made}
 use Rattle.coap_server.proofs.Facts.Observing.Outcomes.{Turned, turned, copied, expired, lost, responded, rests}
 use Rattle.coap_server.proofs.Facts.Observing.Outcomes.{noticed}
 use Rattle.coap_server_laws.proofs.Replying.LayerSendsResponses.{called, CarriesIn, made}
-use Rattle.coap_server_laws.proofs.Replying.RefusalsAreErrors.{refused_with}
+use Rattle.coap_server_laws.proofs.Replying.RefusalsAreErrors.{refused_with, refusals_are_errors}
 use Rattle.coap_server_laws.proofs.Replying.Sources.{Source}
 use Rattle.coap_server_laws.proofs.Facts.Sources.{sourced}
 use Rattle.coap_server.specs.Asks.{notifies_by}
@@ -250,6 +250,22 @@ module _ (limits : Limits) (szx : ℕ) (setup : Setup) (p : L.Packet) where
     pub here : (c : Call) → ServerLaw limits szx setup (c ∷ t) → In (lower (own t) c)
         → CarriesResponse limits szx setup p t c
     here (Feeds now from bytes w up came h below) law k = fed now from bytes w up came h below law k
+    here (Refuses now from bytes w code up p None below) law k = absurd (came_none now from bytes up (Some p) k)
+    here (Refuses now from bytes w code up p (Some n) below) law (inr k) =
+        absurd (came_none now from bytes up (Some p) k)
+    here (Refuses now from bytes w code up p (Some n) below) law (inl k) =
+        let c : Call = Refuses now from bytes w code up p (Some n) below in
+        inr (inr (inl (record {
+          asked = p.0;
+          verdict = verdict_on szx p.1;
+          code = n;
+          comes = comes_refused limits szx setup t now from bytes w code up p (Some n) below law;
+          handed = refl;
+          unserved = refl;
+          refuses = refl;
+          not_continue = not_continue n (refusals_are_errors (own t) c law.rows.0 n refl);
+          carries = k;
+        })))
     here (Ticks now w below room d passed h id answer) law k =
         ticked now w below room d passed h id answer
         (turned (heard (own t) now (ticking (own t) now below room d)) passed d h law.rows.0.0) k

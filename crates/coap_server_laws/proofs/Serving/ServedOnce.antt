@@ -13,7 +13,8 @@ use Rattle.coap_exchange.specs.AnswererFollows as F
 use Rattle.coap_exchange.specs.AnswererFollows.{hits, same_asked}
 use Rattle.coap_exchange.specs.AnswererSteps.{asked_in}
 use Rattle.coap_server.specs.Trace.{Own, Handling, Replies, Serves, Waits, Notifies, Call}
-use Rattle.coap_server.specs.Trace.{Feeds, Ticks}
+use Rattle.coap_server.specs.Refusing.{refusing}
+use Rattle.coap_server.specs.Trace.{Feeds, Refuses, Ticks}
 use Rattle.coap_observe.specs.Observers.{Observer}
 use Rattle.coap_resource.specs.Serves.{Question}
 use Rattle.coap_resource.specs.Limits.{Limits}
@@ -68,6 +69,16 @@ answering_handed a s (Some p) (Serves q reply left) below rest = let k =
 answering_handed a s (Some p) (Waits q d) below rest = (deferred_handed a s p.0 q rest).0
 answering_handed a s _ _ below rest = refl
 
+refusing_handed : (a b : Asked) (response : Option ℕ) (below : L.Answer) (rest : List E.Call)
+    → H a (refusing b response below ++ rest) ≡ H a rest
+refusing_handed a b None below rest = refl
+refusing_handed a b (Some code) below rest = omega arith
+
+refusing_served : (a b : Asked) (response : Option ℕ) (below : L.Answer) (rest : List E.Call)
+    → A a rest ≤ A a (refusing b response below ++ rest)
+refusing_served a b None below rest = omega arith
+refusing_served a b (Some code) below rest = omega arith
+
 responding_handed : (a : Asked) (s : Own) (d : Due) (passed : ℕ) (h : Handling) (word id : ℕ) (rest : List E.Call)
     → H a (responding s d passed h word id ++ rest) ≡ H a rest
 responding_handed a s due.Idle passed (Notifies o reply) word id rest =
@@ -115,6 +126,11 @@ module _ (limits : Limits) (szx : ℕ) where
       ap (H a) (joined (answering (heard s now first) came h below) first (lower_of limits szx t))
       ∙ (answering_handed a (heard s now first) came h below (first ∷ lower_of limits szx t)
       ∙ ap (λ n. hits (same_asked a) (asked_in came) + n) k)
+  handed_is a (Refuses now from bytes word code up p response below ∷ t) =
+      let first : E.Call = incoming (own_of limits szx t) now from bytes up (Some p) in
+      ap (H a) (joined (refusing p.0 response below) first (lower_of limits szx t))
+      ∙ (refusing_handed a p.0 response below (first ∷ lower_of limits szx t)
+      ∙ ap (λ n. hits (same_asked a) (Some p.0) + n) (handed_is a t))
   handed_is a (Ticks now word below room d passed h id answer ∷ t) =
       let s : Own = own_of limits szx t in
       let first : E.Call = ticking s now below room d in
@@ -134,6 +150,14 @@ module _ (limits : Limits) (szx : ℕ) where
       let e : A a (lower_of limits szx (Feeds now from bytes word up came h below ∷ t))
       ≡ A a (answering (heard s now first) came h below ++ first ∷ lower_of limits szx t)
       = ap (A a) (joined (answering (heard s now first) came h below) first (lower_of limits szx t)) in
+      omega (arith, k, m, e)
+  served_at_most a (Refuses now from bytes word code up p response below ∷ t) =
+      let first : E.Call = incoming (own_of limits szx t) now from bytes up (Some p) in
+      let k = served_at_most a t in
+      let m = refusing_served a p.0 response below (first ∷ lower_of limits szx t) in
+      let e : A a (lower_of limits szx (Refuses now from bytes word code up p response below ∷ t))
+      ≡ A a (refusing p.0 response below ++ first ∷ lower_of limits szx t)
+      = ap (A a) (joined (refusing p.0 response below) first (lower_of limits szx t)) in
       omega (arith, k, m, e)
   served_at_most a (Ticks now word below room d passed h id answer ∷ t) =
       let s : Own = own_of limits szx t in

@@ -29,7 +29,7 @@ use Rattle.coap_exchange.specs.AnswererSteps.{may_defer}
 use Rattle.std.proofs.lemmas.Bool.{and_parts}
 use Rattle.coap_layer.specs.declared.setup.Setup.{Setup}
 use Rattle.coap_server.specs.Trace.{Waiting, Own, Handling, Serves, Waits}
-use Rattle.coap_server.specs.Trace.{Call, Sets, Removes, Delays, Plains, Feeds, Ticks, NextOut, Gets}
+use Rattle.coap_server.specs.Trace.{Call, Sets, Removes, Delays, Plains, Feeds, Refuses, Ticks, NextOut, Gets}
 use Rattle.coap_server.specs.Trace.{TellsApplied}
 use Rattle.coap_server.specs.Checks.{Verdict, Ignored, Refused, Asks, Uploads, verdict_on}
 use Rattle.coap_server.specs.Uploads.{key_of, ruling_of, whole}
@@ -166,6 +166,8 @@ module _ (limits : Limits) (szx : ℕ) (setup : Setup) where
           verdict = v;
           comes = subst (Comes limits szx setup t call p.0) same
               (comes_here limits szx setup t now from bytes w up p h below law);
+          handed = refl;
+          taken = refl;
           asks = asks_by v q refl law.rows.0 e;
         }
 
@@ -263,6 +265,7 @@ module _ (limits : Limits) (szx : ℕ) (setup : Setup) where
       by (Plains path answer) law k = k
       by (Gets path answer) law k = k
       by (TellsApplied answer) law k = k
+      by (Refuses now from bytes w code up p response below) law k = k
       by (Feeds now from bytes w up came h below) law k = waits_fed t now from bytes w up came h below law k
       by (Ticks now w below room d passed h id answer) law k =
           waits_ticked (Ticks now w below room d passed h id answer ∷ t) (max (own t).clock now) d (own t).waiting k

@@ -24,7 +24,7 @@ use Rattle.coap_exchange.specs.AskerArrivals.{id_in, replying}
 use Rattle.coap_exchange.specs.Adds.{asked_by_server}
 use Rattle.coap_exchange.proofs.Facts.Adds.{left_append}
 use Rattle.coap_server.specs.Trace.{Own, Handling, Replies, Serves, Waits, Notifies, Call}
-use Rattle.coap_server.specs.Trace.{Feeds, Ticks, NextOut}
+use Rattle.coap_server.specs.Trace.{Feeds, Refuses, Ticks, NextOut}
 use Rattle.coap_server.specs.Asks.{answering, lower, responding}
 use Rattle.coap_server.specs.Deferring.{deferral, deferral_by, delay_for}
 use Rattle.coap_server.specs.Handling.{incoming, ticking, heard}
@@ -154,6 +154,8 @@ module _ (limits : Limits) (szx : ℕ) (setup : Setup) where
       let first : E.Call = incoming (own t) now from bytes up came in
       each_join (Asks at) (answering (heard (own t) now first) came h below) (first ∷ [])
       (answering_asks at (heard (own t) now first) came h below (omega arith)) (omega arith, tt)
+  call_asks_early t (Refuses now from bytes w code up p None below) = (omega arith, tt)
+  call_asks_early t (Refuses now from bytes w code up p (Some n) below) = (tt, (omega arith, tt))
   call_asks_early t (Ticks now w below room d passed h id answer) =
       let at : ℕ = max (own t).clock now in
       let first : E.Call = ticking (own t) now below room d in

@@ -26,7 +26,7 @@ use Rattle.coap_exchange.specs.AskerRequests.{asked}
 use Rattle.coap_exchange.specs.AskerArrivals.{id_in, replying}
 use Rattle.coap_exchange.specs.Adds.{asked_by_server}
 use Rattle.coap_server.specs.Trace.{Own, Handling, Serves, Waits, Notifies, Call}
-use Rattle.coap_server.specs.Trace.{Feeds}
+use Rattle.coap_server.specs.Trace.{Feeds, Refuses}
 use Rattle.coap_server.specs.Trace.{Ticks}
 use Rattle.coap_server.specs.Asks.{lower, answering, responding}
 use Rattle.coap_server.specs.Deferring.{deferral, deferral_by, delay_for}
@@ -171,6 +171,8 @@ few s (Feeds now from bytes word up came h below) =
     let first : E.Call = incoming s now from bytes up came in
     let cs : List E.Call = answering (heard s now first) came h below in
     let k = total_append cs (first ∷ []) in let z = few_answers (heard s now first) came h below in omega (arith, k, z)
+few s (Refuses now from bytes word code up p None below) = omega arith
+few s (Refuses now from bytes word code up p (Some n) below) = omega arith
 few s (Ticks now word below room d passed h id answer) =
     let first : E.Call = ticking s now below room d in
     let cs : List E.Call = responding (heard s now first) d passed h word id in

@@ -19,7 +19,8 @@ use Rattle.coap_exchange.specs.AnswererFollows.{responds}
 use Rattle.coap_exchange.specs.AnswererSteps.{may_defer}
 use Rattle.coap_exchange.specs.AnswererTrace as E
 use Rattle.coap_server.specs.Trace.{Own, Handling, Replies, Serves, Waits, Notifies, Call}
-use Rattle.coap_server.specs.Trace.{Feeds, Ticks, NextOut}
+use Rattle.coap_server.specs.Responses.{bare}
+use Rattle.coap_server.specs.Trace.{Feeds, Refuses, Ticks, NextOut}
 use Rattle.coap_server.specs.Asks.{lower}
 use Rattle.coap_server.specs.Checks.{verdict_on}
 use Rattle.coap_server.specs.Uploads.{key_of}
@@ -198,6 +199,11 @@ module _ (limits : Limits) (szx : ℕ) (setup : Setup) (t : List Call) (a : Aske
 
   here : (c : Call) → ServerLaw limits szx setup (c ∷ t) → In a r (lower own c) → Made c
   here (Feeds now from bytes w up came h below) law k = fed now from bytes w up came h below law k
+  here (Refuses now from bytes w code up p None below) law k = absurd (came_none now from bytes up (Some p) k)
+  here (Refuses now from bytes w code up p (Some n) below) law (inr k) = absurd (came_none now from bytes up (Some p) k)
+  here (Refuses now from bytes w code up p (Some n) below) law (inl k) =
+      let same = pair_of p.0 a (bare n) r k in
+      inr (inr (record { code = n; handed = ap Some same.0; unserved = refl; refuses = refl; is = sym same.1 }))
   here (Ticks now w below room d passed h id answer) law k = ticked now w below room d passed h id answer k
   here (NextOut answer) law k = absurd (last_none a r (E.Take answer) (λ z. cc z) k)
   here _ law k = absurd k

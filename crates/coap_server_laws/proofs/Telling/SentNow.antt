@@ -34,9 +34,9 @@ use Rattle.coap_exchange.specs.AnswererSteps.{may_defer}
 use Rattle.coap_exchange.specs.AnswererTrace as E
 use Rattle.coap_exchange.specs.SuccessCodes.{content}
 use Rattle.coap_server.specs.Trace.{Own, Handling, Replies, Serves, Waits, Notifies, Call}
-use Rattle.coap_server.specs.Trace.{Feeds}
+use Rattle.coap_server.specs.Trace.{Feeds, Refuses}
 use Rattle.coap_server.specs.Trace.{Ticks, NextOut}
-use Rattle.coap_server.specs.Responses.{response_with}
+use Rattle.coap_server.specs.Responses.{bare, response_with}
 use Rattle.coap_server.specs.Serving.{response_to}
 use Rattle.coap_server.specs.Checks.{Verdict, Ignored, Refused, Asks, Uploads, verdict_on}
 use Rattle.coap_server.specs.Uploads.{ruling_of, whole, last_block}
@@ -325,6 +325,8 @@ module _ (limits : Limits) (szx : ℕ) (setup : Setup) (t : List Call) where
       each_join (Means limits szx t (Feeds now from bytes w up came h below)) (answering
       (heard own now first) came h below)
       (first ∷ []) (fed now from bytes w up came h below law) (tt, tt)
+  mean (Refuses now from bytes w code up p None below) law = (tt, tt)
+  mean (Refuses now from bytes w code up p (Some n) below) law = ((λ x. silent _ (bare n) refl x), (tt, tt))
   mean (Ticks now w below room d passed h id answer) law =
       let first : E.Call = ticking own now below room d in
       each_join (Means limits szx t (Ticks now w below room d passed h id answer)) (responding

@@ -24,7 +24,7 @@ use Rattle.coap_exchange.specs.AnswererSteps as P
 use Rattle.coap_exchange.specs.AnswererSteps.{may_defer}
 use Rattle.coap_exchange.specs.AnswererTrace as E
 use Rattle.coap_server.specs.Trace.{Own, Handling, Replies, Serves, Waits, Notifies, Call}
-use Rattle.coap_server.specs.Trace.{Feeds, Ticks}
+use Rattle.coap_server.specs.Trace.{Feeds, Refuses, Ticks}
 use Rattle.coap_server.specs.Asks.{answering, responding, lower}
 use Rattle.coap_server.specs.Deferring.{deferral_by, delay_for}
 use Rattle.coap_server.specs.Handling.{incoming, ticking, heard}
@@ -194,6 +194,8 @@ module _ (limits : Limits) (szx : ℕ) (setup : Setup) (t : List Call) where
 
   handed_now : (c : Call) (a : Asked) → hands c ≡ Some a → Each Now (lower own c)
   handed_now (Feeds now from bytes w up came h below) a is = fed now from bytes w up came h below
+  handed_now (Refuses now from bytes w code up p None below) a is = (refl, tt)
+  handed_now (Refuses now from bytes w code up p (Some n) below) a is = (refl, (refl, tt))
   handed_now _ a is = absurd (cc is)
 
   tick_later : (c : Call) (now : ℕ) (answer : Bool) → IsTick now answer c → Each Later (lower own c)

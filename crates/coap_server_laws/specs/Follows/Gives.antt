@@ -24,7 +24,7 @@ use Rattle.coap_exchange.specs.declared.answerer.Asked.{Asked}
 use Rattle.coap_exchange.specs.AnswererTrace as E
 use Rattle.coap_exchange.specs.AnswererSteps.{content_with}
 pub use Rattle.coap_server_laws.specs.Follows.EmptyPackets.{IsEmpty}
-use Rattle.coap_server.specs.Trace.{Own, Call, Feeds}
+use Rattle.coap_server.specs.Trace.{Own, Call, Feeds, Refuses}
 use Rattle.coap_server.specs.Responses.{response_with}
 use Rattle.coap_server.specs.Responses as R
 use Rattle.coap_server.specs.Checks.{Verdict, Refused, Uploads, verdict_on}
@@ -46,7 +46,7 @@ pub record Carries (p : L.Packet) (to : Endpoint) (token : List ℕ) (r : E.Resp
   pub spells : Spells p.bytes (with_head kind id (content_with token r))
 
 -- The code with which a request is refused without the store: by the checks, or since the block of its upload is not
--- taken.
+-- taken; or by the call that hands it up.
 
 abbrev pub refusal_by : BlockVerdict → Option ℕ
 refusal_by (Refuse why) = Some (refusal_code why).0
@@ -60,6 +60,7 @@ refusal_of uploads at a _ = None
 abbrev pub refusal_in : Own → Call → Option ℕ
 refusal_in s (Feeds now from bytes word up (Some p) h below) =
     refusal_of s.uploads (max s.clock now) p.0 (verdict_on s.szx p.1)
+refusal_in s (Refuses now from bytes word code up p response below) = response
 refusal_in s _ = None
 
 -- the size that is asked for with 2.31, where the block is taken and there are more

@@ -1,6 +1,6 @@
 -- What stands in the law of a server goes on: each further call, whatever its arguments, has answers that stand in it
 -- too.
-use Rattle.std.specs.Prelude.{ℕ, Bool, Option, List, ◌∷◌, Result}
+use Rattle.std.specs.Prelude.{◌≡◌, ℕ, Bool, true, Option, List, ◌∷◌, Result}
 use Rattle.coap_types.specs.declared.endpoint.Endpoint.{Endpoint}
 use Rattle.coap_codec.specs.Message.{Message}
 use Rattle.coap_layer.specs.Trace as L
@@ -12,6 +12,7 @@ use Rattle.coap_exchange.specs.declared.answerer.Asked.{Asked}
 use Rattle.coap_exchange.specs.declared.answerer.Due.{Due}
 use Rattle.coap_server.specs.Trace.{Applied, Handling, Call, Sets, Removes, Delays, Feeds, Ticks}
 use Rattle.coap_server.specs.Trace.{NextOut, Gets, Plains, TellsApplied}
+use Rattle.coap_server.specs.Refusing.{is_error, refused_or_fed}
 use Rattle.coap_server.specs.Law.{ServerLaw}
 
 pub record GoesOn (limits : Limits) (szx : ℕ) (setup : Setup) (t : List Call) : Type 0 where
@@ -28,6 +29,10 @@ pub record GoesOn (limits : Limits) (szx : ℕ) (setup : Setup) (t : List Call) 
       (now : ℕ) (from : Endpoint) (bytes : List ℕ) (w : ℕ)
       → (up : L.Answer) × (came : Option (Asked × Message)) × (handling : Handling) × (below : L.Answer)
       × ServerLaw limits szx setup (Feeds now from bytes w up came handling below ∷ t)
+  pub refuses :
+      (now : ℕ) (from : Endpoint) (bytes : List ℕ) (w code : ℕ) → is_error code ≡ true
+      → (up : L.Answer) × (came : Option (Asked × Message)) × (response : Option ℕ) × (below : L.Answer)
+      × ServerLaw limits szx setup (refused_or_fed now from bytes w code up came response below ∷ t)
   pub ticks :
       (now w : ℕ)
       → (below : L.Answer) × (room : Bool) × (due : Due) × (passed : ℕ) × (handling : Handling) × (id : ℕ)

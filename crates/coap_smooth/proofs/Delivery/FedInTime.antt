@@ -9,7 +9,7 @@ use Rattle.coap_types.proofs.Facts.Traces.{Sometime_back, Ever_of_Sometime}
 use Rattle.coap_layer.specs.Trace.{Packet}
 use Rattle.coap_client.specs.Trace as C
 use Rattle.coap_server.specs.Trace as S
-use Rattle.coap_promise.specs.Delivery.{FedToServer, FedToClient}
+use Rattle.coap_promise.specs.Delivery.{FedToServer, FedToClient, arrives}
 use Rattle.coap_record.specs.Events.{Config, Deliver}
 use Rattle.coap_record.specs.Legal.{AllLegal}
 use Rattle.coap_smooth.specs.Prompt.{FedWithin, AllPrompt}
@@ -46,7 +46,7 @@ fed_server from bytes at word calls entries one on =
     subst (Ever (FedToServer from bytes)) (sym on.is)
     (inr (subst (λ cs. Ever (FedToServer from bytes) (map OfServer (map (λ p. S.NextOut (Some p)) on.outs ++ cs)))
     (sym one.2) (last_in (FedToServer from bytes) OfServer (λ (p : Packet). S.NextOut (Some p)) on.outs one.0
-    (at, word, one.1.0, one.1.1, one.1.2, one.1.3, one.1.4))))
+    (ap arrives one.1.4))))
 
 behind : {X Y Z : Type 0} (P : Z → Type 0) (f : X → Z) (k : Y → X) (ys : List Y) (xs : List X) → Ever P (map f xs)
     → Ever P (map f (map k ys ++ xs))

@@ -1,6 +1,6 @@
 -- What the server answers to the GET of a call, where its path holds one representation, is the part of that which the
 -- request asks for (RFC 7252, section 5.8.1; RFC 7959, section 2.4).
-use Rattle.std.proofs.Common.{◌≡◌, ◌≤◌, ◌<◌, inl, inr, ℕ, false, Option, Some, None, is_some, List, []}
+use Rattle.std.proofs.Common.{◌≡◌, ◌≤◌, ◌<◌, inl, inr, ⊎_elim, ℕ, false, Option, Some, None, is_some, List, []}
 use Rattle.std.proofs.Common.{◌∷◌, ◌++◌, length, ap, sym, subst, ◌∙◌, arith}
 use Rattle.std.specs.Prelude.{IfSome}
 use Rattle.coap_types.specs.MethodCode.{method_code, method_of}
@@ -171,11 +171,12 @@ module _ (config : Config) (low : config.server_szx ≤ 6) (number : ℕ) (all :
         let e : Uploads comes.question comes.block ≡ Asks v.0 = v.1 in
         absurd (cc e)
     says_part w c later law there (refuses a v n comes handed none is r) =
-        let f = refused_in config.limits config.server_szx config.server_setup (server_trace config w) c a n law.server
-        handed
-        is in
-        let k = comes_to w c later law a f.verdict (law.came.0 a f.verdict f.comes r.to_client) r.token_is in
-        absurd (not_refused f.uploads f.at a f.verdict k.0 f.code k.1 f.refuses_so)
+        ⊎_elim (λ f. (let k = comes_to w c later law a f.verdict (law.came.0 a f.verdict f.comes r.to_client)
+        r.token_is in
+        absurd (not_refused f.uploads f.at a f.verdict k.0 f.code k.1 f.refuses_so)))
+        (λ k. (let e : Some k.0 ≡ None = sym k.1 ∙ law.unrefused.0 in absurd (cc e)))
+        (refused_in config.limits config.server_szx config.server_setup (server_trace config w) c a n law.server handed
+        is)
     says_part w c later law there (notifies o reply here made shows so) =
         absurd (none_made config number all small whole in_range m.token registers_none o w
         (later_back config number all small whole in_range (OfServer c) w later) (lawful_back config w (OfServer c) law)

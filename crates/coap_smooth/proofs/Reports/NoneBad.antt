@@ -228,9 +228,11 @@ module _ (config : Config) (number : ℕ) (all : List Entry) (small : config.cli
         least (inl same) = subst (λ n. n ≤ 6) (sym same) szx
         least (inr less) = let a = less.1 in omega (arith, a, szx)
     none_bad_here w c later law low num szx (refuses a v code comes handed none is r) (inl bad) =
-        refusal_not (own_of config.limits config.server_szx (server_trace config w)) c code is (sym r.code ∙ bad.0)
+        refusal_not (own_of config.limits config.server_szx (server_trace config w)) c law.server.rows.0 code is
+        (sym r.code ∙ bad.0)
     none_bad_here w c later law low num szx (refuses a v code comes handed none is r) (inr bad) =
-        let h = refusals_are_errors (own_of config.limits config.server_szx (server_trace config w)) c code is in
+        let h = refusals_are_errors (own_of config.limits config.server_szx (server_trace config w)) c
+        law.server.rows.0 code is in
         let less = bad.1 in
         let same = r.code in
         omega (arith, h, less, same)

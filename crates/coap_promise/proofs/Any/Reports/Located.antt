@@ -1,5 +1,5 @@
 -- Which request of the client it is that the server hands up, serves, or asks of its store.
-use Rattle.std.proofs.Common.{◌≡◌, ◌≤◌, inl, inr, ℕ, Some, List, [], ◌∷◌, ap, subst}
+use Rattle.std.proofs.Common.{◌≡◌, ◌≤◌, inl, inr, ℕ, Some, None, List, [], ◌∷◌, ap, subst}
 use Rattle.coap_types.specs.MethodCode.{method_of}
 use Rattle.coap_types.specs.Past.{Sometime}
 use Rattle.coap_codec.specs.Message.{Message, Spells}
@@ -11,7 +11,7 @@ use Rattle.coap_client_laws.specs.Follows.Begins.{WasSent}
 use Rattle.coap_client.specs.Sendings.{Taken, WasTaken, Sending}
 use Rattle.coap_server.specs.Follows.Brings.{AsksBy}
 use Rattle.coap_server_laws.specs.Follows.Reads.{ReadsOf}
-use Rattle.coap_server.specs.Follows.Serves.{Serving, hands}
+use Rattle.coap_server.specs.Follows.Serves.{Serving, hands, refuses}
 use Rattle.coap_server.specs.Follows.Takes.{Took, took, took_by, taken_by, takes_block}
 use Rattle.coap_block.specs.declared.block_verdict.BlockVerdict.{BlockVerdict}
 use Rattle.coap_block.specs.declared.block_verdict.BlockVerdict.TheVariants.{Refuse}
@@ -51,6 +51,10 @@ takes_handed s _ y is = absurd (cc is)
 abbrev pub TakesIn : Config → Asked → List S.Call → S.Call → Type 0
 TakesIn config a past c = (hands c ≡ Some a) × ((y : Took)
     × (takes_block (own_of config.limits config.server_szx past) c ≡ Some y))
+
+-- here it is handed up, and not refused
+abbrev pub HandsIn : Asked → List S.Call → S.Call → Type 0
+HandsIn a past c = (hands c ≡ Some a) × (refuses c ≡ None)
 
 -- what happened at the server by an entry, happened by a later one
 pub server_later : (config : Config) (P : List S.Call → S.Call → Type 0) (e : Entry) (w : List Entry)
@@ -98,6 +102,7 @@ module _ (config : Config) (number : ℕ) (all : List Entry) (small : config.cli
     pub origin : Origin a verdict
     pub before : WasSent config.client_sizes origin.sending (client_of t)
     pub method : method_of (request_of origin.con.id origin.sending).code ≡ Some q.method
+    pub handed : Sometime (HandsIn a) (server_trace config t)
     pub took : (p : Question) (b : _) → verdict ≡ Uploads p b → Sometime (TakesIn config a) (server_trace config t)
 
   took_here : (w : List Entry) (c : S.Call) (a : Asked) (q : Question) (v : Verdict)
@@ -131,6 +136,7 @@ module _ (config : Config) (number : ℕ) (all : List Entry) (small : config.cli
         };
         before = k.sent;
         method = method_asked config.limits config.server_szx (server_trace config w) c a q m h.verdict h.asks read;
+        handed = inl (h.handed, h.taken);
         took = λ p b is. inl (took_here w c a q h.verdict h.asks p b is);
       }
 
@@ -148,6 +154,7 @@ module _ (config : Config) (number : ℕ) (all : List Entry) (small : config.cli
         origin = k.origin;
         before = sent_later config k.origin.sending w e k.before;
         method = k.method;
+        handed = server_later config (HandsIn a) e w k.handed;
         took = λ p b is. server_later config (TakesIn config a) e w (k.took p b is);
       }
 

@@ -63,7 +63,7 @@ module _ (config : Config) (number : ℕ) (all : List Entry) (small : config.cli
     applies_here w c later law (continues x size is more asks r) = absurd (not_this 95 r.code refl)
     applies_here w c later law (refuses a v code comes handed none is r) =
         absurd (not_this code r.code (refusal_none
-        (own_of config.limits config.server_szx (server_trace config w)) c code is))
+        (own_of config.limits config.server_szx (server_trace config w)) c law.server.rows.0 code is))
     applies_here w c later law (notifies o reply here made shows so) =
         absurd (not_this _ so.code (notice_none o.szx
         ((own_of config.limits config.server_szx (server_trace config w)).store.holds o.path) _ shows))

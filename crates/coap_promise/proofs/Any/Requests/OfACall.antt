@@ -42,6 +42,7 @@ use Rattle.coap_promise.proofs.Paced.CameAtAnyTime.{fair_back}
 use Rattle.coap_promise.proofs.Facts.Requests.LastRequests.{Final, of_call_at, method_is, code_is, good, reads}
 use Rattle.coap_promise.proofs.Facts.Requests.LastRequests.{options_read}
 use Rattle.coap_promise.proofs.Facts.Requests.LastRequests.{is_the_last}
+use Rattle.coap_promise.proofs.Facts.Requests.NoneRefused.{RefusesNone, refuses_back}
 use Rattle.coap_promise.proofs.Facts.Requests.ReadBack.{Changes, in_order, path_back}
 use Rattle.coap_promise.proofs.Facts.Requests.Traced.{near_later, sent_later, traced, brought_in}
 
@@ -91,13 +92,14 @@ pub taken_later : (x : Taken) (past : List Entry) (e : Entry) → WasTaken x (cl
 taken_later x past (OfClient c) h = inr h
 taken_later x past (OfServer c) h = h
 
--- the laws of a record, at any time
+-- the laws of a record, at any time; its server refuses no request
 pub record Lawful (config : Config) (t : List Entry) : Type 0 where
   pub fair : FairLaw config.client_setup config.server_setup config.addresses.client config.addresses.server
       (hops_in config t)
   pub client : ClientLaw config.addresses.server config.client_sizes config.client_setup (client_of t)
   pub server : ServerLaw config.limits config.server_szx config.server_setup (server_trace config t)
   pub came : CamesFrom config t
+  pub unrefused : RefusesNone t
 
 pub client_back : (config : Config) (past : List Entry) (e : Entry) → Lawful config (e ∷ past)
     → ClientLaw config.addresses.server config.client_sizes config.client_setup (client_of past)
@@ -121,6 +123,7 @@ lawful_back config past e law =
       client = client_back config past e law;
       server = server_back config past e law;
       came = law.came.1;
+      unrefused = refuses_back e past law.unrefused;
     }
 
 module _ (config : Config) (number : ℕ) (all : List Entry) (small : config.client_sizes.szx ≤ 6)

@@ -42,6 +42,7 @@ use Rattle.coap_promise.proofs.Paced.HopsAreAChannel as joined
 use Rattle.coap_promise.proofs.Paced.OneClock.{by_one}
 use Rattle.coap_promise.proofs.Facts.Reports.FormatsSet.{formats_in_of}
 use Rattle.coap_promise.proofs.Facts.Requests.CallsInRange.{ranges_by}
+use Rattle.coap_promise.proofs.Facts.Requests.NoneRefused.{none_refused}
 use Rattle.coap_promise.proofs.Facts.Requests.OfACall.{Lawful, lawful_back}
 use Rattle.coap_promise.proofs.Facts.Requests.Promised.{comes_by, came_by}
 use Rattle.coap_record.specs.declared.addresses.Addresses.{Addresses}
@@ -101,6 +102,7 @@ module _ (k : Clocks) (config : Config) (events : List Event) (turns : List Turn
     server = run.server;
     comes = comes_by k config events turns run legal;
     came = came_by k config events turns run legal;
+    unrefused = none_refused config.addresses turns run.made;
   }
 
   facts : Facts config k legal.clocks turns

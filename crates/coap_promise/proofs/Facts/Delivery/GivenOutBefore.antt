@@ -10,7 +10,7 @@ use Rattle.coap_types.proofs.Facts.Traces.{Ever_map, Ever_append, Ever_of_Someti
 use Rattle.coap_record.specs.Events.{What, Cancels, Forgets, Sets, Removes}
 use Rattle.coap_record.specs.Events.{TickClient, TickServer, Deliver, StrangerToClient, StrangerToServer}
 use Rattle.coap_record.specs.Legal.{NotBefore, MayCome, AllLegal}
-use Rattle.coap_promise.specs.Delivery.{GaveOut, FedToServer, FedToClient, AllFair}
+use Rattle.coap_promise.specs.Delivery.{GaveOut, FedToServer, FedToClient, AllFair, arrives}
 use Rattle.coap_client.specs.Trace as C
 use Rattle.coap_server.specs.Trace as S
 use Rattle.coap_record.specs.declared.addresses.Addresses.{Addresses}
@@ -126,14 +126,35 @@ server_call from bytes calls entries on h = first
 
     behind : Ever P (outs_then on.outs calls) → Ever P calls
     behind k = elim (Ever_append P (map (λ p. S.NextOut (Some p)) on.outs) calls k) [
-      | inl r ↦ absurd (none_in (λ (p : Packet). P (S.NextOut (Some p))) on.outs (λ p w. cc (w.6))
+      | inl r ↦ absurd (none_in (λ (p : Packet). P (S.NextOut (Some p))) on.outs (λ p w. cc w)
           (of_map (λ (p : Packet). S.NextOut (Some p)) P on.outs r))
       | inr w ↦ w
     ]
 
     first : Ever P (server_calls on.outs calls) → Ever P calls
-    first (inl k) = absurd (cc (k.6))
+    first (inl k) = absurd (cc k)
     first (inr k) = behind k
+
+-- the datagram that arrives in a call is that of the call
+pub arrives_so : {from : Endpoint} {bytes : List ℕ} {c d : S.Call} → c ≡ d → FedToServer from bytes (OfServer c)
+    → arrives d ≡ Some (from, bytes)
+arrives_so is h = sym (ap arrives is) ∙ h
+
+abbrev Datagram : Type 0
+Datagram = Endpoint × List ℕ
+
+same_datagram : (a b : Datagram) → Some a ≡ Some b → a ≡ b
+same_datagram a b h = cc h
+
+pub same_source : (source from : Endpoint) (given bytes : List ℕ)
+    → ◌≡◌ {A = Option Datagram} (Some (source, given)) (Some (from, bytes)) → source ≡ from
+same_source source from given bytes h =
+    ap (λ (d : Datagram). d.0) (same_datagram (source, given) (from, bytes) h)
+
+pub same_bytes : (source from : Endpoint) (given bytes : List ℕ)
+    → ◌≡◌ {A = Option Datagram} (Some (source, given)) (Some (from, bytes)) → given ≡ bytes
+same_bytes source from given bytes h =
+    ap (λ (d : Datagram). d.1) (same_datagram (source, given) (from, bytes) h)
 
 pub client_call : (from : Endpoint) (bytes : List ℕ) (calls : List C.Call) (entries : List Entry)
     → OnClient calls entries
@@ -210,20 +231,22 @@ module _ (addresses : Addresses) (past : List Turn) (at word : ℕ) (refused : B
       → Ever (FedToServer addresses.client bytes) entries
       → Ever (GaveOut addresses.client addresses.server bytes at) (all_of (given_in addresses) past)
   to_server (Sets path format body) m may h = let k =
-      one_call _ _ refused m.0 m.1 (server_call addresses.client bytes m.0 entries m.2 h) in absurd (cc (k.1.2, k.2.6))
+      one_call _ _ refused m.0 m.1 (server_call addresses.client bytes m.0 entries m.2 h) in
+      absurd (cc (arrives_so k.1.2 k.2))
   to_server (Removes path) m may h = let k =
-      one_call _ _ false m.0 m.1.0 (server_call addresses.client bytes m.0 entries m.2 h) in absurd (cc (k.1.2, k.2.6))
+      one_call _ _ false m.0 m.1.0 (server_call addresses.client bytes m.0 entries m.2 h) in
+      absurd (cc (arrives_so k.1.2 k.2))
   to_server TickServer m may h = let k = tick_of (ServerTick at word) _ refused m.0 m.1
-      (server_call addresses.client bytes m.0 entries m.2 h) in absurd (cc (k.2.6, k.3.6))
+      (server_call addresses.client bytes m.0 entries m.2 h) in absurd (cc (arrives_so k.2.6 k.3))
   to_server (StrangerToServer from b) m may h =
       let k = one_call _ _ refused m.0 m.1 (server_call addresses.client bytes m.0 entries m.2 h) in
-      let same : from ≡ addresses.client = cc (k.1.4, k.2.6) in
+      let same : from ≡ addresses.client = same_source _ _ _ _ (arrives_so k.1.4 k.2) in
       absurd (may.0 same)
   to_server (Deliver number) m may h = elim m.2 [
     | inl d ↦ (let k = one_call _ _ refused d.1 d.2 (server_call addresses.client bytes d.1 entries d.3 h) in
         gave addresses past at number legal later may m.0 m.1 addresses.client addresses.server bytes
-        (cc (k.1.4, k.2.6)) d.0
-        (cc (k.1.4, k.2.6)))
+        (same_source _ _ _ _ (arrives_so k.1.4 k.2)) d.0
+        (same_bytes _ _ _ _ (arrives_so k.1.4 k.2)))
     | inr d ↦ absurd (never_there addresses.client bytes d.1 entries d.3 h)
   ]
   to_server _ m may h = absurd (never_there addresses.client bytes m.0 entries m.2 h)

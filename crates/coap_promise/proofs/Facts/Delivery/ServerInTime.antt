@@ -21,7 +21,8 @@ use Rattle.coap_server.specs.Notifying.{marked, notification, readies}
 use Rattle.coap_server.specs.Plain.{by_plain}
 use Rattle.coap_server.specs.Steps as steps
 use Rattle.coap_server.specs.Trace.{Own, Handling, Silent, Replies, Serves, Waits, Notifies, Call, Sets, Removes}
-use Rattle.coap_server.specs.Trace.{Feeds, Ticks, NextOut}
+use Rattle.coap_server.specs.Refusing.{refusing}
+use Rattle.coap_server.specs.Trace.{Feeds, Refuses, Ticks, NextOut}
 use Rattle.coap_exchange.proofs.Facts.Adds.{left_append}
 use Rattle.coap_promise.specs.Delivery.{FedToServer}
 use Rattle.coap_record.specs.Events.{Config}
@@ -36,6 +37,7 @@ abbrev pub IsAt : ℕ → Call → Type 0
 IsAt t (Sets now path format body answer left) = now ≡ t
 IsAt t (Removes now path answer left) = now ≡ t
 IsAt t (Feeds now from bytes word up came h below) = now ≡ t
+IsAt t (Refuses now from bytes word code up p response below) = now ≡ t
 IsAt t (Ticks now word below room d passed h id answer) = now ≡ t
 IsAt t _ = Unit {0}
 
@@ -44,6 +46,7 @@ abbrev pub Counts : ℕ → ℕ → Call → Type 0
 Counts t clock (Sets now path format body answer left) = max clock now ≡ t
 Counts t clock (Removes now path answer left) = max clock now ≡ t
 Counts t clock (Feeds now from bytes word up came h below) = max clock now ≡ t
+Counts t clock (Refuses now from bytes word code up p response below) = max clock now ≡ t
 Counts t clock (Ticks now word below room d passed h id answer) = max clock now ≡ t
 Counts t clock _ = Unit {0}
 
@@ -51,6 +54,7 @@ counts : (t clock : ℕ) (c : Call) → clock ≤ t → IsAt t c → Counts t cl
 counts t clock (Sets now path format body answer left) h at = omega (arith, h, at)
 counts t clock (Removes now path answer left) h at = omega (arith, h, at)
 counts t clock (Feeds now from bytes word up came w below) h at = omega (arith, h, at)
+counts t clock (Refuses now from bytes word code up p response below) h at = omega (arith, h, at)
 counts t clock (Ticks now word below room d passed w id answer) h at = omega (arith, h, at)
 counts t clock _ h at = tt
 
@@ -72,6 +76,11 @@ module _ (t : ℕ) (F : Endpoint → List ℕ → Type 0) where
   answering_asks s (Some p) (Serves q reply left) below k = (tt, deferral_asks s p.0 q k)
   answering_asks s (Some p) (Waits q delay) below k = deferral_asks s p.0 q k
   answering_asks s _ _ below k = tt
+
+  refusing_asks : (a : request.Asked) (response : Option ℕ) (below : L.Answer)
+      → Every (Asks t F) (refusing a response below)
+  refusing_asks a None below = tt
+  refusing_asks a (Some code) below = (tt, tt)
 
   readies_asks : (at passed : ℕ) (os : List Observer) → at ≤ t → Every (Asks t F) (readies at passed os)
   readies_asks at passed [] k = tt
@@ -104,7 +113,11 @@ module _ (t : ℕ) (F : Endpoint → List ℕ → Type 0) where
       let k : max s.clock now ≤ t = omega (arith, at) in
       let z : Own = heard s now (incoming s now from bytes up came) in
       every_join (Asks t F) (answering z came w below) (incoming s now from bytes up came ∷ [])
-      (answering_asks z came w below k) ((k, f from bytes (now, word, up, came, w, below, refl)), tt)
+      (answering_asks z came w below k) ((k, f from bytes refl), tt)
+  lower_asks s (Refuses now from bytes word code up p response below) h at f =
+      let k : max s.clock now ≤ t = omega (arith, at) in
+      every_join (Asks t F) (refusing p.0 response below) (incoming s now from bytes up (Some p) ∷ [])
+      (refusing_asks p.0 response below) ((k, f from bytes refl), tt)
   lower_asks s (Ticks now word below room d passed w id answer) h at f =
       let k : max s.clock now ≤ t = omega (arith, at) in
       let z : Own = heard s now (ticking s now below room d) in
@@ -144,6 +157,13 @@ module _ (config : Config) where
       (asks t past (Feeds now from bytes word up came w below) by at))
       (ends t F (exchanges past) (answering (heard (own past) now (incoming (own past) now from bytes up came)) came w
       below) (incoming (own past) now from bytes up came) k)
+  asks_done t past (Refuses now from bytes word code up p response below) by at =
+      let c : Call = Refuses now from bytes word code up p response below in
+      let F = Fed c in
+      let k : t ≤ max (own past).clock now = omega (arith, at) in
+      done t F (before past) _ by.layer (wishes t F (exchanges past) (asks_of.lower (own past) c) by.between
+      (asks t past c by at))
+      (ends t F (exchanges past) (refusing p.0 response below) (incoming (own past) now from bytes up (Some p)) k)
   asks_done t past (Ticks now word below room d passed w id answer) by at =
       let F = Fed (Ticks now word below room d passed w id answer) in
       let k : t ≤ max (own past).clock now = omega (arith, at) in
@@ -158,6 +178,7 @@ module _ (config : Config) where
   end_by t s (Sets now path format body answer left) h at = omega (arith, at)
   end_by t s (Removes now path answer left) h at = omega (arith, at)
   end_by t s (Feeds now from bytes word up came w below) h at = omega (arith, at)
+  end_by t s (Refuses now from bytes word code up p response below) h at = omega (arith, at)
   end_by t s (Ticks now word below room d passed w id answer) h at = omega (arith, at)
   end_by t s _ h at = h
 

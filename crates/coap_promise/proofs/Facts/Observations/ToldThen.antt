@@ -19,7 +19,7 @@ use Rattle.coap_server.specs.Law.{own_of}
 use Rattle.coap_server.specs.Observers.{registers}
 use Rattle.coap_server.specs.Plain.{by_plain}
 use Rattle.coap_server.specs.Steps.{after}
-use Rattle.coap_server.specs.Trace.{Own, Serves, Notifies, Call, Sets, Removes, Feeds, Ticks}
+use Rattle.coap_server.specs.Trace.{Own, Serves, Notifies, Call, Sets, Removes, Feeds, Refuses, Ticks}
 use Rattle.coap_record.specs.Events.{Config}
 use Rattle.coap_promise.specs.Hops.{server_adds}
 use Rattle.coap_promise.proofs.Facts.Delivery.EntriesInTime.{Every, Timely}
@@ -62,6 +62,7 @@ pub moves : (s : Own) (c : Call) → (s.clock ≤ (after s c).clock) × Counts (
 moves s (Sets now path format body answer left) = (omega arith, refl)
 moves s (Removes now path answer left) = (omega arith, refl)
 moves s (Feeds now from bytes word up came h below) = (omega arith, refl)
+moves s (Refuses now from bytes word code up p response below) = (omega arith, refl)
 moves s (Ticks now word below room d passed h id answer) = (omega arith, refl)
 moves s _ = (omega arith, tt)
 

@@ -10,7 +10,7 @@ use Rattle.coap_server.specs.Trace as S
 use Rattle.coap_promise.specs.CameFrom.{CameFrom}
 use Rattle.coap_promise.specs.Words.{ServesAt}
 use Rattle.coap_promise.proofs.Any.Reports.Located as any
-pub use Rattle.coap_promise.proofs.Any.Reports.Located.{TakesIn, server_later, takes_handed}
+pub use Rattle.coap_promise.proofs.Any.Reports.Located.{HandsIn, TakesIn, server_later, takes_handed}
 use Rattle.coap_promise.proofs.Facts.Requests.OfACall.{Lawful, Later, Sent, at_any_time}
 use Rattle.coap_record.specs.Events.{Config}
 use Rattle.coap_record.specs.Legal.{IsRequest}

@@ -1,5 +1,6 @@
 -- Where another response than a success is reported, no request of the call is applied, before or after.
-use Rattle.std.proofs.Common.{◌≡◌, ◌⊎◌, ◌≤◌, inl, inr, ℕ, max, Bool, true, false, ◌&&◌, Some, List, [], ◌∷◌, refl, ap}
+use Rattle.std.proofs.Common.{◌≡◌, ◌⊎◌, ◌≤◌, inl, inr, ℕ, max, Bool, true, false, ◌&&◌, Some, None, List, [], ◌∷◌}
+use Rattle.std.proofs.Common.{refl, ap}
 use Rattle.std.proofs.Common.{sym, subst, ◌∙◌}
 use Rattle.coap_types.specs.MethodCode.{method_code, method_of}
 use Rattle.coap_types.specs.Past.{Sometime}
@@ -19,7 +20,7 @@ use Rattle.coap_client.specs.Trace as C
 use Rattle.coap_client.specs.Sendings.{Taken, WasTaken, Sending}
 use Rattle.coap_server.specs.Follows.Brings.{Comes}
 use Rattle.coap_server_laws.specs.Follows.Gives.{refusal_by, refusal_of, refusal_in}
-use Rattle.coap_server.specs.Follows.Serves.{Serving, serving, hands, times_handed}
+use Rattle.coap_server.specs.Follows.Serves.{Serving, serving, hands, times_handed, refuses as refuses_it}
 use Rattle.coap_server.specs.Follows.Takes.{Took, took, took_by, taken_by, takes_block}
 use Rattle.coap_server.specs.Checks.{Verdict, Asks, Uploads, verdict_on}
 use Rattle.coap_server.specs.Law.{own_of}
@@ -82,13 +83,19 @@ pub record RefusedIn (limits : Limits) (szx : ℕ) (setup : Setup) (past : List 
     pub code : ℕ
     pub refuses_so : refusal_of uploads at a verdict ≡ Some code
 
+-- the server is to refuse the request that it hands up here
+abbrev pub IsToRefuse : S.Call → Type 0
+IsToRefuse c = (p : Asked × Message) × (refuses_it c ≡ Some p)
+
+-- a request that is refused without the store comes to a refusal, or the server is to refuse it
 pub refused_in : (limits : Limits) (szx : ℕ) (setup : Setup) (past : List S.Call) (c : S.Call) (a : Asked) (code : ℕ)
     → Rattle.coap_server.specs.Law.ServerLaw limits szx setup (c ∷ past)
-    → hands c ≡ Some a → refusal_in (own_of limits szx past) c ≡ Some code → RefusedIn limits szx setup past c a
+    → hands c ≡ Some a → refusal_in (own_of limits szx past) c ≡ Some code
+    → RefusedIn limits szx setup past c a ⊎ IsToRefuse c
 refused_in limits szx setup past (S.Feeds now from bytes w up (Some p) h below) a code law is refuses_so =
     let s : S.Own = own_of limits szx past in
     let same : p.0 ≡ a = cc is in
-    record {
+    inl (record {
       verdict = verdict_on szx p.1;
       comes = subst (λ z. Comes limits szx setup past (S.Feeds now from bytes w up (Some p) h below) z
           (verdict_on szx p.1)) same (comes_here limits szx setup past now from bytes w up p h below law);
@@ -98,7 +105,9 @@ refused_in limits szx setup past (S.Feeds now from bytes w up (Some p) h below) 
       refuses_so = ap (λ z. refusal_of s.uploads (max s.clock now) z (verdict_on szx p.1)) (sym same)
           ∙ (ap (λ n. refusal_of s.uploads (max s.clock now) p.0 (verdict_on n p.1)) (sym (szx_is limits szx past))
           ∙ refuses_so);
-    }
+    })
+refused_in limits szx setup past (S.Refuses now from bytes w said up p response below) a code law is refuses_so =
+    inr (p, refl)
 refused_in limits szx setup past _ a code law is refuses_so = absurd (cc is)
 
 -- what is known wherever it happens
@@ -201,12 +210,16 @@ module _ (config : Config) (number : ℕ) (all : List Entry) (small : config.cli
     abbrev RefusedSo : List S.Call → S.Call → Type 0
     RefusedSo past c = (code : ℕ) × (refusal_in (own_of config.limits config.server_szx past) c ≡ Some code)
 
-    -- the request is served with the code, or its block is refused
+    abbrev ToRefuse : List S.Call → S.Call → Type 0
+    ToRefuse past c = IsToRefuse c
+
+    -- the request is served with the code, or its block is refused, or the server is to refuse it
     abbrev Outcome : List S.Call → S.Call → Type 0
     Outcome past c =
         (ServesIt config.limits config.server_szx it past c × ServedSo past c)
-        ⊎ ((HandsIt config.limits config.server_szx it past c × RefusedSo past c)
+        ⊎ (((HandsIt config.limits config.server_szx it past c × RefusedSo past c)
         × ((q : Question) × (b : _) × (a.verdict ≡ Uploads q b)))
+        ⊎ (HandsIt config.limits config.server_szx it past c × ToRefuse past c))
 
     -- a request of the call that changes something is no registration
     registers_none : NoneRegisters config number all small whole in_range m.token
@@ -240,15 +253,22 @@ module _ (config : Config) (number : ℕ) (all : List Entry) (small : config.cli
         let not_more : x.part.more ≡ false = ap (λ (z : Took). z.part.more) k.is ∙ final in
         absurd (cc (more, not_more))
     outcome_here w c later law (refuses b v code comes handed none is r) =
-        let t : List Entry = OfServer c ∷ w in
-        let k = refused_in config.limits config.server_szx config.server_setup
-        (server_trace config w) c b code law.server handed is in
-        let o = origin_of config number all small whole in_range w (OfServer c) later b k.verdict
-        (law.came.0 b k.verdict k.comes r.to_client) in
-        let same = comes_so b k.verdict o r.token_is in
-        let u = uploads_it k.uploads k.at b k.code a.verdict a.final
-        (ap (refusal_of k.uploads k.at b) (sym same) ∙ k.refuses_so) in
-        inr ((handed ∙ ap (λ z. Some z) (is_it b k.verdict o r.token_is), (code, is)), u)
+        by (refused_in config.limits config.server_szx config.server_setup (server_trace config w) c b code law.server
+        handed is)
+      where
+        by : RefusedIn config.limits config.server_szx config.server_setup (server_trace config w) c b ⊎ IsToRefuse c
+            → Outcome (server_trace config w) c
+        by (inl k) =
+            let o = origin_of config number all small whole in_range w (OfServer c) later b k.verdict
+            (law.came.0 b k.verdict k.comes r.to_client) in
+            let same = comes_so b k.verdict o r.token_is in
+            let u = uploads_it k.uploads k.at b k.code a.verdict a.final
+            (ap (refusal_of k.uploads k.at b) (sym same) ∙ k.refuses_so) in
+            inr (inl ((handed ∙ ap (λ z. Some z) (is_it b k.verdict o r.token_is), (code, is)), u))
+        by (inr k) =
+            let o = origin_of config number all small whole in_range w (OfServer c) later b v
+            (law.came.0 b v comes r.to_client) in
+            inr (inr (handed ∙ ap (λ z. Some z) (is_it b v o r.token_is), k))
     outcome_here w c later law (notifies o reply here made shows so) =
         absurd (none_made config number all small whole in_range m.token registers_none o w
         (later_back config number all small whole in_range (OfServer c) w later) (lawful_back config w (OfServer c) law)
@@ -310,6 +330,16 @@ module _ (config : Config) (number : ℕ) (all : List Entry) (small : config.cli
           (λ past c k. not_both (own_of config.limits config.server_szx past) c k.1.0 k.0.0 k.1.1 k.0.1) t
           (once_same (HandsIt config.limits config.server_szx it) RefusedSo TakenSo t once h (a.took q b is))
 
+      abbrev TakesIt : List S.Call → S.Call → Type 0
+      TakesIt past c = refuses_it c ≡ None
+
+      none_to_refuse : Sometime (λ past c. HandsIt config.limits config.server_szx it past c × ToRefuse past c) t → ⊥
+      none_to_refuse h =
+          let once = handed_once config.limits config.server_szx it t few in
+          never (λ past c. ToRefuse past c × TakesIt past c)
+          (λ past c k. (let e : Some k.0.0 ≡ None = sym k.0.1 ∙ k.1 in cc e)) t
+          (once_same (HandsIt config.limits config.server_szx it) ToRefuse TakesIt t once h a.handed)
+
       none_applied : Sometime Outcome t → ⊥
       none_applied h =
           let P = λ (past : List S.Call) (c : S.Call). ServesIt config.limits config.server_szx it past c
@@ -317,10 +347,15 @@ module _ (config : Config) (number : ℕ) (all : List Entry) (small : config.cli
           let R = λ (past : List S.Call) (c : S.Call). HandsIt config.limits config.server_szx it past c
           × RefusedSo past c in
           let U : Type 0 = (q : Question) × (b : _) × (a.verdict ≡ Uploads q b) in
-          elim (once_either P (λ past c. R past c × U) t h) [
+          let T = λ (past : List S.Call) (c : S.Call). HandsIt config.limits config.server_szx it past c
+          × ToRefuse past c in
+          elim (once_either P (λ past c. (R past c × U) ⊎ T past c) t h) [
             | inl served ↦ none_served served
-            | inr refused ↦ (let u = known_so R U t refused in none_refused
-                (Sometime_map (λ past c. R past c × U) R (λ past c k. k.0) t refused) u.0 u.1 u.2)
+            | inr refused ↦ elim (once_either (λ past c. R past c × U) T t refused) [
+              | inl block ↦ (let u = known_so R U t block in none_refused
+                  (Sometime_map (λ past c. R past c × U) R (λ past c k. k.0) t block) u.0 u.1 u.2)
+              | inr told ↦ none_to_refuse told
+            ]
           ]
 
   fails_not : (code : ℕ) → FailsSo code all → Applied config number all small whole in_range all → ⊥

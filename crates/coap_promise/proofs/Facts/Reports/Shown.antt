@@ -192,7 +192,7 @@ module _ (config : Config) where
     shown_here (replies x here r) = by_reply x here r
     shown_here (continues x size taken more asks r) = absurd (no_code codes.CONTINUE.0 r.code refl)
     shown_here (refuses a v n comes handed unserved refusal r) =
-        absurd (no_code n r.code (refused_not n (refusals_are_errors own c n refusal)))
+        absurd (no_code n r.code (refused_not n (refusals_are_errors own c law.server.rows.0 n refusal)))
     shown_here (notifies o reply here made notice r) =
         by_held o reply (own.store.holds o.path) refl here made notice r (notifies o reply here made notice r)
 

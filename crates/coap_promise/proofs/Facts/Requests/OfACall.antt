@@ -17,11 +17,12 @@ use Rattle.coap_promise.proofs.Any.Requests.OfACall as any
 pub use Rattle.coap_promise.proofs.Any.Requests.OfACall.{changes_by, final_of, method_asked, options_asked}
 pub use Rattle.coap_promise.proofs.Any.Requests.OfACall.{no_call, no_call_behind, taken_later}
 use Rattle.coap_promise.proofs.Facts.Requests.CameFrom.{channel_back}
+use Rattle.coap_promise.proofs.Facts.Requests.NoneRefused.{RefusesNone, refuses_back}
 use Rattle.coap_record.specs.Events.{Config}
 use Rattle.coap_record.specs.Legal.{IsRequest}
 use Rattle.coap_record.specs.Record.{Entry, OfServer, client_of, server_trace}
 
--- the laws of a record, and the clocks by which they hold
+-- the laws of a record, and the clocks by which they hold; its server refuses no request
 pub record Lawful (config : Config) (t : List Entry) : Type 0 where
   pub clocks : Clocks
   pub channel : IsChannel clocks config t
@@ -29,6 +30,7 @@ pub record Lawful (config : Config) (t : List Entry) : Type 0 where
   pub server : ServerLaw config.limits config.server_szx config.server_setup (server_trace config t)
   pub comes : ComesIn config clocks t
   pub came : CamesFrom config t
+  pub unrefused : RefusesNone t
 
 -- what stands by two clocks stands at any time
 pub at_any_time : {config : Config} {t : List Entry} → Lawful config t → any.Lawful config t
@@ -38,6 +40,7 @@ at_any_time {config} {t} law = record {
   client = law.client;
   server = law.server;
   came = law.came;
+  unrefused = law.unrefused;
 }
 
 -- .. of each past, by the same clocks
@@ -53,6 +56,7 @@ lawful_back config past e law =
       server = any.server_back config past e (at_any_time law);
       comes = law.comes.1;
       came = law.came.1;
+      unrefused = refuses_back e past law.unrefused;
     }
 
 module _ (config : Config) (number : ℕ) (all : List Entry) (small : config.client_sizes.szx ≤ 6)

@@ -13,6 +13,7 @@ use Rattle.coap_promise.proofs.Facts.Requests.Belongs.{each_belongs}
 use Rattle.coap_promise.proofs.Facts.Requests.CallsInRange.{in_range_of, ranges_by}
 use Rattle.coap_promise.proofs.Facts.Requests.CameFrom.{came_from, comes_in}
 use Rattle.coap_promise.specs.Serves.{AllServed}
+use Rattle.coap_promise.proofs.Facts.Requests.NoneRefused.{none_refused}
 use Rattle.coap_promise.proofs.Facts.Requests.OfACall.{Lawful}
 use Rattle.coap_promise.proofs.Requests.ServedRight.{served_right}
 use Rattle.coap_promise.proofs.Facts.Requests.AtAnyTime.{at_any_time}
@@ -34,6 +35,7 @@ module _ (c : Clocks) (config : Config) (events : List Event) (turns : List Turn
     server = run.server;
     comes = comes_by;
     came = came_by;
+    unrefused = none_refused config.addresses turns run.made;
   }
 
   pub once_by : AtMostOnce config (entries_of turns)

@@ -16,6 +16,7 @@ use Rattle.coap_promise.proofs.Reports.ValidHeld.{each_valid}
 use Rattle.coap_promise.proofs.Reports.ValuesHeld.{each_value}
 use Rattle.coap_promise.proofs.Facts.Requests.Belongs.{each_belongs}
 use Rattle.coap_promise.proofs.Any.Requests.OfACall.{Lawful}
+use Rattle.coap_promise.proofs.Facts.Requests.NoneRefused.{none_refused}
 use Rattle.coap_promise.proofs.Requests.ServedRight.{served_right}
 use Rattle.coap_promise.proofs.Paced.AtAnyTime.{fair}
 use Rattle.coap_promise.proofs.Paced.CameAtAnyTime.{came_at_any_time}
@@ -38,6 +39,7 @@ lawful c config events turns run legal =
       client = run.client;
       server = run.server;
       came = came_at_any_time config (entries_of turns) law run.client;
+      unrefused = none_refused config.addresses turns run.made;
     }
 
 formats : (c : Clocks) (config : Config) (events : List Event) (turns : List Turn) → RecordOf config events turns

@@ -30,7 +30,7 @@ use Rattle.coap_server.specs.Handling.{heard, incoming}
 use Rattle.coap_server.specs.Law.{ServerLaw, own_of, lower_of}
 use Rattle.coap_server.specs.Trace as S
 use Rattle.coap_server.specs.Uploads.{ruling_of}
-use Rattle.coap_server.proofs.Facts.EachCall.{comes_here, szx_is}
+use Rattle.coap_server.proofs.Facts.EachCall.{comes_here, comes_refused, szx_is}
 use Rattle.coap_server_laws.proofs.Facts.Laws as server_facts
 use Rattle.coap_promise.specs.Answers.{IsAnswer, replies, continues, refuses, notifies}
 use Rattle.coap_promise.specs.CameFrom.{CameFrom}
@@ -202,6 +202,21 @@ module _ (config : Config) where
       (ap (λ n. refusal_of s.uploads (max s.clock now) p.0 (verdict_on n p.1)) (sym szx) ∙ refuses_it)
       (ap (λ n. taken_by s.uploads (max s.clock now) p.0 (verdict_on n p.1)) szx) asks)
       token (ap (λ (z : Asked). z.token) is ∙ same)
+  refused token past (S.Refuses now from bytes w said up p None below) law a code hands_it refuses_it client same =
+      absurd (cc refuses_it)
+  refused token past (S.Refuses now from bytes w said up p (Some n) below) law a code hands_it refuses_it client same =
+      let is : p.0 ≡ a = cc hands_it in
+      let whose : p.0.from ≡ config.addresses.client = ap (λ (z : Asked). z.from) is ∙ client in
+      let v : Verdict = verdict_on config.server_szx p.1 in
+      record {
+        asked = p.0;
+        from = whose;
+        same = ap (λ (z : Asked). z.token) is ∙ same;
+        answers = inl refl;
+        origin = origin_of past (S.Refuses now from bytes w said up p (Some n) below) p.0 v (law.came.0 p.0 v
+            (comes_refused config.limits config.server_szx config.server_setup (trace past) now from bytes w said up p
+            (Some n) below law.server) whose);
+      }
   refused token past _ law a code hands_it r client same = absurd (cc hands_it)
 
   none_taken : (uploads : AssemblyState) (at : ℕ) (a : Asked) (v : Verdict) (p : Question) → v ≡ Asks p

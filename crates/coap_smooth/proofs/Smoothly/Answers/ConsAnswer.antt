@@ -1,6 +1,6 @@
 -- A CON that a server begins in a call carries the response to what it answers in that call, or a notification.
 use Rattle.std.proofs.Common.{◌≡◌, ◌⊎◌, inl, inr, ⊎_elim, ℕ, zero, suc, Bool, true, false, Option, Some, None, List, []}
-use Rattle.std.proofs.Common.{◌∷◌, ◌++◌, refl, ap}
+use Rattle.std.proofs.Common.{◌∷◌, ◌++◌, refl, ap, sym, ◌∙◌}
 use Rattle.coap_types.specs.Past.{Ever}
 use Rattle.coap_types.proofs.Facts.Traces.{Ever_append, Ever_front}
 use Rattle.coap_types.specs.declared.endpoint.Endpoint.{Endpoint}
@@ -26,6 +26,7 @@ use Rattle.coap_server_laws.specs.Follows.Adds.{all_asked, call_asks, call_adds}
 use Rattle.coap_server.specs.Follows.Observes.{Notice, notice}
 use Rattle.coap_server.specs.Follows.Rests.{IsTick}
 use Rattle.coap_server.specs.Handling.{heard, incoming, ticking}
+use Rattle.coap_server.specs.Refusing.{refusing}
 use Rattle.coap_server.specs.Law.{own_of, lower_of}
 use Rattle.coap_server.specs.Notifying.{marked, notification, readies}
 use Rattle.coap_server.specs.Plain.{by_plain}
@@ -107,6 +108,14 @@ module _ (to : Endpoint) where
   none_answering s (Some p) (S.Waits q delay) below k = none_deferred _ _ _ p.0 k
   none_answering s _ _ below k = k
 
+  none_refusing : (a : Asked) (response : Option ℕ) (below : L.Answer) (call : R.Call) → confirms_to call ≡ None
+      → Here (refusing a response below ++ call ∷ []) → ⊥
+  none_refusing a None below call none (inl k) = let both : None ≡ Some to = sym none ∙ k in cc both
+  none_refusing a None below call none (inr k) = k
+  none_refusing a (Some code) below call none (inl k) = cc k
+  none_refusing a (Some code) below call none (inr (inl k)) = let both : None ≡ Some to = sym none ∙ k in cc both
+  none_refusing a (Some code) below call none (inr (inr k)) = k
+
   not_asked : (at : ℕ) (o : Observer) → Here (R.Ready at o.to false ∷ []) → ⊥
   not_asked at o (inl k) = cc k
   not_asked at o (inr k) = k
@@ -159,6 +168,8 @@ module _ (to : Endpoint) where
       by (inl z) = none_answering (heard s now (incoming s now from bytes up came)) came h below z
       by (inr (inl z)) = cc z
       by (inr (inr z)) = z
+  begins_in s (S.Refuses now from bytes word code up p response below) k =
+      absurd (none_refusing p.0 response below (incoming s now from bytes up (Some p)) refl k)
   begins_in s (S.Ticks now word below room d passed h id answer) k =
       by (Ever_append (λ b. confirms_to b ≡ Some to)
       (responding (heard s now (ticking s now below room d)) d passed h word id) (ticking s now below room d ∷ []) k)

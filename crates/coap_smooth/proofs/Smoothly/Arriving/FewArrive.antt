@@ -174,6 +174,8 @@ module _ (since t : ℕ) where
       → came since (e ∷ rest) ≤ one (W.is_then since (to_server c)) + came since rest
   server_last (S.Feeds now from bytes word up came h below) e rest call answer at is =
       received_count since e rest from bytes up now call answer (at from bytes call ∙ sym is)
+  server_last (S.Refuses now from bytes word code up p response below) e rest call answer at is =
+      received_count since e rest from bytes up now call answer (at from bytes call ∙ sym is)
   server_last _ e rest call answer at is =
       let k = none_count since e rest (ap (λ d. handed_in d e.answer) call) in omega (arith, k)
 

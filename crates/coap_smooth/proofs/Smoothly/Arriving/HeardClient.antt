@@ -17,6 +17,7 @@ use Rattle.coap_record.specs.Record.{given_in, entries_of, server_of, server_tra
 use Rattle.coap_smooth.specs.Smooth.{IsOfAnEnd, NoStranger}
 use Rattle.coap_promise.proofs.Facts.Delivery.EntriesInTime.{Every, every_join, every_map, Timely}
 use Rattle.coap_promise.proofs.Facts.Delivery.HopsAreEntries.{server_layer, server_next, far_is}
+use Rattle.coap_promise.proofs.Facts.Delivery.GivenOutBefore.{arrives_so, same_source}
 use Rattle.coap_promise.proofs.Facts.Delivery.OneEndATurn.{each_one, each_tick}
 use Rattle.coap_record.proofs.Facts.CallsOfEnds.{server_client, server_server}
 use Rattle.coap_promise.proofs.Facts.Delivery.ServerInTime as server
@@ -41,9 +42,7 @@ of_feed : (addresses : Addresses) (c : S.Call) (now word : ℕ) (source : Endpoi
     (h : _) (below : _)
     → c ≡ S.Feeds now source bytes word up came h below → source ≡ addresses.client → FeedsFromClient addresses c
 of_feed addresses c now word source bytes up came h below is client from other f =
-    let same : S.Feeds now source bytes word up came h below ≡ S.Feeds f.0 from other f.1 f.2 f.3 f.4 f.5 = sym is
-    ∙ f.6 in
-    let whose : source ≡ from = cc same in
+    let whose : source ≡ from = same_source source from bytes other (arrives_so is f) in
     sym whose ∙ client
 
 module _ (addresses : Addresses) (past : List Turn) (t : ℕ) (word : ℕ) (refused : _) (entries : List Entry)
@@ -55,13 +54,13 @@ module _ (addresses : Addresses) (past : List Turn) (t : ℕ) (word : ℕ) (refu
     calls = m.0;
     on = m.2;
     at = each_one _ (server.IsAt t) (λ c h. subst (server.IsAt t) (sym h.2) refl) refused m.0 m.1;
-    from = each_one _ (FeedsFromClient addresses) (λ c h from bytes f. absurd (cc (sym h.2 ∙ f.6))) refused m.0 m.1;
+    from = each_one _ (FeedsFromClient addresses) (λ c h from bytes f. absurd (cc (arrives_so h.2 f))) refused m.0 m.1;
   })
   of_one (Removes path) m smooth = inr (record {
     calls = m.0;
     on = m.2;
     at = each_one _ (server.IsAt t) (λ c h. subst (server.IsAt t) (sym h.2) refl) false m.0 m.1.0;
-    from = each_one _ (FeedsFromClient addresses) (λ c h from bytes f. absurd (cc (sym h.2 ∙ f.6))) false m.0 m.1.0;
+    from = each_one _ (FeedsFromClient addresses) (λ c h from bytes f. absurd (cc (arrives_so h.2 f))) false m.0 m.1.0;
   })
   of_one TickServer m smooth = inr (record {
     calls = m.0;
@@ -69,7 +68,7 @@ module _ (addresses : Addresses) (past : List Turn) (t : ℕ) (word : ℕ) (refu
     at = each_tick (ServerTick t word) (server.IsAt t)
         (λ b c h. subst (server.IsAt t) (sym h.6) refl) refused m.0 m.1;
     from = each_tick (ServerTick t word) (FeedsFromClient addresses)
-        (λ b c h from bytes f. absurd (cc (sym h.6 ∙ f.6))) refused m.0 m.1;
+        (λ b c h from bytes f. absurd (cc (arrives_so h.6 f))) refused m.0 m.1;
   })
   of_one (StrangerToServer from bytes) m smooth = absurd smooth
   of_one (StrangerToClient from bytes) m smooth = absurd smooth
@@ -132,12 +131,12 @@ module _ (config : Config) (observers : (t : List S.Call) → AreObservers confi
 
   outs_from : (outs : List L.Packet) (calls : List S.Call) → Every (FeedsFromClient config.addresses) calls
       → Every (FeedsFromClient config.addresses) (S.NextOut None ∷ (map (λ p. S.NextOut (Some p)) outs ++ calls))
-  outs_from outs calls h = (λ from bytes f. absurd (cc f.6), taken outs)
+  outs_from outs calls h = (λ from bytes f. absurd (cc f), taken outs)
     where
       taken : (ps : List L.Packet) → Every (FeedsFromClient config.addresses)
           (map (λ p. S.NextOut (Some p)) ps ++ calls)
       taken [] = h
-      taken (p ∷ ps) = (λ from bytes f. absurd (cc f.6), taken ps)
+      taken (p ∷ ps) = (λ from bytes f. absurd (cc f), taken ps)
 
   one_more : (turn : Turn) (past : List Turn) → Stands config (turn ∷ past) → IsOfAnEnd turn.event.what → Heard past
       → Heard (turn ∷ past)

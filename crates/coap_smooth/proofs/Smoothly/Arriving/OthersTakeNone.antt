@@ -39,6 +39,7 @@ use Rattle.coap_client.specs.Trace as C
 use Rattle.coap_server.specs.Asks.{answering, notifies_by, responding}
 use Rattle.coap_server.specs.Deferring.{deferral_by, deferral}
 use Rattle.coap_server.specs.Handling.{incoming, ticking, heard}
+use Rattle.coap_server.specs.Refusing.{refusing}
 use Rattle.coap_server.specs.Law as server_law
 use Rattle.coap_server.specs.Notifying.{marked, notification, readies}
 use Rattle.coap_server.specs.Plain.{by_plain}
@@ -269,6 +270,10 @@ work_answering s (Some p) (S.Serves q reply left) below = (tt, work_deferral s p
 work_answering s (Some p) (S.Waits q delay) below = work_deferral s p.0 q
 work_answering s _ _ below = tt
 
+work_refusing : (a : request.Asked) (response : Option ℕ) (below : L.Answer) → Every IsWork (refusing a response below)
+work_refusing a None below = tt
+work_refusing a (Some code) below = (tt, tt)
+
 work_readies : (at passed : ℕ) (os : List Observer) → Every IsWork (readies at passed os)
 work_readies at passed [] = tt
 work_readies at zero (o ∷ os) = (tt, tt)
@@ -329,10 +334,12 @@ client_up c = L.Nothing
 
 abbrev pub server_call : S.Call → L.Call
 server_call (S.Feeds now from bytes word up came h below) = L.Receive from bytes
+server_call (S.Refuses now from bytes word code up p response below) = L.Receive from bytes
 server_call c = L.Pass
 
 abbrev pub server_up : S.Call → L.Answer
 server_up (S.Feeds now from bytes word up came h below) = up
+server_up (S.Refuses now from bytes word code up p response below) = up
 server_up c = L.Nothing
 
 abbrev pub ClientOut : C.Call → Type 0
@@ -388,6 +395,10 @@ module _ (config : Config) where
       let z : S.Own = heard s now (incoming s now from bytes up came) in
       makes_fed (behind_incoming (server_law.lower_of config.limits config.server_szx past)
       (answering z came h below) (max s.clock now) from bytes up came (work_answering z came h below))
+  server_makes past (S.Refuses now from bytes word code up p response below) =
+      let s = server_law.own_of config.limits config.server_szx past in
+      makes_fed (behind_incoming (server_law.lower_of config.limits config.server_szx past)
+      (refusing p.0 response below) (max s.clock now) from bytes up (Some p) (work_refusing p.0 response below))
   server_makes past (S.Ticks now word below room d passed h id answer) =
       let s = server_law.own_of config.limits config.server_szx past in
       let z : S.Own = heard s now (ticking s now below room d) in

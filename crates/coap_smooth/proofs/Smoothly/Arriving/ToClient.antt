@@ -23,11 +23,12 @@ use Rattle.coap_server.specs.Follows.Observes.{notice, WasMade, AreObservers}
 use Rattle.coap_server.specs.Follows.Serves.{Serving, serving}
 use Rattle.coap_server.specs.Handling as Handling
 use Rattle.coap_server.specs.Handling.{incoming, ticking}
+use Rattle.coap_server.specs.Refusing.{refusing}
 use Rattle.coap_server.specs.Law.{ServerLaw, own_of}
 use Rattle.coap_server.specs.Notifying.{marked, notification, readies}
 use Rattle.coap_server.specs.Plain.{by_plain}
 use Rattle.coap_server.specs.Trace as S
-use Rattle.coap_server.proofs.Facts.EachCall.{comes_here}
+use Rattle.coap_server.proofs.Facts.EachCall.{comes_here, comes_refused}
 use Rattle.coap_server_laws.proofs.Facts.Laws as server_facts
 use Rattle.coap_record.specs.Events.{Config}
 use Rattle.coap_promise.specs.Hops.{server_adds}
@@ -232,6 +233,15 @@ module _ (config : Config) (observers : (t : List S.Call) → AreObservers confi
         last (inl z) = let both : None ≡ Some to = sym none ∙ z in cc both
         last (inr z) = z
 
+    refused_now : (a : Asked) (response : Option ℕ) (below : L.Answer) (call : R.Call) → plain_to call ≡ None
+        → Here (refusing a response below ++ call ∷ []) → a.from ≡ to
+    refused_now a None below call none (inl k) = let both : None ≡ Some to = sym none ∙ k in absurd (cc both)
+    refused_now a None below call none (inr k) = absurd k
+    refused_now a (Some code) below call none (inl k) = some_is a.from k
+    refused_now a (Some code) below call none (inr (inl k)) = let both : None ≡ Some to = sym none ∙ k in
+        absurd (cc both)
+    refused_now a (Some code) below call none (inr (inr k)) = absurd k
+
     plain_now : (t : List S.Call) (c : S.Call) → Law (c ∷ t) → HeardClient (c ∷ t)
         → Here (lower (own_of config.limits config.server_szx t) c) → to ≡ config.addresses.client
     plain_now t (S.Feeds now from bytes word up (Some p) h below) law heard k =
@@ -242,6 +252,12 @@ module _ (config : Config) (observers : (t : List S.Call) → AreObservers confi
         (comes_here config.limits config.server_szx config.server_setup t now from bytes word up p h below law)
     plain_now t (S.Feeds now from bytes word up None h below) law heard (inl k) = absurd (cc k)
     plain_now t (S.Feeds now from bytes word up None h below) law heard (inr k) = absurd k
+    plain_now t (S.Refuses now from bytes word code up p response below) law heard k =
+        let s : S.Own = own_of config.limits config.server_szx t in
+        sym (refused_now p.0 response below (incoming s now from bytes up (Some p)) refl k)
+        ∙ of_comes t (S.Refuses now from bytes word code up p response below) p.0 _ heard
+        (comes_refused config.limits config.server_szx config.server_setup t now from bytes word code up p response
+        below law)
     plain_now t (S.Ticks now word below room d passed h id answer) law heard k =
         let s : S.Own = own_of config.limits config.server_szx t in
         let call : R.Call = ticking s now below room d in

@@ -17,6 +17,7 @@ use Rattle.coap_exchange.specs.declared.asker.AskRefusal.{AskRefusal}
 use Rattle.coap_exchange.specs.declared.asker.Event.{Event}
 use Rattle.coap_exchange.specs.declared.answerer.Asked as request
 use Rattle.coap_client.specs.Trace as C
+use Rattle.coap_server.specs.Follows.Serves.{refuses}
 use Rattle.coap_server.specs.Trace as S
 use Rattle.coap_record.specs.Events.{Config}
 use Rattle.coap_promise.specs.Hops.{client_asks, client_asked, client_adds, server_asks, server_asked, server_adds}
@@ -125,9 +126,10 @@ client_fed from bytes up (C.Feeds now f b word u settled event sent token kept) 
     }
 client_fed from bytes up _ is same = absurd (cc is)
 
-server_fed : (from : Endpoint) (bytes : List ℕ) (up : L.Answer) (c : S.Call) → server_call c ≡ L.Receive from bytes
-    → up ≡ server_up c → ServerFed from bytes up c
-server_fed from bytes up (S.Feeds now f b word u came h below) is same =
+-- where no request is refused
+pub server_fed : (from : Endpoint) (bytes : List ℕ) (up : L.Answer) (c : S.Call)
+    → server_call c ≡ L.Receive from bytes → up ≡ server_up c → refuses c ≡ None → ServerFed from bytes up c
+server_fed from bytes up (S.Feeds now f b word u came h below) is same none =
     let from_is : f ≡ from = cc is in
     let bytes_is : b ≡ bytes = cc is in
     record {
@@ -140,7 +142,8 @@ server_fed from bytes up (S.Feeds now f b word u came h below) is same =
           ∙ ap (λ x. S.Feeds now from x word u came h below) bytes_is
           ∙ ap (λ x. S.Feeds now from bytes word x came h below) (sym same);
     }
-server_fed from bytes up _ is same = absurd (cc is)
+server_fed from bytes up (S.Refuses now f b word code u p response below) is same none = absurd (cc none)
+server_fed from bytes up _ is same none = absurd (cc is)
 
 module _ (config : Config) where
   pub record AtClient (from : Endpoint) (bytes : List ℕ) (e : L.Entry) (past : List C.Call) (c : C.Call) : Type 0 where
@@ -152,7 +155,8 @@ module _ (config : Config) where
     pub later : List L.Entry
     pub adds : server_adds config past c ≡ later ++ e ∷ []
     pub silent : Every IsSilent later
-    pub fed : ServerFed from bytes e.answer c
+    pub call : server_call c ≡ L.Receive from bytes
+    pub up : e.answer ≡ server_up c
 
   pub at_client : (past : List C.Call) (c : C.Call) → client_turns.IsGood config (c ∷ past) → (from : Endpoint)
       (bytes : List ℕ) (e : L.Entry) → Ever (λ x. x ≡ e) (client_adds config past c) → e.call ≡ L.Receive from bytes
@@ -192,8 +196,8 @@ module _ (config : Config) where
             later = o.later;
             adds = o.is;
             silent = o.silent;
-            fed = server_fed from bytes e.answer c o.call_is
-                o.answer;
+            call = o.call_is;
+            up = o.answer;
           }
 
 -- an entry of one end, as such

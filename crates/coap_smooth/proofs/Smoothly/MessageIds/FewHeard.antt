@@ -200,6 +200,7 @@ came_when now up m is = by (handed_by up) is
 
 server_till : (t : ℕ) (c : S.Call) → server.IsAt t c → (m : ℕ) → to_server c ≡ Some m → m ≡ t
 server_till t (S.Feeds now from bytes word up came h below) at m is = came_when now up m is ∙ at
+server_till t (S.Refuses now from bytes word code up p response below) at m is = came_when now up m is ∙ at
 server_till t _ at m is = absurd (cc is)
 
 -- so many at once rise

@@ -3,6 +3,7 @@
 use Rattle.std.proofs.Common.{◌≡◌, ◌⊎◌, inl, inr, ℕ, true, Option, Some, None, List, [], ◌∷◌, refl, ap, sym, subst, ◌∙◌}
 use Rattle.std.proofs.Common.{is_some}
 use Rattle.coap_types.specs.Past.{Ever, Sometime, Always}
+use Rattle.coap_types.specs.declared.endpoint.Endpoint.{Endpoint}
 use Rattle.coap_codec.specs.Message.{Message}
 use Rattle.coap_layer.specs.Trace as L
 use Rattle.coap_layer.specs.declared.setup.Setup.{Setup}
@@ -41,6 +42,7 @@ use Rattle.coap_promise.proofs.Facts.Requests.CameFrom.{same_front}
 use Rattle.coap_promise.proofs.Facts.Requests.OfACall.{Lawful, lawful_back}
 use Rattle.coap_promise.proofs.Facts.Requests.Traced.{brought_in}
 use Rattle.coap_smooth.proofs.Smoothly.Answers.ExchangeOpen.{OpenOf, open_of, last_of, runs_of}
+use Rattle.coap_smooth.proofs.Smoothly.Arriving.OthersTakeNone.{server_call, server_up}
 use Rattle.coap_smooth.proofs.Smoothly.Arriving.WhereItArrives.{at_server}
 use Rattle.coap_promise.proofs.Facts.Reports.BegunWith.{none_made}
 use Rattle.coap_promise.proofs.Facts.Requests.AtAnyTime.{at_any_time}
@@ -80,6 +82,15 @@ found P [] h = absurd h
 found P (y ∷ xs) (inl h) = (y, inl refl, h)
 found P (y ∷ xs) (inr h) = let k = found P xs h in (k.0, inr k.1, k.2)
 
+-- a message that arrives and is handed up comes to the server
+arrives_some : (c : S.Call) (from : Endpoint) (bytes : List ℕ) (up : L.Answer) → server_call c ≡ L.Receive from bytes
+    → up ≡ server_up c → ((now : ℕ) → is_some (came_at now up) ≡ true) → is_some (to_server c) ≡ true
+arrives_some (S.Feeds now f b word u came h below) from bytes up is same some =
+    ap (λ z. is_some (came_at now z)) (sym same) ∙ some now
+arrives_some (S.Refuses now f b word code u p response below) from bytes up is same some =
+    ap (λ z. is_some (came_at now z)) (sym same) ∙ some now
+arrives_some _ from bytes up is same some = absurd (cc is)
+
 -- what is sent for a call cancels nothing
 not_cancelling : (op : Operation) (x : Sending) → is_call op ≡ true → IsSentFor op x → (y : Sending) → Deregisters y x
     → ⊥
@@ -113,8 +124,8 @@ module _ (config : Config) where
         sending = k.sending;
         sent = k.sent;
         token_is = sym (ap (λ (z : Asked). z.token) k.asked);
-        arrives = ap (λ d. is_some (to_server d)) at.fed.is
-            ∙ ap (λ u. is_some (came_at at.fed.now u)) up.2.answer;
+        arrives = arrives_some c a.from up.2.bytes up.0.answer at.call at.up
+            (λ now. ap (λ u. is_some (came_at now u)) up.2.answer);
       }
 
   brought_sent : (a : Asked) (q : Question) (w : List Entry) → Lawful config w → a.from ≡ config.addresses.client

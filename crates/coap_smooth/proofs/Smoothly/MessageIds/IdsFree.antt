@@ -23,6 +23,7 @@ use Rattle.coap_server.specs.Deferring.{deferral_by}
 use Rattle.coap_server.specs.Follows.Attended.{NoId}
 use Rattle.coap_server.specs.Follows.Observes.{notice, AreObservers}
 use Rattle.coap_server.specs.Handling.{heard, incoming, ticking}
+use Rattle.coap_server.specs.Refusing.{refusing}
 use Rattle.coap_server.specs.Law.{ServerLaw, own_of, lower_of}
 use Rattle.coap_server.specs.Notifying.{readies, marked}
 use Rattle.coap_server.specs.Trace as S
@@ -114,6 +115,10 @@ ticked s d passed h word id tick none f =
     quiet (S.Serves q reply left) never = tt
     quiet (S.Waits q delay) never = tt
 
+refusing_other : (a : Asked) (response : Option ℕ) (below : L.Answer) → Every IsOther (refusing a response below)
+refusing_other a None below = tt
+refusing_other a (Some code) below = (refl, tt)
+
 -- more messages came by more entries
 pub came_more : (since : ℕ) (front es : List L.Entry) → came since es ≤ came since (front ++ es)
 came_more since [] es = omega arith
@@ -154,6 +159,10 @@ module _ (config : Config) (observers : (t : List S.Call) → AreObservers confi
         let call : R.Call = incoming s now source bytes up came in
         every_join IsOther (answering (heard s now call) came h below) (call ∷ [])
         (answered (heard s now call) came h below) (refl, tt)
+    none_here (S.Refuses now source bytes word code up p response below) whole =
+        let s : S.Own = own_of config.limits config.server_szx (server_trace config past) in
+        every_join IsOther (refusing p.0 response below) (incoming s now source bytes up (Some p) ∷ [])
+        (refusing_other p.0 response below) (refl, tt)
     none_here (S.Ticks now word below room d passed h id answer) whole =
         let s : S.Own = own_of config.limits config.server_szx (server_trace config past) in
         let tick : R.Call = ticking s now below room d in

@@ -49,7 +49,8 @@ use Rattle.coap_smooth.proofs.Smoothly.Requests.EmptyAck.{acknowledged}
 use Rattle.coap_smooth.proofs.Smoothly.Arriving.HandedAs.{as_request}
 use Rattle.coap_smooth.proofs.Smoothly.Arriving.OnTime.{OnTime, every_last}
 use Rattle.coap_smooth.proofs.Smoothly.Arriving.OthersTakeNone.{IsSilent}
-use Rattle.coap_smooth.proofs.Smoothly.Arriving.WhereItArrives.{AtServer, at_server, far_found, no_far}
+use Rattle.coap_smooth.proofs.Smoothly.Arriving.WhereItArrives.{AtServer, ServerFed, at_server, far_found, no_far}
+use Rattle.coap_smooth.proofs.Smoothly.Arriving.WhereItArrives.{server_fed}
 
 -- one pair
 
@@ -170,22 +171,25 @@ module _ (config : Config) where
       stands = (Always_back _ at.later (e ∷ server_layer config t)
           (subst (LayerLaw config.server_setup) parts layer)).0
 
+      feed : ServerFed config.addresses.client con.bytes e.answer c
+      feed = server_fed config.addresses.client con.bytes e.answer c at.call at.up law.unrefused.0
+
       answer : e.answer ≡ L.Becomes (L.Request n true)
       answer = as_request config.server_setup (server_layer config t) e config.addresses.client con.id con.bytes n
           stands
           takes.takes.call spells refl takes.takes.up class
 
-      fed : c ≡ S.Feeds at.fed.now config.addresses.client con.bytes at.fed.word (L.Becomes (L.Request n true))
-          at.fed.came
-          at.fed.handling at.fed.below
-      fed = at.fed.is ∙ ap (λ u. S.Feeds at.fed.now config.addresses.client con.bytes at.fed.word u at.fed.came
-          at.fed.handling
-          at.fed.below) answer
+      fed : c ≡ S.Feeds feed.now config.addresses.client con.bytes feed.word (L.Becomes (L.Request n true))
+          feed.came
+          feed.handling feed.below
+      fed = feed.is ∙ ap (λ u. S.Feeds feed.now config.addresses.client con.bytes feed.word u feed.came
+          feed.handling
+          feed.below) answer
 
-      came : at.fed.came ≡ Some (a, n)
-      came = (handed_on (c ∷ t) law.server).0 at.fed.now config.addresses.client con.bytes at.fed.word n true
-          at.fed.came
-          at.fed.handling at.fed.below fed
+      came : feed.came ≡ Some (a, n)
+      came = (handed_on (c ∷ t) law.server).0 feed.now config.addresses.client con.bytes feed.word n true
+          feed.came
+          feed.handling feed.below fed
 
       came_is : came_in c ≡ Some (a, n)
       came_is = ap came_in fed ∙ came
@@ -365,12 +369,12 @@ module _ (config : Config) where
           found P (y ∷ xs) (inl h) = (y, inl refl, h)
           found P (y ∷ xs) (inr h) = let k = found P xs h in (k.0, inr k.1, k.2)
 
-          fed_is : c ≡ S.Feeds at.fed.now config.addresses.client con.bytes at.fed.word (L.Becomes (L.Request n true))
+          fed_is : c ≡ S.Feeds feed.now config.addresses.client con.bytes feed.word (L.Becomes (L.Request n true))
               (Some (a, n))
-              at.fed.handling at.fed.below
-          fed_is = fed ∙ ap (λ o. S.Feeds at.fed.now config.addresses.client con.bytes at.fed.word
+              feed.handling feed.below
+          fed_is = fed ∙ ap (λ o. S.Feeds feed.now config.addresses.client con.bytes feed.word
               (L.Becomes (L.Request n true)) o
-              at.fed.handling at.fed.below) came
+              feed.handling feed.below) came
 
           by : AnswersIt config.limits config.server_szx t c a
               ⊎ (WaitsToAsk config.limits config.server_szx t c (a, n) ⊎ IsIgnored n)
@@ -386,9 +390,9 @@ module _ (config : Config) where
               let w = found (InAck a r.0) (server_adds config t c) (sent.at_once a r.0 hands_it refl r.1) in
               inl (replied r.0 r.1 w.0 w.1 w.2 law)
           by (inr (inl waits)) =
-              let acks = acknowledged config t at.fed.now config.addresses.client con.bytes at.fed.word
+              let acks = acknowledged config t feed.now config.addresses.client con.bytes feed.word
               (L.Becomes (L.Request n true)) (a, n)
-              at.fed.below at.fed.handling waits.question
+              feed.below feed.handling waits.question
               (subst (λ d. MakesWait config.limits config.server_szx t d a waits.question) fed_is waits.waits)
               (subst (λ d. ServerLaw config.limits config.server_szx config.server_setup (d ∷ t)) fed_is law.server) in
               let w = found (λ (y : L.Entry). y.call ≡ L.Reply config.addresses.client con.id (ack_bytes con.id))

@@ -17,6 +17,7 @@ use Rattle.coap_server.specs.Asks.{answering, lower, notifies_by, responding}
 use Rattle.coap_server.specs.Deferring.{deferral_by, deferral}
 use Rattle.coap_server_laws.specs.Follows.Recognised.{IsRecognised}
 use Rattle.coap_server.specs.Handling.{heard, incoming, ticking}
+use Rattle.coap_server.specs.Refusing.{refusing}
 use Rattle.coap_server.specs.Law.{own_of, lower_of}
 use Rattle.coap_server.specs.Notifying.{marked, notification, readies}
 use Rattle.coap_server.specs.Plain.{by_plain}
@@ -48,6 +49,10 @@ answering_known s (Some p) (S.Serves q reply left) below = (tt, deferral_known s
 answering_known s (Some p) (S.Waits q delay) below = deferral_known s p.0 q
 answering_known s _ _ below = tt
 
+refusing_known : (a : Asked) (response : Option ℕ) (below : L.Answer) → Known (refusing a response below)
+refusing_known a None below = tt
+refusing_known a (Some code) below = (tt, tt)
+
 readies_known : (at passed : ℕ) (os : List Observer) → Known (readies at passed os)
 readies_known at passed [] = tt
 readies_known at zero (o ∷ os) = (tt, tt)
@@ -66,6 +71,10 @@ module _ (limits : Limits) (szx : ℕ) where
       let z : S.Own = heard s now (incoming s now from bytes up came) in
       every_join (SendsSo IsKnown Any) (answering z came h below) (incoming s now from bytes up came ∷ [])
       (answering_known z came h below) (tt, tt)
+  here_known t (S.Refuses now from bytes word code up p response below) k =
+      let s : S.Own = own_of limits szx t in
+      every_join (SendsSo IsKnown Any) (refusing p.0 response below) (incoming s now from bytes up (Some p) ∷ [])
+      (refusing_known p.0 response below) (tt, tt)
   here_known t (S.Ticks now word below room d passed h id answer) k =
       let s : S.Own = own_of limits szx t in
       let z : S.Own = heard s now (ticking s now below room d) in

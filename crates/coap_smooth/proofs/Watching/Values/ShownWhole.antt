@@ -193,7 +193,7 @@ module _ (config : Config) (small : config.server_szx ≤ 6) (all : List Entry) 
     none_here (replies y here r) = by_reply y here r
     none_here (continues y size taken more asks r) = absurd (no_code codes.CONTINUE.0 r.code refl)
     none_here (refuses a v n comes handed unserved refusal r) =
-        absurd (no_code n r.code (refused_not n (refusals_are_errors own c n refusal)))
+        absurd (no_code n r.code (refused_not n (refusals_are_errors own c law.server.rows.0 n refusal)))
     none_here (notifies o reply here made notice r) =
         by_notice o reply (own.store.holds o.path) refl
         (server_entries config (MadeWith config.limits config.server_szx o.to o.token o.path o.szx) (not_first config o)
