@@ -1,8 +1,9 @@
 //! The first frames of a journal, and the frame of a further life.
-ghost use Rattle.std.specs.Prelude.{◌≡◌, ◌∷◌, ◌++◌, IfOk};
+ghost use Rattle.std.specs.Prelude.{◌≡◌, ◌≢◌, ◌<◌, ◌≤◌, ◌^◌, ◌∷◌, ◌++◌, IfOk, length};
 ghost use Rattle.coap_journal.specs.Frames.{frame};
 ghost use Rattle.coap_journal.specs.Numbers.{number};
 ghost use Rattle.coap_journal.specs.Records.{Begun, Woke, record_bytes};
+ghost use Rattle.coap_journal_file.specs.declared.frames.FrameError.TheVariants as refusals;
 
 use coap_journal::{Beginning, Life, begun_bytes, frame_bytes, turn_bytes, woke_bytes};
 use coap_types::Moment;
@@ -41,7 +42,8 @@ impl From<AllocError> for FrameError {
 
 // The frame of these bytes at this place.
 fn framed(alloc: Global, place: u64, bytes: &[u8]) -> Result<Vec<u8>, FrameError>
-    ensures { IfOk result (λ v. v.items ≡ frame place bytes.now) }
+    ensures ok { IfOk result (λ v. v.items ≡ frame place bytes.now) }
+    ensures room { place < 2 ^ 62 → length bytes.now ≤ MAX_BODY_LEN → result ≢ Err refusals.NoRoom }
 {
     if place >= PLACES_END || bytes.len() > MAX_BODY_LEN {
         return Err(FrameError::NoRoom);

@@ -11,6 +11,8 @@ use thiserror::Error;
 /// Who may read and write a journal that is made: its owner alone, since all bodies stand in it, and the seed.
 pub const OWNER_ALONE: u32 = 0o600;
 
+const _: () = prove!(OWNER_ALONE == 6 * 64);
+
 // The folder of a name that names none.
 const THIS_FOLDER: &str = ".";
 

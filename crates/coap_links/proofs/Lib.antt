@@ -1,1 +1,2 @@
 pub mod SendChain
+pub mod SocketLeft

@@ -1,8 +1,10 @@
+pub mod Addressing
 pub mod Bound
 pub mod Carried
 pub mod Faults
 pub mod MemoryCarries
 pub mod Pumping
+pub mod SocketCalls
 pub mod Sockets
 pub mod Sources
 pub mod Tracing

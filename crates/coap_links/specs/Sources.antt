@@ -7,6 +7,7 @@ use Rattle.std.specs.declared.net.socket_addr.SocketAddr.TheVariants.{V4, V6}
 use Rattle.std.specs.declared.net.socket_addr.SocketAddrV6.{SocketAddrV6}
 use Rattle.coap_types.specs.declared.endpoint.Endpoint.{Endpoint}
 use Rattle.coap_links.specs.Sockets.{endpoint_in, reached_at}
+use Rattle.coap_links.specs.declared.peer_names.SixPeer.{SixPeer}
 use Rattle.coap_links.specs.declared.udp6_link.Source.{Source}
 use Rattle.coap_links.specs.declared.udp6_link.Source.TheVariants.{Four, Nowhere, Six}
 use Rattle.coap_links.specs.declared.udp_link.TheConstants.{NO_PORT as no_port}
@@ -15,11 +16,13 @@ abbrev pub four_or_nowhere : Option Endpoint → Source
 four_or_nowhere None = Nowhere
 four_or_nowhere (Some endpoint) = Four endpoint
 
+-- the peer that has an address of IPv6; a label of its flow is no part of it
+abbrev pub peer_at : SocketAddrV6 → SixPeer
+peer_at a = record { ip = ipv6_octets (v6_ip a); port = v6_port a; scope = v6_scope_id a }
+
 -- a peer of IPv6, unless its port is 0, where no answer can go (RFC 768)
 abbrev pub six_at : SocketAddrV6 → Source
-six_at a =
-    if v6_port a == no_port then Nowhere
-    else Six (record { ip = ipv6_octets (v6_ip a); port = v6_port a; scope = v6_scope_id a })
+six_at a = if v6_port a == no_port then Nowhere else Six (peer_at a)
 
 -- ::ffff:a.b.c.d is the peer a.b.c.d of IPv4 (RFC 4291, section 2.5.5.2)
 abbrev pub IsSource : SocketAddr → Source → Type 0

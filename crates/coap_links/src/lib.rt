@@ -1,12 +1,13 @@
 //! What carries the datagrams of an end: links, and the turns of an end over one.
-//!  A [`Link`] sends and receives datagrams and counts the calls that failed: a [`UdpLink`] over a socket, a
-//! [`Udp6Link`] over one of IPv6, whose peers have names, a [`MemoryLink`] in memory, a [`Trace`] around another, which
-//! tells of what passes. [`pump`] sends what an end has out and feeds it what came; [`turn`] pumps an end once, and
-//! then ticks it until nothing is due. Nothing here reads a clock but by a [`Timekeeper`], for names: each turn is
-//! handed its moment.
+//!  A [`Link`] sends and receives datagrams and counts the calls that failed: a [`UdpLink`] over a socket
+//! ([`DatagramSocket`]), a [`Udp6Link`] over one of IPv6, whose peers have names, a [`MemoryLink`] in memory, a
+//! [`Trace`] around another, which tells of what passes. [`pump`] sends what an end has out and feeds it what came;
+//! [`turn`] pumps an end once, and then ticks it until nothing is due. Nothing here reads a clock but by a
+//! [`Timekeeper`], for names: each turn is handed its moment.
 #![tactic(auto)]
 
 mod carried;
+mod datagram_socket;
 mod driver;
 mod link;
 #[cfg(test)]
@@ -14,6 +15,8 @@ mod link_tests;
 mod memory_link;
 mod peer_names;
 mod socket;
+#[cfg(test)]
+mod socket_tests;
 mod tally;
 #[cfg(test)]
 mod test_end;
@@ -32,6 +35,7 @@ mod udp6_link_tests;
 mod udp_link;
 
 pub use carried::Carried;
+pub use datagram_socket::DatagramSocket;
 pub use driver::{Pumped, pump, send_all};
 pub use link::{Link, MAX_DATAGRAM_LEN};
 pub use memory_link::MemoryLink;

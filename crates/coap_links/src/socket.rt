@@ -1,8 +1,10 @@
 //! A socket of UDP, whose calls that failed are counted.
-ghost use Rattle.std.specs.Prelude.{Ok, ◌≡◌, ◌≤◌, ◌⊎◌, ◌↔◌, IfOk, IfSome, IsErrAnd, length, true};
+ghost use Rattle.std.specs.Prelude.{Ok, ◌≡◌, ◌≤◌, ◌⊎◌, ◌↔◌, IfOk, IfSome, IsErrAnd, length, true, false};
 ghost use Rattle.std.specs.IoError.{error_kind};
-ghost use Rattle.coap_links.specs.Faults.{MayRaise, raised};
+ghost use Rattle.coap_links.specs.Faults.{MayRaise};
+ghost use Rattle.coap_links.specs.SocketCalls.{Hands, IsMissed, ReceivesOn, SendsOn, counted};
 
+use crate::datagram_socket::DatagramSocket;
 use crate::link::raise;
 use std::io;
 use std::io::ErrorKind;
@@ -16,24 +18,21 @@ const _: () = prove!(RECEIVE_WAIT_MS == 10);
 
 /// A socket, how many of its calls failed, and whether the system said that nobody listens where its datagrams go.
 #[derive(Drop)]
-pub(crate) struct Socket {
-    socket: UdpSocket,
+pub(crate) struct Socket<D> {
+    pub socket: D,
     pub faults: u64,
     pub is_refused: bool,
 }
 
-impl Socket {
+impl Socket<UdpSocket> {
     /// A socket at this address, which waits for a datagram for `RECEIVE_WAIT_MS`.
-    pub fn bind<R: Net>(net: &R, address: SocketAddr) -> io::Result<Socket>
-        ensures { IfOk result (λ socket. socket.faults ≡ 0) }
+    pub fn bind<R: Net>(net: &R, address: SocketAddr) -> io::Result<Socket<UdpSocket>>
+        ensures faults { IfOk result (λ socket. socket.faults ≡ 0) }
+        ensures hears { IfOk result (λ socket. socket.is_refused ≡ false) }
     {
         let socket = UdpSocket::bind(net, address)?;
         socket.set_read_timeout(Some(Duration::from_millis(RECEIVE_WAIT_MS)))?;
-        Ok(Socket {
-            socket,
-            faults: 0,
-            is_refused: false,
-        })
+        Ok(Socket::over(socket))
     }
 
     /// Where it is.
@@ -46,34 +45,67 @@ impl Socket {
     pub fn connect(&self, peer: SocketAddr) {
         let _connected = self.socket.connect(peer);
     }
+}
 
+impl<D> Socket<D> {
+    /// A socket of which no call failed.
+    pub fn over(socket: D) -> Socket<D>
+        ensures { result ≡ record { socket = socket; faults = 0; is_refused = false } }
+    {
+        Socket {
+            socket,
+            faults: 0,
+            is_refused: false,
+        }
+    }
+}
+
+impl<D: DatagramSocket + Drop> Socket<D> {
     /// Sends a datagram. A call that only tells that nobody listened to an earlier one is made once more, as the system
     /// sent nothing.
     pub fn send(&mut self, to: SocketAddr, bytes: &[u8])
-        ensures { MayRaise self.old.faults self.new.faults }
+        ensures sends { SendsOn D.hands self.old to bytes.now self.new }
+        ensures counted { MayRaise self.old.faults self.new.faults }
     {
-        let mut sending = self.send_once(to, bytes);
-        if sending == Sending::Closed {
-            self.is_refused = true;
-            sending = self.send_once(to, bytes);
-        }
-        if sending == Sending::Failed {
-            self.faults = raise(self.faults);
+        match self.hand(to, bytes) {
+            Sending::Closed => {
+                self.is_refused = true;
+                let again = self.hand(to, bytes);
+                self.count(again);
+            }
+            sending => self.count(sending),
         }
     }
 
-    // Sends a datagram by one call of the system.
-    fn send_once(&self, to: SocketAddr, bytes: &[u8]) -> Sending {
-        sending_of(self.socket.send_to(bytes, to), bytes.len())
+    // Hands a datagram to the system, once; what became of it.
+    fn hand(&mut self, to: SocketAddr, bytes: &[u8]) -> Sending
+        ensures hands { Hands D.hands self.old.socket to bytes.now result self.new.socket }
+        ensures kept { self.new ≡ record self.old { socket = self.new.socket } }
+    {
+        let said = self.socket.hand(to, bytes);
+        sending_of(said, bytes.len())
+    }
+
+    // Counts what became of a datagram.
+    fn count(&mut self, sending: Sending)
+        ensures counted { self.new ≡ record self.old { faults = counted sending self.old.faults } }
+        ensures raised { MayRaise self.old.faults self.new.faults }
+    {
+        match sending {
+            Sending::Went => {}
+            Sending::Closed => {}
+            Sending::Failed => self.faults = raise(self.faults),
+        }
     }
 
     /// Receives a datagram into the front of the buffer: its length, and where it came from.
     pub fn receive(&mut self, buf: &mut [u8]) -> Option<(usize, SocketAddr)>
+        ensures receives { ReceivesOn D.takes self.old buf.new result self.new }
         ensures fits { IfSome result (λ came. came.0 ≤ length buf.new) }
         ensures room { length buf.new ≡ length buf.old }
         ensures counted { MayRaise self.old.faults self.new.faults }
     {
-        match self.socket.recv_from(buf) {
+        match self.socket.take(buf) {
             Ok(came) => {
                 self.is_refused = false;
                 Some(came)
@@ -88,11 +120,7 @@ impl Socket {
     // A receive found no datagram, and ended so.
     fn missed(&mut self, kind: ErrorKind)
         ensures counted { MayRaise self.old.faults self.new.faults }
-        ensures quiet { (kind ≡ ErrorKind.WouldBlock) ⊎ (kind ≡ ErrorKind.TimedOut) → self.new ≡ self.old }
-        ensures refused { kind ≡ ErrorKind.ConnectionRefused → self.new ≡ record self.old { is_refused = true } }
-        ensures fault { ((kind ≡ ErrorKind.WouldBlock) ⊎ (kind ≡ ErrorKind.TimedOut)
-            ⊎ (kind ≡ ErrorKind.ConnectionRefused)
-            → ⊥) → self.new ≡ record self.old { faults = raised self.old.faults } }
+        ensures missed { IsMissed kind self.old self.new }
     {
         if is_closed(kind) {
             self.is_refused = true;

@@ -1,14 +1,16 @@
 //! A link over a socket of UDP over IPv6.
-ghost use Rattle.std.specs.Prelude.{Some, None, ◌≡◌, true, IfOk, IfSome};
+ghost use Rattle.std.specs.Prelude.{ℕ, List, Option, ◌≡◌, ◌+◌, ◌⊎◌, true, IfOk, length};
 ghost use Rattle.std.specs.Net.Addr.{ipv6_segments, segments_of};
 ghost use Rattle.std.specs.Net.Socket.{v6_ip, v6_port, v6_scope_id};
-ghost use Rattle.coap_links.specs.Faults.{MayRaise};
+ghost use Rattle.std.specs.declared.net.socket_addr.SocketAddr.{SocketAddr as SocketAddrSpec};
+ghost use Rattle.coap_links.specs.Addressing.{IsCarriedBySix, IsNamed, IsReachedAt, SendsWhere};
+ghost use Rattle.coap_links.specs.Bound.{IsClientAddress, IsClientSix};
+ghost use Rattle.coap_links.specs.SocketCalls.{ReceivesOn};
 ghost use Rattle.coap_links.specs.Sockets.{is_of_this_network};
-ghost use Rattle.coap_links.specs.Sources.{IsSource, four_or_nowhere, mapped_segments};
-ghost use Rattle.coap_links.specs.declared.peer_names.SixPeer.{SixPeer as SixPeerSpec};
-ghost use Rattle.coap_links.specs.declared.udp6_link.Source.TheVariants as sources;
-ghost use Rattle.coap_types.specs.declared.endpoint.Endpoint.{Endpoint as EndpointSpec};
+ghost use Rattle.coap_links.specs.Sources.{IsSource, four_or_nowhere, mapped_segments, peer_at};
+ghost use Rattle.coap_links.specs.declared.link.TheConstants.{MAX_DATAGRAM_LEN as max_datagram_len};
 
+use crate::datagram_socket::DatagramSocket;
 use crate::link::{Link, MAX_DATAGRAM_LEN};
 use crate::peer_names::{PeerNames, SixPeer, is_name};
 use crate::socket::Socket;
@@ -19,7 +21,7 @@ use std::alloc::Allocator;
 use std::hash::BuildHasher;
 use std::io;
 use std::io::ErrorKind;
-use std::net::{Ipv4Addr, Ipv6Addr, Net, SocketAddr, SocketAddrV6};
+use std::net::{Ipv4Addr, Ipv6Addr, Net, SocketAddr, SocketAddrV6, UdpSocket};
 
 /// Where a datagram came from.
 #[derive(Clone, Copy, Debug, PartialEq, Eq)]
@@ -42,6 +44,17 @@ fn source_of_four(endpoint: Option<Endpoint>) -> Source
     }
 }
 
+// The peer that has an address of IPv6.
+fn peer_at(address: &SocketAddrV6) -> SixPeer
+    ensures { result ≡ peer_at address.now }
+{
+    SixPeer {
+        ip: address.ip().octets(),
+        port: address.port(),
+        scope: address.scope_id(),
+    }
+}
+
 /// Where a datagram came from that has this address: ::ffff:a.b.c.d is the peer a.b.c.d over IPv4 (RFC 4291, section
 /// 2.5.5.2).
 pub(crate) fn source_of(address: SocketAddr) -> Source
@@ -54,11 +67,7 @@ pub(crate) fn source_of(address: SocketAddr) -> Source
     match six.ip().to_ipv4_mapped() {
         Some(four) => source_of_four(reached_at(four.octets(), six.port())),
         None if six.port() == NO_PORT => Source::Nowhere,
-        None => Source::Six(SixPeer {
-            ip: six.ip().octets(),
-            port: six.port(),
-            scope: six.scope_id(),
-        }),
+        None => Source::Six(peer_at(&six)),
     }
 }
 
@@ -81,7 +90,9 @@ pub(crate) fn address_of_four(to: Endpoint) -> SocketAddrV6
 }
 
 // The address of a client's socket, by that of its server: ::1 where the server is at ::1.
-fn client_ip(server: &Ipv6Addr) -> Ipv6Addr {
+fn client_ip(server: &Ipv6Addr) -> Ipv6Addr
+    ensures { IsClientSix server.now result }
+{
     if server.is_loopback() {
         Ipv6Addr::LOCALHOST
     } else {
@@ -89,11 +100,24 @@ fn client_ip(server: &Ipv6Addr) -> Ipv6Addr {
     }
 }
 
+// .. its socket address, at a port that is free.
+fn client_address(server: &SocketAddrV6) -> SocketAddrV6
+    ensures { IsClientAddress server.now result }
+{
+    SocketAddrV6::new(client_ip(server.ip()), ANY_PORT, 0, server.scope_id())
+}
+
 /// A UDP socket of IPv6. The endpoint of a peer over IPv6 is its name, which is in 0.0.0.0/8; the endpoint of a peer
 /// over IPv4 is its address. At `::` the system may hand it what comes over IPv4, too.
 #[derive(Drop)]
-pub struct Udp6Link<'a, S: BuildHasher + Copy + Drop, A: Allocator + Copy, T: Timekeeper + Drop> {
-    socket: Socket,
+pub struct Udp6Link<
+    'a,
+    S: BuildHasher + Copy + Drop,
+    A: Allocator + Copy,
+    T: Timekeeper + Drop,
+    D = UdpSocket,
+> {
+    socket: Socket<D>,
     address: Endpoint,
     names: &'a PeerNames<S, A>,
     time: T,
@@ -104,6 +128,7 @@ impl<'a, S: BuildHasher + Copy + Drop, A: Allocator + Copy, T: Timekeeper + Drop
     S,
     A,
     T,
+    UdpSocket,
 > {
     /// A socket at an address of this machine; at port 0, at a port of it that is free. Its peers have names of this
     /// table, which forgets them by this clock.
@@ -112,7 +137,7 @@ impl<'a, S: BuildHasher + Copy + Drop, A: Allocator + Copy, T: Timekeeper + Drop
         address: SocketAddrV6,
         names: &'a PeerNames<S, A>,
         time: T,
-    ) -> io::Result<Udp6Link<'a, S, A, T>>
+    ) -> io::Result<Udp6Link<'a, S, A, T, UdpSocket>>
         // A link over IPv6 that is bound has failed no call.
         ensures faults { IfOk result (λ link. link.socket.faults ≡ 0) }
         // The endpoint of a link over IPv6 is a name.
@@ -143,32 +168,38 @@ impl<'a, S: BuildHasher + Copy + Drop, A: Allocator + Copy, T: Timekeeper + Drop
         server: SocketAddrV6,
         names: &'a PeerNames<S, A>,
         time: T,
-    ) -> io::Result<(Udp6Link<'a, S, A, T>, Endpoint)>
+    ) -> io::Result<(Udp6Link<'a, S, A, T, UdpSocket>, Endpoint)>
         // A client's link over IPv6 that is bound has failed no call.
         ensures faults { IfOk result (λ bound. bound.0.socket.faults ≡ 0) }
         // The endpoint by which a client knows its server over IPv6 is a name.
         ensures name { IfOk result (λ bound. is_of_this_network bound.1.ip ≡ true) }
     {
-        let own = SocketAddrV6::new(client_ip(server.ip()), ANY_PORT, 0, server.scope_id());
-        let link = Udp6Link::bind(net, own, names, time)?;
+        let link = Udp6Link::bind(net, client_address(&server), names, time)?;
         link.socket.connect(SocketAddr::V6(server));
-        let peer = SixPeer {
-            ip: server.ip().octets(),
-            port: server.port(),
-            scope: server.scope_id(),
-        };
-        match names.name_of(Moment(0), &peer) {
+        match names.name_of(Moment(0), &peer_at(&server)) {
             Some(name) => Ok((link, name)),
             None => Err(io::Error::from(ErrorKind::OutOfMemory)),
         }
     }
+}
 
+impl<
+    'a,
+    S: BuildHasher + Copy + Drop,
+    A: Allocator + Copy,
+    T: Timekeeper + Drop,
+    D: DatagramSocket + Drop,
+> Udp6Link<'a, S, A, T, D> {
     // The moment that it is; where the clock fails, none later than the last.
     fn now(&mut self) -> Moment
+        ensures told { (T.tells self.old.time result.0 self.new.time) ⊎ (result.0 ≡ 0) }
         ensures socket { self.new.socket ≡ self.old.socket }
         ensures address { self.new.address ≡ self.old.address }
     {
-        self.time.now().unwrap_or(Moment(0))
+        match self.time.now() {
+            Ok(moment) => moment,
+            Err(_) => Moment(0),
+        }
     }
 
     // The endpoint of a source: an address of IPv4, or a name. None where no answer can be sent there, and where no
@@ -176,10 +207,7 @@ impl<'a, S: BuildHasher + Copy + Drop, A: Allocator + Copy, T: Timekeeper + Drop
     fn named(&mut self, source: Source) -> Option<Endpoint>
         ensures socket { self.new.socket ≡ self.old.socket }
         ensures address { self.new.address ≡ self.old.address }
-        ensures four { (endpoint : EndpointSpec) → source ≡ sources.Four endpoint → result ≡ Some endpoint }
-        ensures six { (peer : SixPeerSpec) → source ≡ sources.Six peer
-            → IfSome result (λ name. is_of_this_network name.ip ≡ true) }
-        ensures nowhere { source ≡ sources.Nowhere → result ≡ None }
+        ensures named { IsNamed source result }
     {
         match source {
             Source::Four(endpoint) => Some(endpoint),
@@ -195,6 +223,7 @@ impl<'a, S: BuildHasher + Copy + Drop, A: Allocator + Copy, T: Timekeeper + Drop
     fn address_of(&mut self, to: Endpoint) -> Option<SocketAddr>
         ensures socket { self.new.socket ≡ self.old.socket }
         ensures address { self.new.address ≡ self.old.address }
+        ensures reached { IsReachedAt (is_of_this_network to.ip) to result }
     {
         if is_name(to) {
             let now = self.now();
@@ -206,11 +235,20 @@ impl<'a, S: BuildHasher + Copy + Drop, A: Allocator + Copy, T: Timekeeper + Drop
     }
 }
 
-impl<'a, S: BuildHasher + Copy + Drop, A: Allocator + Copy, T: Timekeeper + Drop> Link
-    for Udp6Link<'a, S, A, T> {
-    ghost sends = { λ before _ _ after. MayRaise before.socket.faults after.socket.faults };
+impl<
+    'a,
+    S: BuildHasher + Copy + Drop,
+    A: Allocator + Copy,
+    T: Timekeeper + Drop,
+    D: DatagramSocket + Drop,
+> Link for Udp6Link<'a, S, A, T, D> {
+    ghost sends = { λ before to bytes after. (address : Option SocketAddrSpec)
+        × IsReachedAt (is_of_this_network to.ip) to address
+        × SendsWhere D.hands before.socket address bytes after.socket × (after.address ≡ before.address) };
 
-    ghost receives = { λ before _ after. MayRaise before.socket.faults after.socket.faults };
+    ghost receives = { λ before given after. (found : Option (ℕ × SocketAddrSpec)) × (bytes : List ℕ)
+        × ReceivesOn D.takes before.socket bytes found after.socket × (length bytes ≡ max_datagram_len + 1)
+        × IsCarriedBySix found bytes given × (after.address ≡ before.address) };
 
     ghost fault_count = { λ link. link.socket.faults };
 

@@ -1,19 +1,22 @@
 //! A link over a socket of UDP.
-ghost use Rattle.std.specs.Prelude.{ℕ, List, Option, Some, None, ◌≡◌, ◌<◌, ◌≤◌, ◌⊎◌, IfOk, IfSome, IfNone, length};
+ghost use Rattle.std.specs.Prelude.{ℕ, List, Option, Some, None, ◌≡◌, ◌+◌, ◌<◌, ◌≤◌, ◌⊎◌, IfOk, IfSome, IfNone, length};
 ghost use Rattle.std.specs.Prelude.{take, true, false};
-ghost use Rattle.std.specs.Net.Socket.{socket_ip, socket_port};
-ghost use Rattle.std.specs.declared.net.ip_addr.IpAddr.TheVariants.{V4};
-ghost use Rattle.coap_links.specs.Bound.{IsBoundAt, client_ip};
-ghost use Rattle.coap_links.specs.Faults.{MayRaise};
+ghost use Rattle.std.specs.declared.net.socket_addr.SocketAddr.{SocketAddr as SocketAddrSpec};
+ghost use Rattle.coap_links.specs.Addressing.{IsAddressOf, carried_from, carried_in};
+ghost use Rattle.coap_links.specs.Bound.{IsBoundAt, bound_endpoint, client_ip};
+ghost use Rattle.coap_links.specs.Carried.{received};
+ghost use Rattle.coap_links.specs.SocketCalls.{ReceivesOn, SendsOn};
 ghost use Rattle.coap_links.specs.Sockets.{endpoint_in, is_of_this_network, reached_at};
+ghost use Rattle.coap_links.specs.declared.link.TheConstants.{MAX_DATAGRAM_LEN as max_datagram_len};
 
+use crate::datagram_socket::DatagramSocket;
 use crate::link::{Link, MAX_DATAGRAM_LEN};
 use crate::peer_names::is_name;
 use crate::socket::Socket;
 use coap_types::Endpoint;
 use std::io;
 use std::io::ErrorKind;
-use std::net::{IpAddr, Ipv4Addr, Net, SocketAddr};
+use std::net::{IpAddr, Ipv4Addr, Net, SocketAddr, UdpSocket};
 
 /// The port that stands for one that is free.
 pub const ANY_PORT: u16 = 0;
@@ -32,10 +35,10 @@ pub const LOOPBACK: [u8; 4] = [127, 0, 0, 1];
 /// The address that stands for each of the machine's (RFC 1122, section 3.2.1.3).
 pub const EACH_ADDRESS: [u8; 4] = [0, 0, 0, 0];
 
-/// A UDP socket.
+/// A UDP socket. What it asks of the system is what `DatagramSocket` says.
 #[derive(Drop)]
-pub struct UdpLink {
-    socket: Socket,
+pub struct UdpLink<D = UdpSocket> {
+    socket: Socket<D>,
     address: Endpoint,
 }
 
@@ -67,7 +70,9 @@ pub(crate) fn endpoint_of(address: SocketAddr) -> Option<Endpoint>
 }
 
 // Where a socket of IPv4 is.
-fn bound_endpoint(address: SocketAddr) -> Option<Endpoint> {
+fn bound_endpoint(address: SocketAddr) -> Option<Endpoint>
+    ensures { result ≡ bound_endpoint address }
+{
     match address {
         SocketAddr::V4(address) => Some(Endpoint {
             ip: address.ip().octets(),
@@ -79,8 +84,7 @@ fn bound_endpoint(address: SocketAddr) -> Option<Endpoint> {
 
 // The socket address of an endpoint.
 fn socket_address(to: Endpoint) -> SocketAddr
-    ensures ip { socket_ip result ≡ V4 (record { octets = to.ip }) }
-    ensures port { socket_port result ≡ to.port }
+    ensures { IsAddressOf to result }
 {
     let [a, b, c, d] = to.ip;
     SocketAddr::new(IpAddr::V4(Ipv4Addr::new(a, b, c, d)), to.port)
@@ -103,7 +107,7 @@ fn client_ip(server: [u8; 4]) -> [u8; 4]
     }
 }
 
-impl UdpLink {
+impl UdpLink<UdpSocket> {
     /// A socket at an address of this machine; at `ANY_PORT`, at a port of it that is free.
     ///
     /// At `LOOPBACK` only the machine itself reaches it. At `EACH_ADDRESS` whoever reaches one of the machine's
@@ -112,7 +116,7 @@ impl UdpLink {
     /// that may be another one: the client then has an answer from an endpoint that it did not ask,
     /// and does not take it (RFC 7252, section 5.3.2). Such a server is bound to the one address that
     /// its clients ask.
-    pub fn bind<R: Net>(net: &R, address: Endpoint) -> io::Result<UdpLink>
+    pub fn bind<R: Net>(net: &R, address: Endpoint) -> io::Result<UdpLink<UdpSocket>>
         // A link that is bound has failed no call.
         ensures faults { IfOk result (λ link. link.socket.faults ≡ 0) }
         // A link that is bound has the address that was asked for, and the port, but where any would do.
@@ -133,7 +137,7 @@ impl UdpLink {
     /// datagram leaves from the address that the system chooses for its way. It is connected, where there is a way to
     /// the server: the system then drops what comes from elsewhere, and says where nobody listens (RFC 1122, section
     /// 4.1.3.3).
-    pub fn client<R: Net>(net: &R, server: Endpoint) -> io::Result<UdpLink>
+    pub fn client<R: Net>(net: &R, server: Endpoint) -> io::Result<UdpLink<UdpSocket>>
         // A client's link that is bound has failed no call.
         ensures faults { IfOk result (λ link. link.socket.faults ≡ 0) }
         // A client's link is at 127.0.0.1 where its server is in 127.0.0.0/8, and else at 0.0.0.0.
@@ -149,6 +153,22 @@ impl UdpLink {
     }
 }
 
+impl<D> UdpLink<D> {
+    /// A link over a socket that is there.
+    pub fn over(socket: D, address: Endpoint) -> UdpLink<D>
+        // A link over a socket has failed no call, and is where it is said to be.
+        ensures { result ≡ record {
+          socket = record { socket = socket; faults = 0; is_refused = false };
+          address = address;
+        } }
+    {
+        UdpLink {
+            socket: Socket::over(socket),
+            address,
+        }
+    }
+}
+
 /// Copies what came to the front of a buffer, and answers from where and how long it is; None where it is too long.
 pub(crate) fn put_in(
     len: usize,
@@ -161,6 +181,7 @@ pub(crate) fn put_in(
     ensures some { IfSome result (λ came. (came ≡ (from, len)) × (len ≤ MAX_DATAGRAM_LEN)
         × (take len buf.new ≡ take len bytes.now)) }
     ensures none { IfNone result (MAX_DATAGRAM_LEN < len) }
+    ensures carried { received result buf.new ≡ carried_from (Some from) len bytes.now }
     ensures room { length buf.new ≡ length buf.old }
 {
     if len > MAX_DATAGRAM_LEN {
@@ -182,16 +203,20 @@ pub(crate) fn arrived(
     ensures some { IfSome result (λ came. (endpoint_in from ≡ Some came.0) × (came.1 ≡ len) × (len ≤ MAX_DATAGRAM_LEN)
         × (take len buf.new ≡ take len bytes.now)) }
     ensures none { IfNone result ((endpoint_in from ≡ None) ⊎ (MAX_DATAGRAM_LEN < len)) }
+    ensures carried { received result buf.new ≡ carried_in (Some (len, from)) bytes.now }
     ensures room { length buf.new ≡ length buf.old }
 {
     let from = endpoint_of(from)?;
     put_in(len, from, bytes, buf)
 }
 
-impl Link for UdpLink {
-    ghost sends = { λ before _ _ after. MayRaise before.socket.faults after.socket.faults };
+impl<D: DatagramSocket + Drop> Link for UdpLink<D> {
+    ghost sends = { λ before to bytes after. (address : SocketAddrSpec) × IsAddressOf to address
+        × SendsOn D.hands before.socket address bytes after.socket × (after.address ≡ before.address) };
 
-    ghost receives = { λ before _ after. MayRaise before.socket.faults after.socket.faults };
+    ghost receives = { λ before given after. (found : Option (ℕ × SocketAddrSpec)) × (bytes : List ℕ)
+        × ReceivesOn D.takes before.socket bytes found after.socket × (length bytes ≡ max_datagram_len + 1)
+        × (given ≡ carried_in found bytes) × (after.address ≡ before.address) };
 
     ghost fault_count = { λ link. link.socket.faults };
 
