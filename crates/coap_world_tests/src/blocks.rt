@@ -1,6 +1,10 @@
 //! Bodies of two blocks of 16 bytes, and bodies past a limit (RFC 7959).
+use test_scripts::Scripts;
 
-pub(crate) const RUNS: &str = "
+pub(crate) const RUNS: Scripts<'static> = Scripts {
+    module: module_path!(),
+    line: 7,
+    text: "
 == a_put_in_two_blocks
 # Its body is applied whole (RFC 7959, section 2.5).
 with client-szx=0
@@ -100,4 +104,5 @@ with client-limit=16 server-limit=17
 > out 1 1 S C 6845_0000_0000000000000000_480000000000000001_80_ff3031323334353637383961626364656667
 2 deliver 1
 > reports 0 too-large
-";
+",
+};

@@ -1,6 +1,10 @@
 //! Calls, local changes and strangers, with all that the record tells of them.
+use test_scripts::Scripts;
 
-pub(crate) const RUNS: &str = "
+pub(crate) const RUNS: Scripts<'static> = Scripts {
+    module: module_path!(),
+    line: 7,
+    text: "
 == a_resource_is_read
 0 set /t 0 hi
 > puts 1
@@ -283,4 +287,5 @@ delay /t 2000
 62000 tick client
 > out 1 62000 C S 4801_0001_0000000000000001_b174
 > reports 0 timeout
-";
+",
+};

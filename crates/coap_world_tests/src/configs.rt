@@ -6,6 +6,9 @@ use coap_types::{MAX_SZX, Path, PathRefusal, Szx};
 use failing_allocator::Failing;
 use std::alloc::Allocator;
 use std::test::Fail;
+use test_scripts::Line;
+
+const NO_LINE: [Line<'static>; 0] = [];
 
 #[test]
 fn how_many_changes_a_window_may_take(rt: HostRuntime) -> Result<(), Fail> {
@@ -28,7 +31,7 @@ fn how_many_changes_a_window_may_take(rt: HostRuntime) -> Result<(), Fail> {
 
 #[test]
 fn no_event(rt: HostRuntime) -> Result<(), Fail> {
-    let config = config_of(rt.alloc(), "")?;
+    let config = config_of(rt.alloc(), &NO_LINE)?;
     let events: [Event; 0] = [];
     let ended = run(&events, &config);
     let Ok(record) = &ended else {
@@ -49,7 +52,7 @@ fn path_of<A: Allocator + Copy>(memory: A, byte: u8) -> Result<Path<A>, PathRefu
 
 #[test]
 fn sixteen_paths_have_a_delay(rt: HostRuntime) -> Result<(), Fail> {
-    let mut config = config_of(rt.alloc(), "")?;
+    let mut config = config_of(rt.alloc(), &NO_LINE)?;
     for byte in 0..16u8 {
         config.delay(&path_of(rt.alloc(), byte)?, 1_000)?;
     }
@@ -70,7 +73,7 @@ const MANY: u64 = 10;
 fn a_delay_for_which_memory_is_wanting(rt: HostRuntime) -> Result<(), Fail> {
     for number in 1..MANY {
         let memory = Failing::new(rt.alloc(), number);
-        let mut config = config_of(&memory, "")?;
+        let mut config = config_of(&memory, &NO_LINE)?;
         let Ok(path) = path_of(&memory, 0) else {
             continue;
         };
@@ -88,7 +91,7 @@ fn a_delay_for_which_memory_is_wanting(rt: HostRuntime) -> Result<(), Fail> {
 
 #[test]
 fn sixteen_paths_are_plain(rt: HostRuntime) -> Result<(), Fail> {
-    let mut config = config_of(rt.alloc(), "")?;
+    let mut config = config_of(rt.alloc(), &NO_LINE)?;
     for byte in 0..16u8 {
         config.plain(&path_of(rt.alloc(), byte)?)?;
     }
@@ -106,7 +109,7 @@ fn sixteen_paths_are_plain(rt: HostRuntime) -> Result<(), Fail> {
 fn a_plain_path_for_which_memory_is_wanting(rt: HostRuntime) -> Result<(), Fail> {
     for number in 1..MANY {
         let memory = Failing::new(rt.alloc(), number);
-        let mut config = config_of(&memory, "")?;
+        let mut config = config_of(&memory, &NO_LINE)?;
         let Ok(path) = path_of(&memory, 0) else {
             continue;
         };

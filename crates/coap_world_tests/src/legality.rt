@@ -1,6 +1,10 @@
 //! Which lists of events are legal, and which event is the first that is not.
+use test_scripts::Scripts;
 
-pub(crate) const RUNS: &str = "
+pub(crate) const RUNS: Scripts<'static> = Scripts {
+    module: module_path!(),
+    line: 7,
+    text: "
 == nothing_happens
 
 == the_greatest_moment
@@ -53,4 +57,5 @@ pub(crate) const RUNS: &str = "
 == a_stranger_at_the_address_of_the_server
 0 stranger client S 40000001
 ! not legal 0
-";
+",
+};

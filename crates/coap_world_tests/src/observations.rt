@@ -1,6 +1,10 @@
 //! Observations, their cancels and their ends (RFC 7641).
+use test_scripts::Scripts;
 
-pub(crate) const RUNS: &str = "
+pub(crate) const RUNS: Scripts<'static> = Scripts {
+    module: module_path!(),
+    line: 7,
+    text: "
 == a_resource_is_observed
 0 set /t 0 a
 > puts 1
@@ -255,4 +259,5 @@ plain /t
 > out 4 2004 C S 60000000
 > reports 0 value 2 0000000000000002 0 62
 2005 deliver 1
-";
+",
+};

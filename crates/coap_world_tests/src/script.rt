@@ -1,9 +1,7 @@
 //! Runs as text: with what they begin, their events, and what their record tells.
 //!
-//! A run begins with `== ` and its name. A line that begins with `> ` is told, and `_` in it parts
-//! bytes that belong together; `! ` stands before why there is no record, and `#` before a remark.
-//! Each other line is an event, or says with what the run begins. `{ab*3}` stands for `ababab`, and
-//! `{}` for nothing.
+//! `test_scripts` says what a script is. A line that begins with `> ` is told; `! ` stands before why there is no
+//! record. Each step is an event, or says with what the run begins.
 //!
 //! | Line | What it says |
 //! |---|---|
@@ -33,61 +31,84 @@
 //! | `> memory` | the input met want of memory |
 mod events;
 mod reports;
+mod settings;
 mod telling;
 mod words;
 
 use coap_resource::Store;
 use coap_run::run_with;
-pub(crate) use events::{config_of, events_of};
+pub(crate) use events::events_of;
+pub(crate) use settings::config_of;
 use std::alloc::{Allocator, Global};
 use std::test::Fail;
 pub(crate) use telling::told;
-use words::{cut, push_spelt};
+use test_scripts::{Line, Mark, Script, Wanted, Wrong, cut};
 
-/// The run of this name.
-pub(crate) fn find<'a>(runs: &'a str, name: &str) -> Result<&'a str, Fail> {
-    for run in runs.split("\n== ").skip(1) {
-        if cut(run, "\n").0 == name {
-            return Ok(run);
-        }
-    }
-    Err(Fail::new("there is no such run"))
+// What a step says.
+#[derive(Clone, Copy)]
+enum Step<'a> {
+    // With what the run begins.
+    With(&'a str),
+    // A path, and how long its requests wait.
+    Delay(&'a str),
+    // A path whose notifications go in NONs.
+    Plain(&'a str),
+    // An event, which begins with its moment.
+    Event(&'a str),
 }
 
-/// What is told of this run over such a store. An event may be lost: an end is then asked to forget
-/// an observation that never was.
+impl<'a> Step<'a> {
+    fn of(line: &Line<'a>) -> Self {
+        match line.text.split_once(' ') {
+            Some(("with", words)) => Step::With(words),
+            Some(("delay", words)) => Step::Delay(words),
+            Some(("plain", words)) => Step::Plain(words),
+            _ => Step::Event(line.text),
+        }
+    }
+}
+
+/// What is told of the run of these lines over such a store. An event may be lost: an end is then asked to
+/// forget an observation that never was.
 pub(crate) fn run_text<S: Store<A>, A: Allocator + Copy>(
     alloc: Global,
     memory: A,
-    run: &str,
+    lines: &[Line<'_>],
     lost: Option<usize>,
 ) -> Result<String, Fail> {
-    let config = config_of(memory, run)?;
-    let events = events_of(alloc, memory, run, lost)?;
+    let config = config_of(memory, lines)?;
+    let events = events_of(alloc, memory, lines, lost)?;
     told(alloc, &run_with::<S, A>(events.as_slice(), &config))
 }
 
-/// What has to be told.
-pub(crate) fn wanted(alloc: Global, run: &str) -> Result<String, Fail> {
-    let mut text = String::new(alloc);
-    for line in run.lines() {
-        if let Some(why) = line.strip_prefix("! ") {
-            return Ok(format!(in alloc; "{why}\n")?);
-        }
-        if let Some(line) = line.strip_prefix("> ") {
-            let bytes: String = line.chars().filter(|letter| *letter != '_').collect(alloc)?;
-            push_spelt(&mut text, bytes.as_str())?;
-            text.push('\n')?;
-        } else if is_event(line) {
-            text.push_str("begins ")?;
-            text.push_str(cut(line, " ").0)?;
-            text.push('\n')?;
-        }
+/// What has to be told of the lines of this script.
+pub(crate) fn wanted<'a>(
+    alloc: Global,
+    script: &Script<'a>,
+    lines: &[Line<'a>],
+) -> Result<Wanted<'a>, Fail> {
+    let refusal = lines.iter().find(|line| line.mark == Mark::Refusal);
+    let mut wanted = Wanted::new(alloc, script);
+    if let Some(line) = refusal {
+        wanted.push(line, line.text)?;
+        return Ok(wanted);
     }
-    Ok(text)
+    for line in lines {
+        line.check(add_wanted(alloc, &mut wanted, line))?;
+    }
+    Ok(wanted)
 }
 
-// An event begins with its moment.
-fn is_event(line: &str) -> bool {
-    line.starts_with(|letter: char| letter.is_ascii_digit())
+// Adds what a line says to be told: of an event that it begins.
+fn add_wanted<'a>(alloc: Global, wanted: &mut Wanted<'a>, line: &Line<'a>) -> Result<(), Wrong> {
+    match (line.mark, Step::of(line)) {
+        (Mark::Told, _) => wanted.push_told(alloc, line),
+        (Mark::Step, Step::Event(event)) => {
+            let begins = format!(in alloc; "begins {}", cut(event, " ").0)?;
+            wanted.push(line, begins.as_str())?;
+            Ok(())
+        }
+        (Mark::Step, _) => Ok(()),
+        _ => Err(Wrong::Because("a run has no such line")),
+    }
 }

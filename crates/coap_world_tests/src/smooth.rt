@@ -1,7 +1,11 @@
 //! Smooth runs: both ends tick each second, each datagram comes once, in order and within a second, and the server has
 //! delays of at most 10,000 ms. Each call is answered, and each value of what is observed is told.
+use test_scripts::Scripts;
 
-pub(crate) const RUNS: &str = "
+pub(crate) const RUNS: Scripts<'static> = Scripts {
+    module: module_path!(),
+    line: 8,
+    text: "
 == each_method_waits_for_its_delay
 # In each second comes, in order, what was given out in the second before, and then both ends tick: nothing is on its
 # way for more than 1,000 ms, and no tick is more than 1,000 ms old.
@@ -394,4 +398,5 @@ plain /t
 33000 tick server
 34000 tick client
 34000 tick server
-";
+",
+};

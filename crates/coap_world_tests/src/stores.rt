@@ -4,11 +4,14 @@ use crate::{blocks, calls, legality, observations, smooth, uploads};
 use coap_resource::{ListStore, MapStore};
 use coap_run::run;
 use std::alloc::Global;
-use std::process::Abort;
 use std::test::Fail;
+use test_scripts::{Script, Scripts, scripts_of};
 
 // A window of 256,000 ms takes so many changes, local ones and those of requests together.
-const RUNS: &str = "
+const RUNS: Scripts<'static> = Scripts {
+    module: module_path!(),
+    line: 14,
+    text: "
 == two_changes_in_a_window
 with changes=2
 0 set /t 0 a
@@ -59,7 +62,8 @@ with changes=4
 > changes /log 4 gone
 4 set /t 0 b
 > refused 4
-";
+",
+};
 
 #[test]
 fn what_is_told(rt: HostRuntime) -> Result<(), Fail> {
@@ -73,27 +77,24 @@ fn what_is_told(rt: HostRuntime) -> Result<(), Fail> {
         smooth::RUNS,
     ];
     for theme in themes {
-        for text in theme.split("\n== ").skip(1) {
-            check_run(&rt, rt.alloc(), text)?;
+        for script in scripts_of(rt.alloc(), &theme)?.iter() {
+            check_run(rt.alloc(), script)?;
         }
     }
     Ok(())
 }
 
 // Over each store the run tells what its text says.
-fn check_run(rt: &impl Abort, alloc: Global, text: &str) -> Result<(), Fail> {
-    let wanted = wanted(alloc, text)?;
-    let listed = run_text::<ListStore, Global>(alloc, alloc, text, None)?;
-    assert_eq!(rt; listed.as_str(), wanted.as_str(), "over a list: {text}");
-    let mapped = run_text::<MapStore, Global>(alloc, alloc, text, None)?;
-    assert_eq!(rt; mapped.as_str(), wanted.as_str(), "over a map: {text}");
-    let config = config_of(alloc, text)?;
-    let events = events_of(alloc, alloc, text, None)?;
+fn check_run(alloc: Global, script: &Script<'_>) -> Result<(), Fail> {
+    let lines = script.lines(alloc)?;
+    let lines = lines.as_slice();
+    let wanted = wanted(alloc, script, lines)?;
+    let listed = run_text::<ListStore, Global>(alloc, alloc, lines, None)?;
+    wanted.check("over a list", listed.as_bytes())?;
+    let mapped = run_text::<MapStore, Global>(alloc, alloc, lines, None)?;
+    wanted.check("over a map", mapped.as_bytes())?;
+    let config = config_of(alloc, lines)?;
+    let events = events_of(alloc, alloc, lines, None)?;
     let plain = told(alloc, &run(events.as_slice(), &config))?;
-    assert_eq!(rt;
-        plain.as_str(),
-        wanted.as_str(),
-        "over the default store: {text}"
-    );
-    Ok(())
+    wanted.check("over the default store", plain.as_bytes())
 }

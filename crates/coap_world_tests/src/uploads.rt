@@ -1,6 +1,10 @@
 //! Uploads in blocks of 128 bytes whose last datagrams come late (RFC 7959, section 2.5).
+use test_scripts::Scripts;
 
-pub(crate) const RUNS: &str = "
+pub(crate) const RUNS: Scripts<'static> = Scripts {
+    module: module_path!(),
+    line: 7,
+    text: "
 == a_late_block_of_one_upload_before_the_next
 # The next upload is held back until no block of the failed one can come, and is applied alone (RFC 7252, section
 # 4.8.2).
@@ -111,4 +115,5 @@ with client-szx=3 server-szx=1
 > out 7 0 S C 6841_0003_0000000000000003_d10e61
 0 deliver 7
 > reports 0 done 2.01
-";
+",
+};

@@ -1,119 +1,55 @@
-//! With what a run begins, and its events.
-use super::is_event;
-use super::words::{
-    cut, endpoint_of, format_of, limit_of, method_of, path_of, push_tag, spelt, szx_of,
-};
+//! The events of a run.
+use super::Step;
+use super::words::{endpoint_of, path_of};
 use bytes::Bytes;
 use coap_ends::CallId;
-use coap_resource::{MAX_CHANGES_PER_WINDOW, VersionBase};
-use coap_run::{Event, Side, What, WorldConfig};
-use coap_types::{DEFAULT_BODY_LIMIT, MAX_SZX, Moment, Request, Tags};
+use coap_run::{Event, Side, What};
+use coap_types::{Moment, Request, Tags};
 use std::alloc::{Allocator, Global};
 use std::test::Fail;
+use test_scripts::{Line, Mark, Wrong, cut, format_of, method_of, put_option, spelt};
 
-// What a run begins with.
-#[derive(Clone, Copy)]
-struct Settings {
-    word: u64,
-    client_szx: u8,
-    server_szx: u8,
-    client_limit: usize,
-    server_limit: usize,
-    changes: u32,
-    base: u64,
-}
-
-// What the run says, and otherwise the word 0, blocks of 1,024 bytes, all the changes that a window
-// can take, and versions from 1 on.
-fn settings_of(run: &str) -> Result<Settings, Fail> {
-    let mut settings = Settings {
-        word: 0,
-        client_szx: MAX_SZX,
-        server_szx: MAX_SZX,
-        client_limit: DEFAULT_BODY_LIMIT,
-        server_limit: DEFAULT_BODY_LIMIT,
-        changes: MAX_CHANGES_PER_WINDOW,
-        base: 0,
-    };
-    for line in run.lines() {
-        let Some(words) = line.strip_prefix("with ") else {
-            continue;
-        };
-        for word in words.split(' ') {
-            match cut(word, "=") {
-                ("word", value) => settings.word = value.parse()?,
-                ("client-szx", value) => settings.client_szx = value.parse()?,
-                ("server-szx", value) => settings.server_szx = value.parse()?,
-                ("client-limit", value) => settings.client_limit = value.parse()?,
-                ("server-limit", value) => settings.server_limit = value.parse()?,
-                ("changes", value) => settings.changes = value.parse()?,
-                ("base", value) => settings.base = value.parse()?,
-                _ => return Err(Fail::new("no setting")),
-            }
-        }
-    }
-    Ok(settings)
-}
-
-/// With what the run begins.
-pub(crate) fn config_of<A: Allocator + Copy>(memory: A, run: &str) -> Result<WorldConfig<A>, Fail> {
-    let settings = settings_of(run)?;
-    let word = settings.word;
-    let client_szx = szx_of(settings.client_szx)?;
-    let server_szx = szx_of(settings.server_szx)?;
-    let changes = settings.changes;
-    let Some(mut config) = WorldConfig::new(memory, word, word, client_szx, server_szx, changes)
-    else {
-        return Err(Fail::new("a window takes 1 change at least"));
-    };
-    config.limits(
-        limit_of(settings.client_limit)?,
-        limit_of(settings.server_limit)?,
-    );
-    let Some(base) = VersionBase::new(settings.base) else {
-        return Err(Fail::new("no base"));
-    };
-    config.base(base);
-    for line in run.lines() {
-        if let Some(words) = line.strip_prefix("delay ") {
-            let (path, ms) = cut(words, " ");
-            config.delay(&path_of(memory, path)?, ms.parse()?)?;
-        } else if let Some(path) = line.strip_prefix("plain ") {
-            config.plain(&path_of(memory, path)?)?;
-        }
-    }
-    Ok(config)
-}
-
-/// The events of the run, of which the one of this number may be lost.
+/// The events of these lines, of which the one of this number may be lost.
 pub(crate) fn events_of<A: Allocator + Copy>(
     alloc: Global,
     memory: A,
-    run: &str,
+    lines: &[Line<'_>],
     lost: Option<usize>,
 ) -> Result<Vec<Event<A>, A>, Fail> {
-    let word = settings_of(run)?.word;
+    let word = super::settings::word_of(lines)?;
     let mut events = Vec::new(memory);
-    for line in run.lines() {
-        if is_event(line) {
-            let (at, words) = cut(line, " ");
-            let what = if lost == Some(events.len()) {
-                What::Forget(CallId(u64::MAX))
-            } else {
-                what_of(alloc, memory, words)?
-            };
-            events.push(Event {
-                at: Moment(at.parse()?),
-                word,
-                what,
-            })?;
+    for line in lines {
+        if let (Mark::Step, Step::Event(event)) = (line.mark, Step::of(line)) {
+            let is_lost = lost == Some(events.len());
+            events.push(line.check(event_of(alloc, memory, event, word, is_lost))?)?;
         }
     }
     Ok(events)
 }
 
+// An event at its moment.
+fn event_of<A: Allocator + Copy>(
+    alloc: Global,
+    memory: A,
+    event: &str,
+    word: u64,
+    is_lost: bool,
+) -> Result<Event<A>, Wrong> {
+    let (at, words) = cut(event, " ");
+    let what = if is_lost {
+        What::Forget(CallId(u64::MAX))
+    } else {
+        what_of(alloc, memory, words)?
+    };
+    Ok(Event {
+        at: Moment(at.parse()?),
+        word,
+        what,
+    })
+}
+
 // What happens.
-fn what_of<A: Allocator + Copy>(alloc: Global, memory: A, line: &str) -> Result<What<A>, Fail> {
+fn what_of<A: Allocator + Copy>(alloc: Global, memory: A, line: &str) -> Result<What<A>, Wrong> {
     let (verb, words) = cut(line, " ");
     Ok(match verb {
         "call" => What::Call(request_of(alloc, memory, words)?),
@@ -130,7 +66,7 @@ fn what_of<A: Allocator + Copy>(alloc: Global, memory: A, line: &str) -> Result<
         "tick" => What::Tick(side_of(words)?),
         "deliver" => What::Deliver(words.parse()?),
         "stranger" => stranger_of(alloc, memory, words)?,
-        _ => return Err(Fail::new("no event")),
+        _ => return Err(Wrong::Because("there is no such event")),
     })
 }
 
@@ -138,7 +74,7 @@ fn request_of<A: Allocator + Copy>(
     alloc: Global,
     memory: A,
     words: &str,
-) -> Result<Request<A>, Fail> {
+) -> Result<Request<A>, Wrong> {
     let (words, body) = cut(words, " = ");
     let (method, words) = cut(words, " ");
     let (path, options) = cut(words, " ");
@@ -158,34 +94,16 @@ fn request_of<A: Allocator + Copy>(
     Ok(request)
 }
 
-fn put_option<A: Allocator + Copy>(
-    alloc: Global,
-    request: &mut Request<A>,
-    option: &str,
-) -> Result<(), Fail> {
-    let (name, value) = cut(option, "=");
-    match name {
-        "" => {}
-        "format" => request.format = Some(value.parse()?),
-        "accept" => request.accept = Some(value.parse()?),
-        "if-none-match" => request.if_none_match = true,
-        "etag" => push_tag(alloc, &mut request.etags, value)?,
-        "if-match" => push_tag(alloc, &mut request.if_match, value)?,
-        _ => return Err(Fail::new("no option")),
-    }
-    Ok(())
-}
-
-fn body_of<A: Allocator + Copy>(alloc: Global, memory: A, text: &str) -> Result<Bytes<A>, Fail> {
+fn body_of<A: Allocator + Copy>(alloc: Global, memory: A, text: &str) -> Result<Bytes<A>, Wrong> {
     let text = spelt(alloc, text)?;
     Ok(Bytes::copy_from_slice(memory, text.as_bytes())?)
 }
 
-fn side_of(word: &str) -> Result<Side, Fail> {
+fn side_of(word: &str) -> Result<Side, Wrong> {
     match word {
         "client" => Ok(Side::Client),
         "server" => Ok(Side::Server),
-        _ => Err(Fail::new("no end")),
+        _ => Err(Wrong::Because("there is no such end")),
     }
 }
 
@@ -193,7 +111,7 @@ fn stranger_of<A: Allocator + Copy>(
     alloc: Global,
     memory: A,
     words: &str,
-) -> Result<What<A>, Fail> {
+) -> Result<What<A>, Wrong> {
     let (side, words) = cut(words, " ");
     let (from, hex) = cut(words, " ");
     let bytes: Vec<u8> = hex::decode(alloc, hex)?;
