@@ -1,0 +1,4 @@
+pub mod Opaque
+pub mod Renaming
+pub mod Runs
+pub mod Silent
