@@ -232,7 +232,8 @@ impl<P: Peer> Server<P> {
     /// let (put, mut buffer) = (b"\x41\x03\x7d\x34\xab", [0; MAX_DATAGRAM]);
     /// assert_eq!(server.refuse_by(now, there, put, Code::CONTENT), Err(RefuseError::Code));
     /// assert_eq!(server.refuse_by(now, there, put, Code(0x83)), Ok(()));
-    /// assert_eq!(buffer[..server.poll_transmit(&mut buffer).unwrap().size], *b"\x61\x83\x7d\x34\xab");
+    /// let size = server.poll_transmit(&mut buffer).unwrap().size;
+    /// assert_eq!(buffer[..size], *b"\x61\x83\x7d\x34\xab");
     /// ```
     pub fn refuse_by(
         &mut self,
