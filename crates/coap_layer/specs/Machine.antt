@@ -8,6 +8,7 @@ pub mod Arriving
 pub mod Entries
 pub mod Paged
 pub mod Chains
+pub mod Keys
 pub mod Parts
 pub mod Sendings
 pub mod Sound

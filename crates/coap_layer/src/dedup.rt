@@ -8,24 +8,53 @@ ghost use Rattle.std.specs.Prelude.{is_some, option_to_list, if◌then◌else◌
 ghost use Rattle.std.specs.Option.{option_map, option_and_then, option_copied};
 ghost use Rattle.coap_layer.specs.Machine.State.{is_live, is_full, is_remembered, reply_of};
 ghost use Rattle.coap_layer.specs.Machine.Entries.{AreLive, IsUpTo, arrivals_in, live_of, same_key, storing};
+ghost use Rattle.coap_layer.specs.Machine.Keys.{packed};
 ghost use Rattle.coap_types.specs.declared.transmission.TheConstants.{EXCHANGE_LIFETIME_MS as exchange_lifetime};
 
 use crate::dedup::entries::{is_passed_at, passed_by};
 use crate::dedup::log::Log;
 use coap_types::transmission::EXCHANGE_LIFETIME_MS;
-use coap_types::{Endpoint, Id, Moment, Remembered};
+use coap_types::{Endpoint, Id, MESSAGE_IDS, Moment, Remembered};
 use std::alloc::{AllocError, Allocator};
-use std::hash::BuildHasher;
+use std::hash::{BuildHasher, Hash, Hasher};
 use std::marker::Model;
 
+// How many UDP ports there are, and how many Message IDs: both have 16 bits (RFC 768; RFC 7252, section 3).
+const PORTS: u64 = 1 << 16;
+
+const IDS: u64 = MESSAGE_IDS as u64;
+
 /// What tells messages apart: where one came from, and its Message ID (RFC 7252, section 4.4).
-#[derive(Clone, Copy, PartialEq, Eq, Hash, Drop)]
+#[derive(Clone, Copy, PartialEq, Eq, Drop)]
 pub(crate) struct Key {
     pub(crate) from: Endpoint,
     pub(crate) id: Id,
 }
 
+// A hasher takes one number of 64 bits at once, but each field by itself.
+impl Hash for Key {
+    ghost use Rattle.std.specs.Hash.{u64 as one_u64};
+    ghost use Rattle.std.specs.Cmp.Rules.{hashing};
+    ghost use Rattle.std.proofs.Common.{rules};
+
+    ghost hash_input = { λ k. one_u64 (packed k) };
+
+    ghost respects_eq = { Prim.search (hashing, rules) };
+
+    fn hash<H: Hasher>(&self, state: &mut H) {
+        state.write_u64(self.packed());
+    }
+}
+
 impl Key {
+    // The address, the port and the Message ID as one number: no two keys have the same.
+    fn packed(&self) -> u64
+        ensures { result ≡ packed self.now }
+    {
+        let address = u32::from_be_bytes(self.from.ip) as u64;
+        (address * PORTS + self.from.port as u64) * IDS + self.id.0 as u64
+    }
+
     // Whether they are the same.
     fn is_of(&self, other: Key) -> bool
         ensures { result ≡ same_key self.now other }
