@@ -17,11 +17,9 @@ ghost use Rattle.coap_exchange.specs.Machine.AnswererShown.{MayNotify, sending_a
 ghost use Rattle.coap_exchange.specs.AnswererTrace.{Incoming, Take};
 
 use crate::deferrals::Deferrals;
+use crate::findings::Findings;
 use crate::listed::{Listed, put_back, settle_down};
-use crate::replies::{
-    after_arrival, asked_in, copied, copied_end, handed_up, keeps_room, reject, reset_by,
-    unmatched_by,
-};
+use crate::replies::{after_arrival, copied, copied_end, handed_up, keeps_room, reject};
 use crate::separate::Separate;
 use coap_codec::View;
 use coap_layer::{Datagram, Layer, Setup};
@@ -29,6 +27,7 @@ use coap_types::{Code, Endpoint, Id, Kind, Moment, Opt, Token, reveal};
 use std::alloc::{AllocError, Allocator};
 use std::hash::{BuildHasher, BuildHasherDefault, FoldHasher};
 use std::marker::Model;
+use std::mem;
 
 /// A request that was handed up, as its response needs it (RFC 7252, section 5.2).
 #[derive(Debug, PartialEq, Eq, Drop)]
@@ -113,20 +112,16 @@ impl<'a> Model for Response<'a> {
 #[derive(Drop)]
 pub struct Answerer<A: Allocator + Copy, S: BuildHasher = BuildHasherDefault<FoldHasher>> {
     layer: Layer<A, S>,
-    pending: Option<Asked>,
     deferred: Deferrals,
     separate: Vec<Listed<Separate>, A>,
-    ended: Option<Ended>,
-    unmatched: Option<(Endpoint, Id)>,
+    findings: Findings,
     // The pending request may be answered.
     answerable: bool,
     // There is room for a separate response or a notification.
     room: bool,
-    // What the last input found.
-    pending_before: Option<Asked>,
+    // What the last input found as it came.
     deferred_before: Deferrals,
-    ended_before: Option<Ended>,
-    unmatched_before: Option<(Endpoint, Id)>,
+    findings_before: Findings,
 }
 
 impl<A: Allocator + Copy, S: BuildHasher> Model for Answerer<A, S> {
@@ -138,14 +133,15 @@ impl<A: Allocator + Copy, S: BuildHasher> Model for Answerer<A, S> {
     ghost Value = { Shown };
 
     ghost view = { λ a. record {
-      state = state_of a.layer.state a.pending a.deferred (listed a.separate.items) a.ended (sending_as a.unmatched);
-      before = before_of a.layer.before a.pending_before a.deferred_before
-          (listed_before a.separate.items) a.ended_before (sending_as a.unmatched_before);
+      state = state_of a.layer.state a.findings.pending a.deferred (listed a.separate.items) a.findings.ended
+          (sending_as a.findings.unmatched);
+      before = before_of a.layer.before a.findings_before.pending a.deferred_before
+          (listed_before a.separate.items) a.findings_before.ended (sending_as a.findings_before.unmatched);
       answerable = a.answerable;
       room = a.room;
     } };
 
-    ghost invariant = { λ a. IsAnswerable a.answerable a.layer a.pending
+    ghost invariant = { λ a. IsAnswerable a.answerable a.layer a.findings.pending
         × HasPlace a.room a.layer (vec_len a.separate) (vec_capacity a.separate) };
 }
 
@@ -181,17 +177,13 @@ impl<A: Allocator + Copy, S: BuildHasher> Answerer<A, S> {
     {
         Answerer {
             layer: Layer::with_setup(alloc, setup, hasher),
-            pending: None,
             deferred: Deferrals::new(),
             separate: Vec::new(alloc),
-            ended: None,
-            unmatched: None,
+            findings: Findings::none(),
             answerable: false,
             room: false,
-            pending_before: None,
             deferred_before: Deferrals::new(),
-            ended_before: None,
-            unmatched_before: None,
+            findings_before: Findings::none(),
         }
     }
 
@@ -213,7 +205,7 @@ impl<A: Allocator + Copy, S: BuildHasher> Answerer<A, S> {
         // The token of a response that ended has at most 8 bytes.
         ensures few { IfSome result (λ ended. length ended.token ≤ max_token_len) }
     {
-        copied_end(&self.ended)
+        copied_end(&self.findings.ended)
     }
 
     /// The Reset that the last `incoming` found of no message that is outstanding, as of one that
@@ -223,7 +215,7 @@ impl<A: Allocator + Copy, S: BuildHasher> Answerer<A, S> {
         // What is told is what the last arrival was: a Reset of nothing that is outstanding, or nothing.
         ensures { sending_as result ≡ self.now.state.own.unmatched }
     {
-        self.unmatched
+        self.findings.unmatched
     }
 
     /// Takes a datagram that arrived. A request is handed up, but for a Non-confirmable one for
@@ -258,15 +250,11 @@ impl<A: Allocator + Copy, S: BuildHasher> Answerer<A, S> {
         let up = self.layer.receive(now, from, bytes)?;
         let rejected = reject(&mut self.layer, from, &up);
         settle_down(&mut self.separate);
-        self.pending_before = self.pending.take();
+        let found = Findings::of_arrival(from, &up, &self.separate);
+        let asked = copied(&found.pending);
+        self.findings_before = mem::replace(&mut self.findings, found);
         self.deferred_before.copy_from(&self.deferred);
-        self.ended_before = self.ended.take();
-        self.unmatched_before = self.unmatched;
-        self.ended = reset_by(from, &up, &self.separate);
-        self.unmatched = unmatched_by(from, &up);
         after_arrival(from, &up, &mut self.separate);
-        let asked = asked_in(from, &up);
-        self.pending = copied(&asked);
         self.answerable = true;
         self.room = keeps_room(self.room, rejected);
         Ok(handed_up(asked, up))
@@ -300,10 +288,8 @@ impl<A: Allocator + Copy, S: BuildHasher> Answerer<A, S> {
     {
         self.layer.undo();
         put_back(&mut self.separate);
-        self.pending = copied(&self.pending_before);
+        self.findings = self.findings_before.copy();
         self.deferred.copy_from(&self.deferred_before);
-        self.ended = copied_end(&self.ended_before);
-        self.unmatched = self.unmatched_before;
         self.answerable = false;
         self.room = false;
     }

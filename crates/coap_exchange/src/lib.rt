@@ -5,6 +5,7 @@ mod answerer;
 mod arrivals;
 mod asker;
 mod deferrals;
+mod findings;
 mod held;
 mod kept_tokens;
 mod laws;

@@ -215,27 +215,28 @@ module _ (l : L.State) (pending : Option Asked) (deferred : List Deferred) (sepa
 
   pub ticked : (old : State) → state_of l pending deferred separate ended unmatched ≡ old
       → (from mid h : L.State) (now : ℕ) (done : T.Answer) (room : Bool) (turn : Due) (unasked : Option Asked)
-      (xs : List Separate) (end : Option Ended) → from ≡ l → L.Step from now T.Ticks done mid
+      (xs : List Separate) (end : Option Ended) (left : Option Sending) → from ≡ l → L.Step from now T.Ticks done mid
       → Steps mid (asking_room now (ready_if done (ready_at s now)) room) h → turn ≡ due_of done (ready_at s now) room
-      → unasked ≡ None → xs ≡ separate_unless done separate → end ≡ failed_by done separate
-      → Step old (Ticks now done room turn) (state_of h unasked deferred xs end unmatched)
-  ticked old is from mid h now done room turn unasked xs end same first asks turn_is none_is xs_is end_is =
+      → unasked ≡ None → xs ≡ separate_unless done separate → end ≡ failed_by done separate → left ≡ unmatched
+      → Step old (Ticks now done room turn) (state_of h unasked deferred xs end left)
+  ticked old is from mid h now done room turn unasked xs end left same first asks turn_is none_is xs_is end_is left_is =
       let step : L.Step l now T.Ticks done mid = subst (λ x. L.Step x now T.Ticks done mid) same first in
-      subst (λ x. Step old (Ticks now done room turn) (state_of h x deferred xs end unmatched)) (sym none_is)
-      (with_none old is mid h now done room turn xs end step asks turn_is xs_is end_is)
+      subst (λ x. Step old (Ticks now done room turn) (state_of h unasked deferred xs end x)) (sym left_is)
+      (subst (λ x. Step old (Ticks now done room turn) (state_of h x deferred xs end unmatched)) (sym none_is)
+      (with_none old is mid h now done room turn xs end step asks turn_is xs_is end_is))
 
   -- what is ready may be responded to
   pub may_respond : (mid h : L.State) (now : ℕ) (done : T.Answer) (room : Bool) (turn : Due) (unasked : Option Asked)
-      (xs : List Separate) (end : Option Ended) (shown : Shown) (a : Asked)
-      → shown.state ≡ state_of h unasked deferred xs end unmatched → (room ≡ true → shown.room ≡ true)
+      (xs : List Separate) (end : Option Ended) (left : Option Sending) (shown : Shown) (a : Asked)
+      → shown.state ≡ state_of h unasked deferred xs end left → (room ≡ true → shown.room ≡ true)
       → h.clock ≡ max l.clock now → turn ≡ due_of done (ready_at s now) room → xs ≡ separate_unless done separate
       → Steps mid (asking_room now (ready_if done (ready_at s now)) room) h → turn ≡ due.Ready a
       → MayRespond shown now a
-  may_respond mid h now done room turn unasked xs end shown a state_is room_is clock turn_is xs_is asks h_is =
+  may_respond mid h now done room turn unasked xs end left shown a state_is room_is clock turn_is xs_is asks h_is =
       let k = due_ready done (ready_at s now) room a (sym turn_is ∙ h_is) in
       let at : max h.clock now ≡ max l.clock now = ap (λ c. max c now) clock ∙ clock_then l.clock now in
       let same : xs ≡ separate = xs_is ∙ ap (λ d. separate_unless d separate) k.2 in
-      let ready : ready_at (own_with h.clock unasked deferred xs end unmatched) now
+      let ready : ready_at (own_with h.clock unasked deferred xs end left) now
       ≡ ready_at s now = ap (λ n. first_ready n xs deferred) at
       ∙ ap (λ ys. first_ready (max l.clock now) ys deferred) same in
       let can = can_go mid h now (ready_if done (ready_at s now)) room a asks

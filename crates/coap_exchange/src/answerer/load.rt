@@ -48,6 +48,11 @@ impl<A: Allocator + Copy, S: BuildHasher> Answerer<A, S> {
         let known = self.layer.knows(peer);
         let sent = is_sent_to(&self.separate, peer);
         let deferred = self.deferred.has_of(peer);
-        one_of(known, sent, deferred, is_asked_by(&self.pending, peer))
+        one_of(
+            known,
+            sent,
+            deferred,
+            is_asked_by(&self.findings.pending, peer),
+        )
     }
 }

@@ -17,11 +17,13 @@ ghost use Rattle.coap_exchange.specs.Machine.Rests.{AnswererRests, AnswererTurns
 ghost use Rattle.coap_exchange.specs.Machine.WhatIsDue.{takes_con, takes_response};
 
 use crate::answerer::{Answerer, Due};
+use crate::findings::Findings;
 use crate::listed::settle_down;
-use crate::waiting::{due_of, failed_by, is_sendable, make_room, unless_due, unless_failed};
+use crate::waiting::{due_of, is_sendable, make_room, unless_due, unless_failed};
 use coap_types::{Moment, earlier, latest};
 use std::alloc::{AllocError, Allocator};
 use std::hash::BuildHasher;
+use std::mem;
 
 impl<A: Allocator + Copy, S: BuildHasher> Answerer<A, S> {
     /// Does the first that is due: the failure of a separate response, a retransmission, the
@@ -69,11 +71,9 @@ impl<A: Allocator + Copy, S: BuildHasher> Answerer<A, S> {
         // Nothing fails from here on.
         let room = is_sendable(&mut self.layer, now, &ready);
         settle_down(&mut self.separate);
-        self.pending_before = self.pending.take();
+        let found = Findings::of_tick(tick, &self.separate, self.findings.unmatched);
+        self.findings_before = mem::replace(&mut self.findings, found);
         self.deferred_before.copy_from(&self.deferred);
-        self.ended_before = self.ended.take();
-        self.unmatched_before = self.unmatched;
-        self.ended = failed_by(tick, &self.separate);
         unless_failed(tick, &mut self.separate);
         self.answerable = false;
         self.room = self.room || room;

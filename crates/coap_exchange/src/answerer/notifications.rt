@@ -80,7 +80,7 @@ impl<A: Allocator + Copy, S: BuildHasher> Answerer<A, S> {
     {
         let id = confirm(&mut self.layer, now, to, token, response, word);
         enlist(&mut self.separate, separate_of(to, id, token, response));
-        self.pending = None;
+        self.findings.pending = None;
         self.room = false;
         id
     }
@@ -105,7 +105,7 @@ impl<A: Allocator + Copy, S: BuildHasher> Answerer<A, S> {
         ensures before { self.new.before ≡ self.old.before }
     {
         let id = plain(&mut self.layer, now, to, token, response);
-        self.pending = None;
+        self.findings.pending = None;
         self.room = false;
         id
     }

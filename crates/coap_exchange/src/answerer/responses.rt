@@ -31,7 +31,7 @@ impl<A: Allocator + Copy, S: BuildHasher> Answerer<A, S> {
         ensures before { self.new.before ≡ self.old.before }
     {
         send(&mut self.layer, asked, response);
-        self.pending = None;
+        self.findings.pending = None;
         self.room = false;
     }
 
@@ -59,7 +59,7 @@ impl<A: Allocator + Copy, S: BuildHasher> Answerer<A, S> {
         });
         if deferred {
             self.layer.reply(asked.from, asked.id, &ack(asked.id));
-            self.pending = None;
+            self.findings.pending = None;
             self.room = false;
         }
         deferred
@@ -87,7 +87,7 @@ impl<A: Allocator + Copy, S: BuildHasher> Answerer<A, S> {
         self.deferred.take_ready(self.layer.clock(), &self.separate);
         let separate = separate_of(asked.from, id, &asked.token, response);
         enlist(&mut self.separate, separate);
-        self.pending = None;
+        self.findings.pending = None;
         self.room = false;
         id
     }

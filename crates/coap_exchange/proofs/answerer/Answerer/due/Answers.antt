@@ -17,8 +17,8 @@ pub returns : goal.returns
 returns g c =
     let i = c.self.inside in
     let l = i.layer.state in
-    let s0 : State = state_of l i.pending i.deferred (listed i.separate.items) i.ended
-    (sending_as i.unmatched) in
+    let s0 : State = state_of l i.findings.pending i.deferred (listed i.separate.items) i.findings.ended
+    (sending_as i.findings.unmatched) in
     let s : State = c.args.self.now.state in
     let view : s0 ≡ s = ap (λ x. x.state) c.self.view_is in
     let now = c.args.now.0 in

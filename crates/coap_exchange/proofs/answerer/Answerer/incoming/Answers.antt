@@ -11,8 +11,8 @@ use Rattle.coap_exchange.proofs.Calls.RoomIsKept.{MayConfirm, may_still, none_re
 use Rattle.coap_exchange.proofs.Calls.ServerCalls.{short_token}
 use Rattle.coap_exchange.proofs.answerer.Answerer.incoming.Goals as goal
 
-pub asked_in-asked-requires : goal.asked_in-asked-requires
-asked_in-asked-requires g c m h =
+pub of_arrival-found-requires : goal.of_arrival-found-requires
+of_arrival-found-requires g c m h =
     short_token c.self.inside.layer.state c.receive.new.self.state c.args.now.0 c.args.from c.args.bytes.now
     (answer_as c.in_ok-up.up) m c.in_ok-up.ensures.step h
 
@@ -21,7 +21,7 @@ invariant_of-self-2 g c =
     let up = answer_as c.in_ok-up.up in (
       λ h a is. may_take c.self.inside.layer c.receive.new.self c.reject-rejected.new.layer c.args.now.0 c.args.from
           c.args.bytes.now up a c.in_ok-up.ensures.step c.in_ok-up.ensures.may_reply c.reject-rejected.ensures.kept
-          (sym (c.copied-self-inside.ensures ∙ c.asked_in-asked.ensures.asked) ∙ is),
+          (sym (ap (λ x. x.pending) c.replace-self-inside.ensures.after ∙ c.of_arrival-found.ensures.pending) ∙ is),
       λ may.
           let p = and_parts c.self.inside.room (not c.reject-rejected.result)
           (sym c.keeps_room-self-inside.ensures ∙ may) in
@@ -37,18 +37,20 @@ invariant_of-self-2 g c =
 pub returns-clause-step : goal.returns-clause-step
 returns-clause-step g c =
     let i = c.self.inside in
+    let found = c.replace-self-inside.new.dest in
+    let is = c.replace-self-inside.ensures.after in
     let up = answer_as c.in_ok-up.up in (
       up,
-      received i.layer.state c.receive.new.self.state c.reject-rejected.new.layer.state i.pending
-          c.copied-self-inside.result i.deferred (listed i.separate.items)
-          (listed c.after_arrival.new.separate.items) i.ended c.reset_by-self-inside.result
-          (sending_as i.unmatched) (sending_as c.unmatched_by-self-inside.result) c.args.self.now.state
+      received i.layer.state c.receive.new.self.state c.reject-rejected.new.layer.state i.findings.pending
+          found.pending i.deferred (listed i.separate.items)
+          (listed c.after_arrival.new.separate.items) i.findings.ended found.ended
+          (sending_as i.findings.unmatched) (sending_as found.unmatched) c.args.self.now.state
           c.args.now.0 c.args.from c.args.bytes.now up c.handed_up.result
           (ap (λ s. s.state) c.self.view_is) c.in_ok-up.ensures.step c.reject-rejected.ensures.steps
-          (c.handed_up.ensures c.args.from c.asked_in-asked.ensures.asked)
-          (c.copied-self-inside.ensures ∙ c.asked_in-asked.ensures.asked)
+          (c.handed_up.ensures c.args.from (c.copied-asked.ensures ∙ c.of_arrival-found.ensures.pending))
+          (ap (λ x. x.pending) is ∙ c.of_arrival-found.ensures.pending)
           (c.after_arrival.ensures.now ∙ ap (separate_after c.args.from up) c.settle_down.ensures.now) (search rules)
-          c.unmatched_by-self-inside.ensures,
+          (ap (λ x. sending_as x.unmatched) is ∙ c.of_arrival-found.ensures.unmatched),
     )
 
 pub returns-clause-kept : goal.returns-clause-kept

@@ -23,8 +23,8 @@ use Rattle.coap_exchange.proofs.answerer.Answerer.tick.Goals as goal
 abbrev first : (g : Over) → After-due_of g → Option Deferred
 first g c =
     let i = c.self.inside in
-    ready_at (own_with i.layer.state.clock i.pending i.deferred (listed i.separate.items) i.ended
-    (sending_as i.unmatched)) c.args.now.0
+    ready_at (own_with i.layer.state.clock i.findings.pending i.deferred (listed i.separate.items) i.findings.ended
+    (sending_as i.findings.unmatched)) c.args.now.0
 
 -- .. is ready, where nothing comes before it
 is_ready : (g : Over) (c : After-due_of g) → c.unless_due-ready.result
@@ -78,19 +78,22 @@ invariant_of-self-2 g c = (
 pub returns-clause-step : goal.returns-clause-step
 returns-clause-step g c =
     let i = c.self.inside in
+    let found = c.replace-self-inside.new.dest in
+    let is = c.replace-self-inside.ensures.after in
     let step = c.in_ok-tick.ensures.step in
     let k = (goal.at.returns-clause-step g c).After-due_of in
     let list = c.settle_down.ensures.now ∙ ap listed c.in_ok-make_room.ensures.items in (
       step.0,
       c.is_sendable-room.result,
-      ticked i.layer.state i.pending i.deferred (listed i.separate.items) i.ended (sending_as i.unmatched)
-          c.args.self.now.state (ap (λ s. s.state) c.self.view_is) c.make_room.new.layer.state c.tick.new.self.state
+      ticked i.layer.state i.findings.pending i.deferred (listed i.separate.items) i.findings.ended
+          (sending_as i.findings.unmatched) c.args.self.now.state (ap (λ s. s.state) c.self.view_is) c.make_room.new.layer.state c.tick.new.self.state
           c.is_sendable-room.new.layer.state c.args.now.0 step.0 c.is_sendable-room.result c.due_of.result
-          c.take-self-inside.new.self (listed c.unless_failed.new.separate.items) c.failed_by-self-inside.result
+          found.pending (listed c.unless_failed.new.separate.items) found.ended (sending_as found.unmatched)
           c.in_ok-make_room.ensures.state step.2 (asks g k) (due_is g k) (search rules)
           (c.unless_failed.ensures.now step.0 step.1 ∙ ap (separate_unless step.0) list)
-          (c.failed_by-self-inside.ensures step.0 step.1
-          ∙ ap (failed_by step.0) (ap listed c.deref-2.ensures.value ∙ list)),
+          (ap (λ x. x.ended) is ∙ c.of_tick-found.ensures.ended step.0 step.1
+          ∙ ap (failed_by step.0) (ap listed c.deref-2.ensures.value ∙ list))
+          (ap (λ x. sending_as x.unmatched) is ∙ ap sending_as c.of_tick-found.ensures.unmatched),
     )
 
 pub returns-clause-ready : goal.returns-clause-ready
@@ -105,9 +108,10 @@ returns-clause-ready g c a h =
     let clock = asking_clock now (ready_if step.0 (first g k)) c.is_sendable-room.result c.tick.new.self.state
     c.is_sendable-room.new.layer.state i.layer.state.clock
     (step_clock i.layer.state c.tick.new.self.state now T.Ticks step.0 tick) (asks g k) in
-    may_respond i.layer.state i.pending i.deferred (listed i.separate.items) i.ended (sending_as i.unmatched)
-    c.tick.new.self.state c.is_sendable-room.new.layer.state now step.0 c.is_sendable-room.result c.due_of.result
-    c.take-self-inside.new.self (listed c.unless_failed.new.separate.items) c.failed_by-self-inside.result _ a refl
+    let found = c.replace-self-inside.new.dest in
+    may_respond i.layer.state i.findings.pending i.deferred (listed i.separate.items) i.findings.ended
+    (sending_as i.findings.unmatched) c.tick.new.self.state c.is_sendable-room.new.layer.state now step.0 c.is_sendable-room.result c.due_of.result
+    found.pending (listed c.unless_failed.new.separate.items) found.ended (sending_as found.unmatched) _ a refl
     (λ sends. search rules) clock (due_is g k)
     (c.unless_failed.ensures.now step.0 step.1 ∙ ap (separate_unless step.0) list) (asks g k) h
 
