@@ -86,7 +86,8 @@ returns-clause-step g c =
       step.0,
       c.is_sendable-room.result,
       ticked i.layer.state i.findings.pending i.deferred (listed i.separate.items) i.findings.ended
-          (sending_as i.findings.unmatched) c.args.self.now.state (ap (λ s. s.state) c.self.view_is) c.make_room.new.layer.state c.tick.new.self.state
+          (sending_as i.findings.unmatched) c.args.self.now.state (ap (λ s. s.state) c.self.view_is)
+          c.make_room.new.layer.state c.tick.new.self.state
           c.is_sendable-room.new.layer.state c.args.now.0 step.0 c.is_sendable-room.result c.due_of.result
           found.pending (listed c.unless_failed.new.separate.items) found.ended (sending_as found.unmatched)
           c.in_ok-make_room.ensures.state step.2 (asks g k) (due_is g k) (search rules)
@@ -110,7 +111,8 @@ returns-clause-ready g c a h =
     (step_clock i.layer.state c.tick.new.self.state now T.Ticks step.0 tick) (asks g k) in
     let found = c.replace-self-inside.new.dest in
     may_respond i.layer.state i.findings.pending i.deferred (listed i.separate.items) i.findings.ended
-    (sending_as i.findings.unmatched) c.tick.new.self.state c.is_sendable-room.new.layer.state now step.0 c.is_sendable-room.result c.due_of.result
+    (sending_as i.findings.unmatched) c.tick.new.self.state c.is_sendable-room.new.layer.state now step.0
+    c.is_sendable-room.result c.due_of.result
     found.pending (listed c.unless_failed.new.separate.items) found.ended (sending_as found.unmatched) _ a refl
     (λ sends. search rules) clock (due_is g k)
     (c.unless_failed.ensures.now step.0 step.1 ∙ ap (separate_unless step.0) list) (asks g k) h

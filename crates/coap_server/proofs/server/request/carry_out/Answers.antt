@@ -1,4 +1,4 @@
-use Rattle.std.proofs.Common.{rules, refl, ap, sym, ◌∙◌}
+use Rattle.std.proofs.Common.{refl, ap, sym, ◌∙◌}
 use Rattle.coap_types.specs.CoapOption.{options_of}
 use Rattle.coap_server.specs.Checks.{Ignored, Refused}
 use Rattle.coap_server.specs.Handling.{Handles}
@@ -7,21 +7,17 @@ use Rattle.coap_server.specs.Object.Checked.{verdict_as}
 use Rattle.coap_server.specs.Object.Shown.{seen, state_of}
 use Rattle.coap_server.proofs.Calls.FeedIsACall.{on_ok}
 use Rattle.coap_server.proofs.Calls.RequestIsHandled.{handled_by, ignored, answered, asks_whole, asks_block}
-use Rattle.coap_server.proofs.server.request.handle.Goals as goal
+use Rattle.coap_server.proofs.server.request.carry_out.Goals as goal
 
 pub returns-in-Ignored-clause-handled : goal.returns-in-Ignored-clause-handled
-returns-in-Ignored-clause-handled g c =
+returns-in-Ignored-clause-handled g c m options payload v =
     let s = seen g.S.Store.content c.args.parts.now in
-    let m = c.args.request.now in
-    let v = c.in_ok-check.ensures.verdict s.own.szx m (search rules) (search rules) (search rules) (search rules) in
     handled_by s _ c.args.asked.now m Ignored (sym v ∙ ap (verdict_as s.own.szx m) c.in-Ignored.is)
     (ignored s _ c.args.asked.now refl refl)
 
 pub returns-in-Refused-clause-handled : goal.returns-in-Refused-clause-handled
-returns-in-Refused-clause-handled g c =
+returns-in-Refused-clause-handled g c m options payload v =
     let s = seen g.S.Store.content c.args.parts.now in
-    let m = c.args.request.now in
-    let v = c.in_ok-check.ensures.verdict s.own.szx m (search rules) (search rules) (search rules) (search rules) in
     let code = c.in-Refused.code.0 in
     handled_by s _ c.args.asked.now m (Refused code) (sym v ∙ ap (verdict_as s.own.szx m) c.in-Refused.is)
     (answered (Handles s.own c.args.asked.now (Refused code)) s _ c.args.asked.now s.own.uploads
@@ -31,22 +27,17 @@ returns-in-Refused-clause-handled g c =
 pub returns-in-Asks-clause-handled : goal.returns-in-Asks-clause-handled
 returns-in-Asks-clause-handled g c =
     let s = seen g.S.Store.content c.args.parts.now in
-    let m = c.args.request.now in
-    let v = c.in_ok-check.ensures.verdict s.own.szx m (search rules) (search rules) (search rules) (search rules) in
     on_ok c.handle_whole.result
-    (λ h. asks_whole s _ c.args.asked.now m c.in-Asks.method c.in-Asks.path
-    (options_of c.deref-in-Asks.result.now) c.payload.result.now (search rules) (search rules)
+    (λ h m options payload v. asks_whole s _ c.args.asked.now m c.in-Asks.method c.in-Asks.path
+    (options_of c.args.options.now) c.args.payload.now options payload
     (sym v ∙ ap (verdict_as s.own.szx m) c.in-Asks.is) h)
     c.handle_whole.ensures.handled
 
-pub returns-clause-handled : goal.returns-clause-handled
-returns-clause-handled g c =
+pub returns-in-Uploads-clause-handled : goal.returns-in-Uploads-clause-handled
+returns-in-Uploads-clause-handled g c =
     let s = seen g.S.Store.content c.args.parts.now in
-    let m = c.args.request.now in
-    let v = c.in_ok-check.ensures.verdict s.own.szx m (search rules) (search rules) (search rules) (search rules) in
     on_ok c.handle_block.result
-    (λ h. asks_block s _ c.args.asked.now m c.in-Uploads.method c.in-Uploads.path
-    (options_of c.deref-in-Uploads.result.now) c.payload-in-Uploads.result.now c.in-Uploads.block (search rules)
-    (search rules)
+    (λ h m options payload v. asks_block s _ c.args.asked.now m c.in-Uploads.method c.in-Uploads.path
+    (options_of c.args.options.now) c.args.payload.now c.in-Uploads.block options payload
     (sym v ∙ ap (verdict_as s.own.szx m) c.in-Uploads.is) h)
     c.handle_block.ensures.handled
