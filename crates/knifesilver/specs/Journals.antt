@@ -15,6 +15,8 @@ use Rattle.coap_journal.specs.declared.beginning.Life.{Life}
 use Rattle.coap_replay.specs.Doing.{bodies}
 use Rattle.coap_replay.specs.Replaying.{Replays, last_life, latest_moment}
 use Rattle.coap_noted.specs.Notes.{Note, told_in}
+use Rattle.coap_noted.specs.declared.opening.OpenError.{OpenError}
+use Rattle.coap_noted.specs.declared.opening.OpenError.TheVariants as refusals
 use Rattle.knifesilver.specs.declared.config.KsConfig.{KsConfig}
 use Rattle.knifesilver.specs.declared.config.TheConstants.{USUAL_BLOCK as usual_block}
 use Rattle.knifesilver.specs.declared.held.Held.{Held}
@@ -41,6 +43,14 @@ pub record IsBeginning (config : KsConfig) (seed : KsSeed) (b : Beginning) : Typ
   pub changes : b.configuration.changes ≡ chosen max_changes config.changes
   pub base : b.base ≡ config.base
   pub seed_is : b.seed ≡ record { word = seed.word; key0 = seed.key0; key1 = seed.key1 }
+
+-- what is answered of a journal that isn't opened
+abbrev pub opening_number : OpenError → ℕ
+opening_number (refusals.Damaged at) = 145
+opening_number refusals.NotBegun = 146
+opening_number (refusals.OtherFormat format) = 147
+opening_number (refusals.OtherLaw law) = 148
+opening_number refusals.Unreadable = 149
 
 -- the server that begins so, by its limits and by its setup
 abbrev pub limits_of : Beginning → Limits

@@ -122,6 +122,8 @@ pub extern "C" fn ks_journal_wake(
     // Where the room is too small for a life's frame, how long that is is told.
     ensures small { result ≡ SMALL_ROOM
         → IsFrameLong place (record_bytes (Woke (life_of life.now))) (length room.old) len.new }
+    // The frame of a life is refused as an argument only for a place at which no frame stands.
+    ensures argument { result ≡ BAD_ARGUMENT → IsNoFrame place (record_bytes (Woke (life_of life.now))) }
     // The frame of a life is refused for the room, for its place and for want of memory, and for nothing else.
     ensures why { IsRefused result → (result ≡ SMALL_ROOM) ⊎ (result ≡ BAD_ARGUMENT) ⊎ (result ≡ NO_MEMORY) }
 {

@@ -11,7 +11,7 @@ ghost use Rattle.knifesilver.specs.Formats.{format_in};
 ghost use Rattle.knifesilver.specs.declared.held.Held.TheVariants.{Server};
 ghost use Rattle.knifesilver.specs.PathRefusals.{RefusesPath};
 ghost use Rattle.knifesilver.specs.ServerCalls.{HoldsThat, IsDelay, IsRemove, IsSet, RemoveAnswers, Updates};
-ghost use Rattle.knifesilver.specs.ServerHeld.{HoldsServer, IsNoted, IsServer, Made};
+ghost use Rattle.knifesilver.specs.ServerHeld.{HoldsServer, IsNoted, IsServer, IsServerIn, Made};
 
 use crate::answers::{BAD_PATH, DONE, NO_MEMORY, NOT_LIVE, NOTHING};
 use crate::crossing::format_of;
@@ -160,6 +160,7 @@ fn update(
 ) -> i32
     ensures led { IsAnswered result
         → Updates now path.now format body.now result version.new (Some held.old) (Some held.new) }
+    ensures held { (n : ℕ) → IsServerIn (HoldsThat path.now format body.now n) held.old → IsAnswered result }
     ensures kept { IsRefused result → held.new ≡ held.old }
     ensures live { IsServer held.old → result ≢ NOT_LIVE }
     ensures path { result ≢ BAD_PATH }

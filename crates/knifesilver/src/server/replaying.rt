@@ -12,9 +12,10 @@ ghost use Rattle.coap_replay.specs.Replaying.{Replays, last_life, latest_moment}
 ghost use Rattle.coap_noted.specs.Notes.{begun_anew, told_in};
 ghost use Rattle.coap_noted.specs.Opening.{IsDamagedAt};
 ghost use Rattle.coap_noted.specs.declared.opening.OpenError.TheVariants as refusals;
+ghost use Rattle.coap_replay.specs.declared.replay.ReplayError.TheVariants as replay;
 ghost use Rattle.knifesilver.specs.Answers.{IsAnswered, IsRefused, IsUsual};
 ghost use Rattle.knifesilver.specs.Journals.{HoldSameServer, IsReplayed, IsTurnLong, NotedAnswers};
-ghost use Rattle.knifesilver.specs.Journals.{life_of, limits_of, setup_of};
+ghost use Rattle.knifesilver.specs.Journals.{life_of, limits_of, opening_number, setup_of};
 ghost use Rattle.knifesilver.specs.ServerHeld.{HoldsServer, IsServer, notes_in};
 
 use crate::answers::{DONE, NO_MEMORY, NOT_LIVE, NOTHING, SMALL_ROOM};
@@ -76,6 +77,7 @@ fn begun_server(alloc: Global, beginning: &Beginning) -> Option<MapServer>
 fn unopened(why: OpenError, told: &mut KsReplayed) -> i32
     ensures damaged { result ≡ pos 145 → why ≡ refusals.Damaged told.new.end }
     ensures bare { result ≡ pos 146 → why ≡ refusals.NotBegun }
+    ensures number { result ≡ pos (opening_number why) }
     ensures answered { IsRefused result → ⊥ }
     ensures more { result ≢ pos 0 }
 {
@@ -94,6 +96,9 @@ fn unopened(why: OpenError, told: &mut KsReplayed) -> i32
 // What one answers that isn't replayed.
 fn unreplayed(why: ReplayError) -> i32
     ensures memory { IsRefused result → result ≡ NO_MEMORY }
+    ensures none { why ≡ replay.Memory → result ≡ NO_MEMORY }
+    ensures unreadable { why ≡ replay.Unreadable → result ≡ pos 149 }
+    ensures other { why ≡ replay.OtherServer → result ≡ pos 150 }
     ensures more { result ≢ pos 0 }
     ensures damaged { result ≢ pos 145 }
     ensures bare { result ≢ pos 146 }

@@ -23,3 +23,9 @@ returns-in-None-clause-led c = λ answered.
       subst (λ h. IsNoted (Set given.now given.path.now given.format given.body.now) given.now (Some h)
           (Some (Server set.new.server))) (sym c.in-Server.is) (set.ensures.noted (subst IsAnswered same answered)),
     )
+
+pub returns-in-None-clause-held : goal.returns-in-None-clause-held
+returns-in-None-clause-held c n holds =
+    let given = c.args in
+    absurd (c.in-None.ensures.other n
+    (subst (IsServerIn (HoldsThat given.path.now given.format given.body.now n)) c.in-Server.is holds))
