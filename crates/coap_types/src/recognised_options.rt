@@ -116,21 +116,43 @@ pub fn lacks_critical<'a, I: Iterator<Item = Opt<'a>> + Drop>(
     bad
 }
 
-// The value of an option of the number that was found, or else that of this one, where it has the
-// number and is recognised.
-fn or_else<'a>(
-    found: Option<&'a [u8]>,
-    same: bool,
-    recognised: bool,
-    value: &'a [u8],
-) -> Option<&'a [u8]>
-    ensures { option_copied result ≡ (if is_some (option_copied found.entry) || not (same && recognised)
+// The value that was found, or else this one where it is recognised.
+fn or_else<'a>(found: Option<&'a [u8]>, recognised: bool, value: &'a [u8]) -> Option<&'a [u8]>
+    ensures { option_copied result ≡ (if is_some (option_copied found.entry) || not recognised
         then option_copied found.entry else Some value.now) }
 {
     match found {
-        None if same && recognised => Some(value),
+        None if recognised => Some(value),
         _ => found,
     }
+}
+
+// The value that was found, or else that of this option, where it has the number and is recognised; `again`: whether
+// one of the number stood before it.
+fn found_with<'a>(
+    direction: Direction,
+    number: u16,
+    found: Option<&'a [u8]>,
+    again: bool,
+    option: Opt<'a>,
+) -> Option<&'a [u8]>
+    ensures { (before : List CoapOption) → again ≡ has_number number before
+        → option_copied result ≡ (if is_some (option_copied found.entry)
+        || not ((option.entry.number == number) && is_recognised direction before (option_of option.entry))
+        then option_copied found.entry else Some option.entry.value.now) }
+{
+    if option.number != number {
+        return found;
+    }
+    let known = is_recognised(direction, option, again);
+    or_else(found, known, option.value)
+}
+
+// Whether one of the number was seen, or this is one.
+fn or_same(again: bool, same: bool) -> bool
+    ensures { result ≡ (again || same) }
+{
+    again || same
 }
 
 /// The value of the first option of this number that is recognised in a message of this direction
@@ -146,13 +168,11 @@ pub fn recognised_value<'a, I: Iterator<Item = Opt<'a>> + Drop>(
     ensures { (all : List _) × Drains I.next_gives options all
         × (option_copied result ≡ recognised_value direction number (options_of all)) }
 {
-    let mut seen = [false; NUMBERS];
+    let mut again = false;
     let mut found = None;
     for option in options {
-        let again = was_seen(&seen, option.number);
-        let known = is_recognised(direction, option, again);
-        found = or_else(found, option.number == number, known, option.value);
-        see(&mut seen, option.number);
+        found = found_with(direction, number, found, again, option);
+        again = or_same(again, option.number == number);
     }
     found
 }

@@ -14,8 +14,11 @@ use std::alloc::{AllocError, Allocator};
 use std::hash::{BuildHasher, Hash};
 use std::marker::Model;
 
-// So many heads are made at first, and once there are as many messages, so many more for each one that comes.
+// So many heads are made at first.
 const FEW: usize = 64;
+
+// Once there are as many messages, each one that comes makes so many parts of the others, and no more than so many heads.
+const PARTS: usize = 16;
 
 const STEP: usize = 4_096;
 
@@ -107,6 +110,11 @@ fn make_few<A: Allocator + Copy>(few: &mut Vec<u32, A>) -> Result<(), AllocError
     Ok(())
 }
 
+// How many heads one message makes, of so many.
+fn step_of(most: usize) -> usize {
+    STEP.min(most / PARTS + 1)
+}
+
 // Makes some more of so many heads, if not all of them are there, and so many messages are kept that few heads are too
 // few.
 fn make_more<A: Allocator + Copy>(
@@ -119,7 +127,7 @@ fn make_more<A: Allocator + Copy>(
     let made = many.len();
     if held >= FEW && made < most {
         many.reserve(most - made)?;
-        many.resize(made + STEP.min(most - made), 0)?;
+        many.resize(made + step_of(most).min(most - made), 0)?;
     }
     Ok(())
 }

@@ -3,13 +3,14 @@ use Rattle.std.specs.Prelude.{option_copied}
 use Rattle.std.proofs.Common.{Bor, ◌≡◌, ℕ, ◌%◌, ◌==◌, Bool, true, false, not, ◌&&◌, ◌||◌, ◌++◌, ◌∙◌, List, [], ◌∷◌}
 use Rattle.std.proofs.Common.{Option, Some, None, is_some, refl, ap, sym, if◌then◌else◌}
 use Rattle.std.specs.List.{list_any}
+use Rattle.std.proofs.lemmas.List.Folds.{list_any-append}
 use Rattle.coap_types.specs.declared.direction.Direction.{Direction}
 use Rattle.coap_types.specs.CoapOption.{CoapOption}
 use Rattle.coap_types.specs.OptionValues.{value_of}
 use Rattle.coap_types.specs.Recognised.{is_recognised, is_critical}
 use Rattle.coap_types.specs.SeenNumbers.{Remembers}
-use Rattle.coap_types.specs.Recognised.{lacks_critical, recognised, recognised_value}
-use Rattle.coap_types.proofs.OneOptionOn.IsRecognised.{bad_more, kept_more, unseen}
+use Rattle.coap_types.specs.Recognised.{has_number, lacks_critical, recognised, recognised_value}
+use Rattle.coap_types.proofs.OneOptionOn.IsRecognised.{bad_more, kept_more, or_false, unseen}
 
 -- what holds of the options so far
 pub record Lacks (direction : Direction) (options : List CoapOption) (bad : Bool) (seen : List Bool) : Type 0 where
@@ -17,17 +18,16 @@ pub record Lacks (direction : Direction) (options : List CoapOption) (bad : Bool
   pub numbers : Remembers seen options
 
 pub record Valued (direction : Direction) (number : ℕ) (options : List CoapOption) (found : Option (List ℕ))
-    (seen : List Bool) : Type 0 where
+    (again : Bool) : Type 0 where
   pub value : found ≡ recognised_value direction number options
-  pub numbers : Remembers seen options
+  pub seen : again ≡ has_number number options
 
 pub none_lacks : (direction : Direction) (seen : List Bool) → list_any (λ b. b) seen ≡ false
     → Lacks direction [] false seen
 none_lacks direction seen none = record { rest = refl; numbers = λ n low. unseen seen n none }
 
-pub none_valued : (direction : Direction) (number : ℕ) (seen : List Bool) → list_any (λ b. b) seen ≡ false
-    → Valued direction number [] None seen
-none_valued direction number seen none = record { value = refl; numbers = λ n low. unseen seen n none }
+pub none_valued : (direction : Direction) (number : ℕ) → Valued direction number [] None false
+none_valued direction number = record { value = refl; seen = refl }
 
 pub lacks_more : (direction : Direction) (os : List CoapOption) (o : CoapOption) (bad more known : Bool)
     (seen after : List Bool)
@@ -67,16 +67,19 @@ value_more number (x ∷ xs) known o = by (x.number == number) (value_more numbe
     by false h = h
 
 pub valued_more : (direction : Direction) (number : ℕ) (os : List CoapOption) (o : CoapOption)
-    (found more : Option (List ℕ)) (known : Bool) (seen after : List Bool)
-    → Valued direction number os found seen → Remembers after (os ++ o ∷ []) → known ≡ is_recognised direction os o
-    → more ≡ or_else found ((o.number == number) && known) o.value → Valued direction number (os ++ o ∷ []) more after
-valued_more direction number os o found more known seen after so numbers is more_is = record {
+    (found more : Option (List ℕ)) (again after : Bool)
+    → Valued direction number os found again → after ≡ (again || (o.number == number))
+    → more ≡ or_else found ((o.number == number) && is_recognised direction os o) o.value
+    → Valued direction number (os ++ o ∷ []) more after
+valued_more direction number os o found more again after so after_is more_is = record {
   value = more_is
-      ∙ ap (λ k. or_else found ((o.number == number) && k) o.value) is
       ∙ ap (λ v. or_else v ((o.number == number) && is_recognised direction os o) o.value) so.value
       ∙ sym (value_more number (recognised direction os) (is_recognised direction os o) o)
       ∙ ap (value_of number) (sym (kept_more direction os o));
-  numbers = numbers;
+  seen = after_is
+      ∙ ap (λ b. b || (o.number == number)) so.seen
+      ∙ ap (λ b. has_number number os || b) (sym (or_false (o.number == number)))
+      ∙ sym (list_any-append (λ x. x.number == number) os (o ∷ []));
 }
 
 -- an option of references is there where the option of what they lend is

@@ -1,23 +1,21 @@
-use Rattle.std.proofs.Common.{rules, [], ◌∷◌, refl}
+use Rattle.std.proofs.Common.{rules, [], ◌∷◌}
 use Rattle.coap_types.specs.CoapOption.{option_of, options_of}
 use Rattle.coap_types.proofs.OneOptionOn.IsRecognised.{options_append}
 use Rattle.coap_types.proofs.OneOptionOn.IsSaid.{none_valued, valued_more}
 use Rattle.coap_types.proofs.recognised_options.recognised_value.Goals as goal
 
 pub loop-option-init : goal.loop-option-init
-loop-option-init g c = (search rules, (search rules, none_valued _ _ _ refl))
+loop-option-init g c = (search rules, (search rules, none_valued _ _))
 
 pub loop-option-preserved : goal.loop-option-preserved
 loop-option-preserved g c =
     let so = c.loop-option.invariant.1.1 in
     let before = options_of c.loop-option.yielded in
-    let o = option_of c.in-Some.option in
-    let is = c.is_recognised-known.ensures before (λ low. c.was_seen-again.ensures before so.numbers low) in
-    let numbers = c.see.ensures before o refl so.numbers in (
+    let o = option_of c.in-Some.option in (
       search rules,
       (
         search rules,
         rw (options_append c.loop-option.yielded (c.in-Some.option ∷ []))
-            (valued_more _ _ before o _ _ _ _ _ so numbers is c.or_else-found.ensures),
+            (valued_more _ _ before o _ _ _ _ so c.or_same-again.ensures (c.found_with-found.ensures before so.seen)),
       ),
     )

@@ -7,4 +7,4 @@ abbrev pub invariant-loop-option : goal.invariant-loop-option
 invariant-loop-option g l =
     (goal.iterator-loop-option g).can_next l.option-iterator
     × ((goal.iterator-loop-option g).is_finite l.option-iterator
-    × Valued l.direction l.number (options_of l.yielded) (option_copied l.found) l.seen)
+    × Valued l.direction l.number (options_of l.yielded) (option_copied l.found) l.again)
