@@ -1,11 +1,17 @@
 //! The bytes of a body that has not come whole yet.
-ghost use Rattle.std.specs.Prelude.{◌≡◌, ◌≤◌, ◌++◌, [], IfOk, OnOk, OnErr, length, take};
+ghost use Rattle.std.specs.Prelude.{◌≡◌, ◌≤◌, ◌+◌, ◌++◌, [], IfOk, OnOk, OnErr, length, take, vec_len, vec_capacity};
 
 use bytes::Bytes;
-use coap_types::appended;
+use coap_types::{DEFAULT_BODY_LIMIT, appended};
 use std::alloc::{AllocError, AllocFailed, Allocator};
 use std::marker::Model;
 use std::mem;
+
+// So much more room as there are bytes is made for a body that grows, while all that is not over the usual limit of a
+// body. From there on the room doubles.
+const MORE: usize = 3;
+
+const QUICK: usize = DEFAULT_BODY_LIMIT / (MORE + 1);
 
 /// The bytes of a body as far as they came. They grow in place; where a body was given out of them,
 /// they are its front, and share its memory. A contract sees the bytes.
@@ -82,7 +88,7 @@ impl<A: Allocator + Copy> Gathering<A> {
             self.shared = None;
             return Ok(());
         }
-        self.own.reserve(more.len())?;
+        reserve(&mut self.own, more.len())?;
         self.own.truncate(len);
         let _room_was_reserved = self.own.extend_from_slice(more);
         Ok(())
@@ -106,7 +112,32 @@ impl<A: Allocator + Copy> Gathering<A> {
     }
 }
 
-// Bytes with the last ones behind them, in the memory that they had.
+// How much room is made where so many bytes are to be put behind so many.
+fn room_for(len: usize, more: usize) -> usize
+    ensures { more ≤ result }
+{
+    if len > QUICK {
+        more
+    } else {
+        more.max(MORE * len)
+    }
+}
+
+// Makes room for so many more bytes. A body that grows is copied where the allocator finds no room behind it, so there
+// is to be room for the next ones too.
+fn reserve<A: Allocator>(own: &mut Vec<u8, A>, more: usize) -> Result<(), AllocError>
+    ensures items { own.new.items ≡ own.old.items }
+    ensures room { OnOk result (vec_len own.new + more ≤ vec_capacity own.new) }
+{
+    let there = own.len();
+    if own.capacity() - there < more {
+        own.reserve(room_for(there, more))?;
+    }
+    Ok(())
+}
+
+// Bytes with the last ones behind them, in the memory that they had; where less than half of it is needed, the rest is
+// given back, unless the allocator refuses to.
 fn freeze<A: Allocator + Copy>(own: &mut Vec<u8, A>, last: &[u8]) -> Result<Bytes<A>, AllocError>
     ensures whole { IfOk result (λ whole. whole ≡ own.old.items ++ last.now) }
     ensures err { OnErr result (own.new.items ≡ own.old.items) }
@@ -114,6 +145,9 @@ fn freeze<A: Allocator + Copy>(own: &mut Vec<u8, A>, last: &[u8]) -> Result<Byte
     let alloc = *own.allocator();
     let len = own.len();
     own.extend_from_slice(last)?;
+    if own.len() < own.capacity() / 2 {
+        own.shrink_to_fit();
+    }
     match Bytes::from_vec(mem::replace(own, Vec::new(alloc))) {
         Ok(whole) => Ok(whole),
         Err(AllocFailed { value }) => {

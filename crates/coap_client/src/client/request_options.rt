@@ -72,25 +72,25 @@ pub fn format_value<A: Allocator + Copy>(request: &Request<A>) -> Option<UintByt
     Some(uint_bytes(u32::from(number?)))
 }
 
-/// The options of a call, in the order of their numbers, with that Block option (RFC 7252, section
-/// 5.10).
+/// Puts the options of a call into an empty list, in the order of their numbers, with that Block option (RFC 7252,
+/// section 5.10). The list stays where it is: it is long, and to move it costs more than to fill it.
 #[inline(always)]
-pub fn call_options<'a, A: Allocator + Copy>(
+pub fn push_call<'a, A: Allocator + Copy>(
+    options: &mut OptionList<'a, MAX_OPTIONS>,
     request: &'a Request<A>,
     format: Option<&'a [u8]>,
     number: u16,
     block: Option<&'a [u8]>,
-) -> OptionList<'a, MAX_OPTIONS>
-    requires { option_copied format ≡ told_value (shown_request request.now) }
-    ensures { result ≡ options_of (shown_request request.now) ++ option_with number (option_copied block.entry) }
+)
+    requires empty { options.old ≡ [] }
+    requires format { option_copied format ≡ told_value (shown_request request.now) }
+    ensures { options.new ≡ options_of (shown_request request.now) ++ option_with number (option_copied block.entry) }
 {
     request.ranges();
-    let mut options = OptionList::new();
-    push_before(&mut options, request);
-    push_path(&mut options, request.path.segments());
-    push_after(&mut options, request.method, format);
+    push_before(options, request);
+    push_path(options, request.path.segments());
+    push_after(options, request.method, format);
     options.push_some(number, block);
-    options
 }
 
 // The options before the path.
@@ -174,7 +174,14 @@ pub fn is_long_request<A: Allocator + Copy>(request: &Request<A>) -> bool
     let format = format_value(request);
     let number = block_option_number(request.method);
     let longest = LONGEST_BLOCK;
-    let options = call_options(request, bytes_in(&format), number, Some(&longest));
+    let mut options = OptionList::new();
+    push_call(
+        &mut options,
+        request,
+        bytes_in(&format),
+        number,
+        Some(&longest),
+    );
     exceed(&options)
 }
 

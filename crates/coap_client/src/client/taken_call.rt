@@ -14,14 +14,14 @@ use crate::client::heard::Heard;
 use crate::client::parts::Now;
 use crate::client::report::code_report;
 use crate::client::request::ask;
-use crate::client::request_options::{bytes_in, call_options, format_value};
+use crate::client::request_options::{bytes_in, format_value, push_call};
 use crate::client::transfer::{Transfer, block_of, payload_of};
 use crate::client::upload::{hear_upload, is_longer};
 use bytes::Bytes;
 use coap_block::{Fetch, Upload};
 use coap_codec::View;
 use coap_exchange::{Ask, Asker};
-use coap_types::{BodyLimit, Method, Request, Szx, Token};
+use coap_types::{BodyLimit, Method, OptionList, Request, Szx, Token};
 use std::alloc::{AllocError, Allocator, Global};
 use std::hash::BuildHasher;
 use std::marker::Model;
@@ -136,7 +136,9 @@ impl<A: Allocator + Copy> TakenCall<A> {
         self.request.ranges();
         let format = format_value(&self.request);
         let (number, block) = block_of(&self.transfer);
-        let options = call_options(&self.request, bytes_in(&format), number, bytes_in(&block));
+        let mut options = OptionList::new();
+        let (format, block) = (bytes_in(&format), bytes_in(&block));
+        push_call(&mut options, &self.request, format, number, block);
         let request = Ask {
             method: self.request.method,
             token: None,

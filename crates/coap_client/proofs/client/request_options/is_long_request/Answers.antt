@@ -5,7 +5,7 @@ use Rattle.coap_client.proofs.client.request_options.is_long_request.Goals as go
 
 pub exceed-requires : goal.exceed-requires
 exceed-requires g c =
-    subst (IsGood 0) (sym c.call_options-options.ensures)
+    subst (IsGood 0) (sym c.push_call.ensures)
     (good_call (shown_request c.args.request.now) _ (ranges_of c.args.request.now c.ranges-2.ensures)
     (good_tail c.block_option_number-number.result
     (Some (255 ∷ 255 ∷ 255 ∷ [])) c.block_option_number-number.ensures.least c.block_option_number-number.ensures.most

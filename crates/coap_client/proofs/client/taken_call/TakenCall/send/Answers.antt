@@ -20,8 +20,8 @@ ask-requires g c =
       payload =
           c.payload_of.result.now;
     }))
-    (sym (c.as_slice.ensures ∙ (c.call_options-options.ensures
-    ∙ ap (λ l. options_of r ++ l) (ap (option_with c.block_of-number.result.0) c.bytes_in-2.ensures ∙ b.option))))
+    (sym (c.as_slice.ensures ∙ (c.push_call.ensures
+    ∙ ap (λ l. options_of r ++ l) (ap (option_with c.block_of-number.result.0) c.bytes_in-block.ensures ∙ b.option))))
     (subst (λ l. IsAskable (record {
       code = (method_code r.method).0;
       token = None;
