@@ -3,8 +3,8 @@ ghost use Rattle.std.specs.Prelude.{◌≡◌, ◌<◌, ◌++◌, ◌||◌, ◌&
 ghost use Rattle.std.specs.Prelude.{option_copied, if◌then◌else◌};
 ghost use Rattle.std.specs.Iterator.{Drains, IsFinite};
 ghost use Rattle.coap_types.specs.CoapOption.{CoapOption, option_of, options_of};
-ghost use Rattle.coap_types.specs.Recognised.{Recognised, carries, has_number, is_recognised, lacks_critical};
-ghost use Rattle.coap_types.specs.Recognised.{recognised_value};
+ghost use Rattle.coap_types.specs.Recognised.{Recognised, carries, has_number, is_critical, is_recognised};
+ghost use Rattle.coap_types.specs.Recognised.{lacks_critical, recognised_value};
 ghost use Rattle.coap_types.specs.SeenNumbers.{Remembers};
 
 use crate::direction::Direction;
@@ -87,11 +87,17 @@ pub fn recognised<'a, I: Iterator<Item = Opt<'a>> + Drop, A: Allocator + Copy>(
     Ok((list, bad))
 }
 
-// Whether a critical option that is not recognised was found, or this one is such.
-fn or_critical(found: bool, number: u16, recognised: bool) -> bool
-    ensures { result ≡ (found || ((number % 2 == 1) && not recognised)) }
+// Whether a critical option that is not recognised was found, or this one is such, where those of these numbers stood
+// before it.
+fn or_critical(direction: Direction, found: bool, option: Opt<'_>, seen: &[bool; NUMBERS]) -> bool
+    ensures { (before : List CoapOption) → Remembers seen.now before → result
+        ≡ (found || (is_critical (option_of option.entry)
+        && not (is_recognised direction before (option_of option.entry)))) }
 {
-    found || (number % 2 == 1 && !recognised)
+    if found || option.number % 2 == 0 {
+        return found;
+    }
+    !is_recognised(direction, option, was_seen(seen, option.number))
 }
 
 /// Whether a message of this direction has a critical option that is not recognised, as
@@ -108,9 +114,7 @@ pub fn lacks_critical<'a, I: Iterator<Item = Opt<'a>> + Drop>(
     let mut seen = [false; NUMBERS];
     let mut bad = false;
     for option in options {
-        let again = was_seen(&seen, option.number);
-        let known = is_recognised(direction, option, again);
-        bad = or_critical(bad, option.number, known);
+        bad = or_critical(direction, bad, option, &seen);
         see(&mut seen, option.number);
     }
     bad

@@ -17,7 +17,8 @@ use std::marker::Model;
 // So many heads are made at first.
 const FEW: usize = 64;
 
-// Once there are as many messages, each one that comes makes so many parts of the others, and no more than so many heads.
+// Once there are as many messages, each one that comes makes one of so many parts of the others, and no more than so
+// many heads.
 const PARTS: usize = 16;
 
 const STEP: usize = 4_096;

@@ -29,15 +29,14 @@ none_lacks direction seen none = record { rest = refl; numbers = λ n low. unsee
 pub none_valued : (direction : Direction) (number : ℕ) → Valued direction number [] None false
 none_valued direction number = record { value = refl; seen = refl }
 
-pub lacks_more : (direction : Direction) (os : List CoapOption) (o : CoapOption) (bad more known : Bool)
+pub lacks_more : (direction : Direction) (os : List CoapOption) (o : CoapOption) (bad more : Bool)
     (seen after : List Bool)
-    → Lacks direction os bad seen → Remembers after (os ++ o ∷ []) → known ≡ is_recognised direction os o
-    → more ≡ (bad || ((o.number % 2 == 1) && not known)) → Lacks direction (os ++ o ∷ []) more after
-lacks_more direction os o bad more known seen after so numbers is more_is = record {
+    → Lacks direction os bad seen → Remembers after (os ++ o ∷ [])
+    → more ≡ (bad || (is_critical o && not (is_recognised direction os o))) → Lacks direction (os ++ o ∷ []) more after
+lacks_more direction os o bad more seen after so numbers more_is = record {
   rest = more_is
-      ∙ (ap (λ k. bad || ((o.number % 2 == 1) && not k)) is
       ∙ (ap (λ b. b || (is_critical o && not (is_recognised direction os o))) so.rest
-      ∙ sym (bad_more direction os o)));
+      ∙ sym (bad_more direction os o));
   numbers = numbers;
 }
 

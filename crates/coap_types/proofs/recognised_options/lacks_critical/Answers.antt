@@ -12,12 +12,11 @@ loop-option-preserved g c =
     let so = c.loop-option.invariant.1.1 in
     let before = options_of c.loop-option.yielded in
     let o = option_of c.in-Some.option in
-    let is = c.is_recognised-known.ensures before (λ low. c.was_seen-again.ensures before so.numbers low) in
     let numbers = c.see.ensures before o refl so.numbers in (
       search rules,
       (
         search rules,
         rw (options_append c.loop-option.yielded (c.in-Some.option ∷ []))
-            (lacks_more _ before o _ _ _ _ _ so numbers is c.or_critical-bad.ensures),
+            (lacks_more _ before o _ _ _ _ so numbers (c.or_critical-bad.ensures before so.numbers)),
       ),
     )
