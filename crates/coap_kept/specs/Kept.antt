@@ -1,5 +1,5 @@
 -- A server that goes on from its journal.
-use Rattle.std.specs.Prelude.{◌≡◌, ◌≤◌, ◌+◌, ◌-◌, ◌^◌, ◌++◌, ⊤, min, ℕ, Bool, true, false, List, [], length}
+use Rattle.std.specs.Prelude.{◌≡◌, ◌≤◌, ◌+◌, ◌-◌, ◌^◌, ◌++◌, min, ℕ, Bool, true, false, List, [], length}
 use Rattle.coap_server.specs.Led.{State}
 use Rattle.coap_journal.specs.Frames.{frame}
 use Rattle.coap_journal.specs.Records.{Woke, record_bytes}
@@ -11,8 +11,10 @@ use Rattle.coap_journal.specs.declared.waking.TheConstants.{SILENCE_MS as silenc
 use Rattle.coap_journaled.specs.Journal.{Journal}
 use Rattle.coap_kept.specs.Renewal.{IsRenewedFrom}
 use Rattle.coap_kept.specs.Revival.{IsRevived}
+use Rattle.coap_kept.specs.WholeFile.{IsMadeWhole}
 use Rattle.coap_kept.specs.declared.keep_words.Keeping.{Keeping}
 use Rattle.coap_kept.specs.declared.keeping.Silences.{Silences}
+use Rattle.coap_kept.specs.declared.machine.Machine.{Machine}
 use Rattle.coap_kept.specs.declared.renewal.TheConstants.{RENEWAL_SILENCE_MS as renewal_silence}
 use Rattle.coap_replay.specs.declared.replay.Replayed.{Replayed}
 
@@ -28,26 +30,36 @@ abbrev pub IsAwake : List ℕ → ℕ → List ℕ → Type 0
 IsAwake old first new = (life : Life) × (life.moment.0 ≡ first)
     × (new ≡ old ++ frame (length old) (record_bytes (Woke life)))
 
--- where it is begun anew, it was silent, and then it was made for the one of another journal
-abbrev pub IsRenewedIf : Bool → Keeping → ℕ → List ℕ → Beginning → Replayed → State → Type 0
-IsRenewedIf false keeping silent bytes is r s = ⊤
-IsRenewedIf true keeping silent bytes is r s = (before : List ℕ) × (was : Beginning) × (replayed : Replayed)
-    × (old : State) × IsRevived before keeping.wishes was replayed old × IsRenewedFrom keeping was old bytes is r s
+-- the journal is the one that was there; or, where its server is begun anew, that was silent, and then its journal was
+-- made for the server of the one that was there
+abbrev pub IsRenewedIf : Bool → Keeping → ℕ → List ℕ → List ℕ → Beginning → Replayed → State → Type 0
+IsRenewedIf false keeping silent there bytes is r s = bytes ≡ there
+IsRenewedIf true keeping silent there bytes is r s = (was : Beginning) × (replayed : Replayed) × (old : State)
+    × IsRevived there keeping.wishes was replayed old × IsRenewedFrom keeping was old bytes is r s
     × (renewal_silence ≤ silent)
 
 -- the server of a journal, before a further life begins
-pub record IsMade (keeping : Keeping) (silent : ℕ) (bytes : List ℕ) (r : Replayed) (s : State) : Type 0 where
+pub record IsMade (keeping : Keeping) (silent : ℕ) (there bytes : List ℕ) (r : Replayed) (s : State) : Type 0 where
   pub beginning : Beginning
   pub revived : IsRevived bytes keeping.wishes beginning r s
-  pub renewed : IsRenewedIf keeping.renews keeping silent bytes beginning r s
+  pub renewed : IsRenewedIf keeping.renews keeping silent there bytes beginning r s
 
 -- .. and it began one
-pub record IsAlive (keeping : Keeping) (silent : Silences) (first : ℕ) (bytes : List ℕ) (s : State) : Type 0 where
+pub record IsAwoken (keeping : Keeping) (silent : Silences) (first : ℕ) (there bytes : List ℕ) (s : State)
+    : Type 0 where
   pub before : List ℕ
   pub replayed : Replayed
-  pub made : IsMade keeping silent.renewal before replayed s
+  pub made : IsMade keeping silent.renewal there before replayed s
   pub goes_on : GoesOnAt replayed.life replayed.latest.0 silent.boot first
   pub awake : IsAwake before first bytes
+
+-- .. from what was found in its file, which was made whole on a machine
+pub record IsAlive (keeping : Keeping) (silent : Silences) (first : ℕ) (bytes : List ℕ) (s : State) : Type 0 where
+  pub machine : Machine
+  pub found : List ℕ
+  pub there : List ℕ
+  pub whole : IsMadeWhole keeping machine found there
+  pub awoken : IsAwoken keeping silent first there bytes s
 
 -- the end of that server, which noted and gave out nothing since; its next frame follows the bytes
 pub record IsKept {F : Type 0} (keeping : Keeping) (silent : Silences) (first : ℕ) (j : Journal State F) : Type 0 where

@@ -42,9 +42,10 @@ fn sync_timed<F: OpenFile, T: Timekeeper>(file: &F, time: &mut T) -> io::Result<
 
 impl<F: Write + OpenFile + Drop, T: Timekeeper + Drop, W: Write + Drop> JournalFile
     for DiskFile<F, T, W> {
-    ghost use Rattle.std.specs.Prelude.{⊤};
+    ghost use Rattle.std.specs.Prelude.{◌≡◌, ⊤, true};
+    ghost use Rattle.std.specs.Io.KnownBytes.{Appends};
 
-    ghost appends = { λ _ _ _ _. ⊤ };
+    ghost appends = { λ d bytes done e. done ≡ true → Appends (F.contents d.file) (F.contents e.file) bytes };
 
     ghost syncs = { λ _ _ _. ⊤ };
 

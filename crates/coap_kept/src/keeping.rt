@@ -3,7 +3,7 @@ ghost use Rattle.std.specs.Prelude.{◌≡◌, IfOk};
 ghost use Rattle.coap_resource.specs.Entries.{content_of};
 ghost use Rattle.coap_server.specs.Object.Shown.{state_of};
 ghost use Rattle.coap_journaled.specs.Journal.{shown};
-ghost use Rattle.coap_kept.specs.Kept.{IsAlive, IsKept, IsMade};
+ghost use Rattle.coap_kept.specs.Kept.{IsAwoken, IsKept, IsMade};
 ghost use Rattle.coap_kept.specs.Silence.{IsSilent};
 
 use crate::counts::{Counts, tell_counts};
@@ -72,8 +72,8 @@ where
     T: Timekeeper,
     W: Write,
     H: BuildHasher + Drop,
-    ensures made { IfOk result (λ m. IsMade keeping.now m.silent journal.new.bytes.items m.revived.replayed
-        (state_of content_of m.revived.server)) }
+    ensures made { IfOk result (λ m. IsMade keeping.now m.silent journal.old.bytes.items journal.new.bytes.items
+        m.revived.replayed (state_of content_of m.revived.server)) }
     ensures silent { IfOk result (λ m. IsSilent L.receives link.old link.new) }
 {
     let (first, second) = hashers;
@@ -115,7 +115,8 @@ where
     T: Timekeeper,
     W: Write,
     H: BuildHasher + Drop,
-    ensures alive { IfOk result (λ a. IsAlive keeping.now a.2 a.1.0 journal.new.bytes.items (state_of content_of a.0)) }
+    ensures alive { IfOk result (λ a. IsAwoken keeping.now a.2 a.1.0 journal.old.bytes.items journal.new.bytes.items
+        (state_of content_of a.0)) }
     ensures silent { IfOk result (λ a. IsSilent L.receives link.old link.new) }
 {
     let made = replayed_or_renewed(rt, journal, keeping, counts, link, clock, told, hashers)?;

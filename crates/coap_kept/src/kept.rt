@@ -1,7 +1,7 @@
 //! An end that commits each input before it goes on.
 ghost use Rattle.std.specs.Prelude.{◌≡◌, None};
 ghost use Rattle.coap_journaled.specs.Journal.{shown};
-ghost use Rattle.coap_kept.specs.Keeping.{IsCommitted};
+ghost use Rattle.coap_kept.specs.Keeping.{CommitsTelling, IsCommitted};
 
 use coap_ends::End;
 use coap_journaled::{CommitError, JournalFile, Journaled};
@@ -49,8 +49,10 @@ impl<E: End<A>, F: JournalFile, A: Allocator + Copy> Kept<E, F, A> {
 
     // Commits what was noted.
     fn commit(&mut self)
-        ensures { IsCommitted F.appends F.syncs (shown E.state self.old.journaled)
+        ensures committed { IsCommitted F.appends F.syncs (shown E.state self.old.journaled)
             (shown E.state self.new.journaled) }
+        ensures told { CommitsTelling F.appends F.syncs (shown E.state self.old.journaled) self.old.failure
+            (shown E.state self.new.journaled) self.new.failure }
     {
         match self.journaled.commit() {
             Ok(()) => {}

@@ -37,6 +37,11 @@ pub fn moment_at(begin: Moment, first: Moment, now: Moment) -> Moment
 }
 
 impl<T: Timekeeper> Timekeeper for KeptTime<T> {
+    ghost use Rattle.std.specs.Prelude.{◌≡◌, ◌+◌, ◌-◌, ◌^◌, ℕ, min};
+
+    ghost tells = { λ t ms u. (now : ℕ) × T.tells t.clock now u.clock
+        × (ms ≡ min (t.first.0 + (now - t.begin.0)) (2 ^ 64 - 1)) × (u.begin ≡ t.begin) × (u.first ≡ t.first) };
+
     fn now(&mut self) -> io::Result<Moment> {
         let now = self.clock.now()?;
         Ok(moment_at(self.begin, self.first, now))

@@ -1,4 +1,6 @@
 //! The machine on which a server goes on.
+ghost use Rattle.std.specs.Prelude.{◌≡◌};
+ghost use Rattle.coap_kept.specs.Machines.{machine_in};
 
 use coap_journal::Boot;
 use coap_journal_file::{boot_in, uptime_in};
@@ -36,14 +38,21 @@ fn bytes_of<R: AllocGlobal + Files>(rt: &R, name: &str) -> io::Result<Vec<u8>> {
     Ok(bytes)
 }
 
+// The machine that these texts name: its boot, and how long it has been up.
+fn machine_in(name: &[u8], uptime: &[u8]) -> Option<Machine>
+    ensures { result ≡ machine_in name.now uptime.now }
+{
+    match (boot_in(name), uptime_in(uptime)) {
+        (Some(boot), Some(uptime)) => Some(Machine { boot, uptime }),
+        _ => None,
+    }
+}
+
 // What the system says of itself, where it does.
 fn told_machine<R: AllocGlobal + Files>(rt: &R) -> io::Result<Option<Machine>> {
     let name = bytes_of(rt, BOOT_NAME)?;
     let uptime = bytes_of(rt, UPTIME)?;
-    match (boot_in(name.as_slice()), uptime_in(uptime.as_slice())) {
-        (Some(boot), Some(uptime)) => Ok(Some(Machine { boot, uptime })),
-        _ => Ok(None),
-    }
+    Ok(machine_in(name.as_slice(), uptime.as_slice()))
 }
 
 /// The machine as it is now. One that doesn't name its boot has another one each time that it is asked: so a server

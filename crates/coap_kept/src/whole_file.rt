@@ -1,7 +1,10 @@
 //! The file of a journal is made whole: a torn frame is cut off, and where no server began in it one begins.
-ghost use Rattle.std.specs.Prelude.{◌≡◌, ◌++◌, IfNone, IfOk, IfSome, OnOk, take};
+ghost use Rattle.std.specs.Prelude.{◌≡◌, ◌++◌, ℕ, List, IfNone, IfOk, IfSome, OnOk, take};
 ghost use Rattle.coap_journal_file.specs.Judging.{IsTornBeginning, IsWhole};
 ghost use Rattle.coap_kept.specs.Renewal.{first_bytes};
+ghost use Rattle.coap_kept.specs.WholeFile.{IsAgreed, IsBegunAsSaid, IsMadeWhole, completed, cut_off, first_life};
+ghost use Rattle.coap_kept.specs.WholeFile.{with_setup};
+ghost use Rattle.coap_kept.specs.declared.machine.Machine.{Machine as MachineSpec};
 
 use crate::counts::{Counts, no_counts};
 use crate::inputs::read_turns;
@@ -22,7 +25,9 @@ use std::random::RandomSource;
 use std::rt::Files;
 
 // What a server began with that the words say otherwise. Where it is to be begun anew, it takes another setup then.
-fn differing_in(began: &Began<'_>, keeping: &Keeping<'_>) -> Option<Differing> {
+fn differing_in(began: &Began<'_>, keeping: &Keeping<'_>) -> Option<Differing>
+    ensures { IfNone result (IsAgreed keeping.now began.now) }
+{
     if keeping.renews {
         differing_beginning(&began.beginning, &keeping.wishes)
     } else {
@@ -33,6 +38,7 @@ fn differing_in(began: &Began<'_>, keeping: &Keeping<'_>) -> Option<Differing> {
 // How much of a file is whole in which a server began as the words say; None where none began.
 fn looked_at(bytes: &[u8], keeping: &Keeping<'_>) -> Result<Option<Whole>, KeepError>
     ensures begun { IfOk result (λ looked. IfSome looked (IsWhole bytes.now)) }
+    ensures said { IfOk result (λ looked. IfSome looked (IsBegunAsSaid keeping.now bytes.now)) }
     ensures empty { IfOk result (λ looked. IfNone looked (IsTornBeginning bytes.now)) }
 {
     match judge(bytes) {
@@ -64,10 +70,39 @@ fn cut(journal: &mut OpenJournal, end: usize) -> Result<(), KeepError>
 }
 
 // Adds the frame of the inputs that a server takes first.
-fn add_setup(alloc: Global, journal: &mut OpenJournal, setup: &[u8]) -> Result<(), KeepError> {
+fn add_setup(alloc: Global, journal: &mut OpenJournal, setup: &[u8]) -> Result<(), KeepError>
+    ensures { OnOk result (journal.new.bytes.items ≡ with_setup journal.old.bytes.items setup.now) }
+{
     let place = journal.bytes.len() as u64;
     let frame = setup_frame(alloc, place, setup)?;
     add(journal, frame.as_slice())
+}
+
+// Cuts a torn frame off, where there is one.
+fn cut_off(journal: &mut OpenJournal, whole: Whole) -> Result<(), KeepError>
+    ensures { OnOk result (journal.new.bytes.items ≡ cut_off whole journal.old.bytes.items) }
+{
+    if whole.torn > 0 {
+        cut(journal, whole.end as usize)
+    } else {
+        Ok(())
+    }
+}
+
+// Adds the frame of the inputs that a server takes first, where no frame follows the first one.
+fn complete(
+    alloc: Global,
+    journal: &mut OpenJournal,
+    whole: Whole,
+    setup: &[u8],
+) -> Result<(), KeepError>
+    ensures { OnOk result (journal.new.bytes.items ≡ completed whole setup.now journal.old.bytes.items) }
+{
+    if whole.frames <= 1 {
+        add_setup(alloc, journal, setup)
+    } else {
+        Ok(())
+    }
 }
 
 /// The first two frames of a journal: how its server begins and its first life, and the inputs that it takes first.
@@ -92,7 +127,10 @@ fn begin(
     journal: &mut OpenJournal,
     keeping: &Keeping<'_>,
     machine: Machine,
-) -> Result<(), KeepError> {
+) -> Result<(), KeepError>
+    ensures { OnOk result (journal.new.bytes.items ≡ first_bytes keeping.now.drawn (first_life machine)
+        keeping.now.setup.now) }
+{
     let life = life_at(machine, Moment(0));
     let frames = first_frames(alloc, keeping.drawn, life, keeping.setup)?;
     cut(journal, 0)?;
@@ -105,20 +143,18 @@ fn make_whole(
     journal: &mut OpenJournal,
     keeping: &Keeping<'_>,
     machine: Machine,
-) -> Result<Counts, KeepError> {
+) -> Result<Counts, KeepError>
+    ensures { IfOk result (λ _. IsMadeWhole keeping.now machine journal.old.bytes.items journal.new.bytes.items) }
+{
     let Some(whole) = looked_at(journal.bytes.as_slice(), keeping)? else {
         let torn = journal.bytes.len() as u64;
         begin(alloc, journal, keeping, machine)?;
         return Ok(no_counts(0, torn));
     };
-    if whole.torn > 0 {
-        cut(journal, whole.end as usize)?;
-    }
+    cut_off(journal, whole)?;
     let mut counts = no_counts(whole.frames, whole.torn);
     read_turns(alloc, journal.bytes.as_slice(), &mut counts)?;
-    if whole.frames <= 1 {
-        add_setup(alloc, journal, keeping.setup)?;
-    }
+    complete(alloc, journal, whole, keeping.setup)?;
     Ok(counts)
 }
 
@@ -126,7 +162,10 @@ fn make_whole(
 pub(crate) fn ready<R: AllocGlobal + Files<File = File> + RandomSource>(
     rt: &R,
     keeping: &Keeping<'_>,
-) -> Result<(OpenJournal, Counts), KeepError> {
+) -> Result<(OpenJournal, Counts), KeepError>
+    ensures { IfOk result (λ opened. (machine : MachineSpec) × (found : List ℕ)
+        × IsMadeWhole keeping.now machine found opened.0.bytes.items) }
+{
     let mut journal = open_journal(rt, keeping.name)?;
     let machine = machine_now(rt)?;
     let counts = make_whole(rt.alloc(), &mut journal, keeping, machine)?;

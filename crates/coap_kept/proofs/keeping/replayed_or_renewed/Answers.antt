@@ -2,6 +2,7 @@ use Rattle.std.proofs.Common.{◌≡◌, IfOk, Bool, Err, Ok, Result, rules, sub
 use Rattle.coap_resource.specs.Entries.{content_of}
 use Rattle.coap_server.specs.Object.Shown.{state_of}
 use Rattle.coap_kept.specs.Kept.{IsRenewedIf}
+use Rattle.coap_kept.specs.Revival.{IsRevived}
 use Rattle.coap_kept.proofs.GoingOn.{if_ok}
 use Rattle.coap_kept.proofs.keeping.replayed_or_renewed.Goals as goal
 
@@ -14,12 +15,15 @@ pub returns-clause-made : goal.returns-clause-made
 returns-clause-made g c =
     let keeping = c.args.keeping.now in
     let old = c.in_ok-old.old in
+    let there = c.args.journal.now.bytes.items in
     let bytes = c.renew-new.new.journal.bytes.items in
+    let revived = subst (λ v. IsRevived v keeping.wishes old.beginning old.replayed (state_of content_of old.server))
+    (search rules) c.in_ok-old.ensures in
     let renews : keeping.renews ≡ true = search rules in
     if_ok c.renew-new.result (λ m both. record {
       beginning = m.revived.beginning;
       revived = both.0.revived;
-      renewed = subst (λ (b : Bool). IsRenewedIf b keeping m.silent bytes m.revived.beginning m.revived.replayed
-          (state_of content_of m.revived.server)) (sym renews)
-          (_, old.beginning, old.replayed, _, c.in_ok-old.ensures, both.0, both.1);
+      renewed = subst (λ (b : Bool). IsRenewedIf b keeping m.silent there bytes m.revived.beginning
+          m.revived.replayed (state_of content_of m.revived.server)) (sym renews)
+          (old.beginning, old.replayed, _, revived, both.0, both.1);
     }) (both_of _ _ c.renew-new.result c.renew-new.ensures.from c.renew-new.ensures.long)

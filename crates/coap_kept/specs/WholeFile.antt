@@ -1,0 +1,44 @@
+-- The file of a journal, which is made whole: a torn frame is cut off, and what is not there yet is added.
+use Rattle.std.specs.Prelude.{◌≡◌, ◌⊎◌, ◌++◌, ◌∷◌, ℕ, false, List, length, nat_le, nat_lt, take, if◌then◌else◌}
+use Rattle.coap_journal.specs.Frames.{frame}
+use Rattle.coap_journal.specs.Numbers.{number}
+use Rattle.coap_journal.specs.declared.beginning.Life.{Life}
+use Rattle.coap_journal.specs.declared.wholeness.Whole.{Whole}
+use Rattle.coap_journal_file.specs.Judging.{IsBegun, IsTornBeginning, IsWhole}
+use Rattle.coap_journal_file.specs.Wishes.{AgreesOn, IsWishedSetup}
+use Rattle.coap_journal_file.specs.declared.judging.Began.{Began}
+use Rattle.coap_kept.specs.Renewal.{first_bytes}
+use Rattle.coap_kept.specs.declared.keep_words.Keeping.{Keeping}
+use Rattle.coap_kept.specs.declared.machine.Machine.{Machine}
+
+-- the first life of a server that begins on this machine
+abbrev pub first_life : Machine → Life
+first_life machine = record { boot = machine.boot; uptime = machine.uptime; moment = record { 0 = 0 } }
+
+-- a server began so, as the words say; one that isn't begun anew took the inputs first that they say
+abbrev pub IsAgreed : Keeping → Began → Type 0
+IsAgreed keeping began = AgreesOn keeping.wishes began.beginning
+    × (keeping.renews ≡ false → IsWishedSetup keeping.wishes.setup began)
+
+-- so it began in these bytes, of which so much is whole
+abbrev pub IsBegunAsSaid : Keeping → List ℕ → Whole → Type 0
+IsBegunAsSaid keeping bytes whole =
+    (began : Began) × (began.whole ≡ whole) × IsBegun bytes began.beginning began.setup × IsAgreed keeping began
+
+-- a torn frame is cut off
+abbrev pub cut_off : Whole → List ℕ → List ℕ
+cut_off whole bytes = if nat_lt 0 whole.torn then take whole.end bytes else bytes
+
+-- behind the first frame stands that of the inputs that the server takes first
+abbrev pub with_setup : List ℕ → List ℕ → List ℕ
+with_setup bytes setup = bytes ++ frame (length bytes) (9 ∷ (number 0 ++ (number 0 ++ setup)))
+
+abbrev pub completed : Whole → List ℕ → List ℕ → List ℕ
+completed whole setup bytes = if nat_le whole.frames 1 then with_setup bytes setup else bytes
+
+-- where no server began, one begins; one that began as the words say is made whole
+abbrev pub IsMadeWhole : Keeping → Machine → List ℕ → List ℕ → Type 0
+IsMadeWhole keeping machine old new =
+    (IsTornBeginning old × (new ≡ first_bytes keeping.drawn (first_life machine) keeping.setup.now))
+    ⊎ ((whole : Whole) × IsWhole old whole × IsBegunAsSaid keeping old whole
+    × (new ≡ completed whole keeping.setup.now (cut_off whole old)))
