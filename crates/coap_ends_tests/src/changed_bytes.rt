@@ -1,12 +1,16 @@
 //! Each byte of what two ends say to each other changed to each value: neither end faults, what is
 //! malformed changes nothing, and the original is answered by what the server then holds where it comes
 //! from another endpoint (RFC 7252, sections 3, 4.2, 4.3 and 5.3.2).
-use crate::script::{change_each, find};
+use crate::script::change_each;
 use std::test::Fail;
+use test_scripts::{Scripts, find};
 
 // From another endpoint a block that is not the first continues nothing (4.08; RFC 7959, section
 // 2.9.2), and an acknowledgement is passed over at either end. A client rejects a request by a Reset.
-const TALKS: &str = "
+const TALKS: Scripts<'static> = Scripts {
+    module: module_path!(),
+    line: 13,
+    text: "
 == a_resource_is_read
 set 0 /temperature 0 = 22.3 C
 watch /temperature
@@ -26,24 +30,41 @@ client tick 0
 < 685f0002 0000000000000002 d10e59 | D nothing | X nothing
 > 48030003 0000000000000003 b174 d10361 ff 78*8 | D 68880003 0000000000000003 | X 70000003
 < 684100030000000000000003d10e61 | D nothing | X nothing
-";
+",
+};
 
 #[test]
 fn each_byte_of_a_resource_is_changed(rt: HostRuntime) -> Result<(), Fail> {
-    change_each(rt.alloc(), find(TALKS, "a_resource_is_read")?, 0..2)
+    change_each(
+        rt.alloc(),
+        &find(rt.alloc(), &TALKS, "a_resource_is_read")?,
+        0..2,
+    )
 }
 
 #[test]
 fn each_byte_of_a_first_block_is_changed(rt: HostRuntime) -> Result<(), Fail> {
-    change_each(rt.alloc(), find(TALKS, "a_body_is_sent_in_blocks")?, 0..1)
+    change_each(
+        rt.alloc(),
+        &find(rt.alloc(), &TALKS, "a_body_is_sent_in_blocks")?,
+        0..1,
+    )
 }
 
 #[test]
 fn each_byte_of_two_blocks_is_changed(rt: HostRuntime) -> Result<(), Fail> {
-    change_each(rt.alloc(), find(TALKS, "a_body_is_sent_in_blocks")?, 1..5)
+    change_each(
+        rt.alloc(),
+        &find(rt.alloc(), &TALKS, "a_body_is_sent_in_blocks")?,
+        1..5,
+    )
 }
 
 #[test]
 fn each_byte_of_the_last_block_is_changed(rt: HostRuntime) -> Result<(), Fail> {
-    change_each(rt.alloc(), find(TALKS, "a_body_is_sent_in_blocks")?, 5..8)
+    change_each(
+        rt.alloc(),
+        &find(rt.alloc(), &TALKS, "a_body_is_sent_in_blocks")?,
+        5..8,
+    )
 }

@@ -2,11 +2,12 @@
 //! as they were and is carried out once more, and the script goes on to its bytes as if nothing had been refused.
 use crate::client::fetches;
 use crate::pair::{deliveries, transfers, waits};
-use crate::script::{End, find, run_script};
+use crate::script::{End, run_script};
 use crate::server::{replies, storing};
 use failing_allocator::Failing;
 use std::alloc::Global;
 use std::test::Fail;
+use test_scripts::{Scripts, find};
 
 // No script takes so many growths.
 const MANY: u64 = 100_000;
@@ -45,7 +46,7 @@ fn each_growth_is_refused(rt: HostRuntime) -> Result<(), Fail> {
         (fetches::SCRIPTS, "a_cancel_waits_for_what_is_fetched", "/t"),
     ];
     for (scripts, name, path) in scripts {
-        refuse_each(alloc, scripts, name, path)?;
+        refuse_each(alloc, &scripts, name, path)?;
     }
     Ok(())
 }
@@ -53,16 +54,17 @@ fn each_growth_is_refused(rt: HostRuntime) -> Result<(), Fail> {
 // Refuses the growths of the script one after the other, each in a run of its own, until there is no
 // further one. One that is refused makes one step want memory, or none where a message is sent from the room
 // that was made for it, as it would have been; none that is refused makes none.
-fn refuse_each(alloc: Global, scripts: &str, name: &str, path: &str) -> Result<(), Fail> {
-    let script = find(scripts, name)?;
+fn refuse_each(alloc: Global, scripts: &Scripts<'_>, name: &str, path: &str) -> Result<(), Fail> {
+    let script = find(alloc, scripts, name)?;
     let watch = format!(in alloc; "watch {path}")?;
     for number in 1..MANY {
         let memory = Failing::new(alloc, number);
-        let wants = run_script(alloc, &memory, End::Client, watch.as_str(), script)?;
+        let wants = run_script(alloc, &memory, End::Client, Some(watch.as_str()), &script)?;
         let is_refused = memory.left() == 0;
         if wants > u64::from(is_refused) {
+            let place = script.place;
             return Err(Fail::new(format_args!(
-                "in {name}, at growth {number}: {wants} steps want memory"
+                "{place}, at growth {number}: {wants} steps want memory"
             )));
         }
         if !is_refused {

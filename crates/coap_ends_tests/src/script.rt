@@ -1,16 +1,15 @@
 //! Scripts for the two ends, as text: what happens, and what has to come of it.
 //!
-//! A script begins with `== ` and its name; each further line is a step, but for those that begin
-//! with `#`. A step may begin with the end that it is of, `client` or `server`, which the steps behind
-//! it are of then, too. A moment comes first, in milliseconds. A port is `S` for the server, `X` for
+//! `test_scripts` says what a script is. A step may begin with the end that it is of, `client` or `server`. The steps
+//! after it are of that end then, too. A moment comes first, in milliseconds. A port is `S` for the server, `X` for
 //! a third party, `C` to `F` or a number for clients. Bytes are in hex, in words parted by spaces; a
 //! text has words parted by `+`, and `ab*3` stands for `ababab`. Calls and observations are numbered
 //! from 0.
 //!
 //! | Step | What happens, or what has to be so |
 //! |---|---|
-//! | `new szx=6 word=0 changes=4194303 limit=65536` | the end begins anew, with its block size, its word, how many changes
-//! a window takes, its limit of bodies |
+//! | `new szx=6 word=0 changes=4194303 limit=65536` | the end begins anew, with its block size, its word, how
+//! many changes a window takes, its limit of bodies |
 //! | `feed 0 C 40010001` | a datagram arrives from there |
 //! | `tick 0` · `idle 0` | a tick does something · finds nothing due |
 //! | `due 3000` · `due nothing` | its next tick is due then · never, unless something happens before |
@@ -39,8 +38,7 @@
 //! `times 0..16: feed 0 {d} 4001{4}; out {d} 6045{4}` carries out its steps for each of the counts, which
 //! stand in decimal for `{d}`, in so many digits of hex for `{4}`, and 3 more for `{4+3}`.
 //!
-//! Lines that begin with `| ` are rows: the script is carried out for each, with its columns for
-//! `$1` to `$3`.
+//! A script with rows is carried out for each of them, with its columns for `$1` to `$3`.
 mod asking;
 mod changing;
 mod delivery;
@@ -55,7 +53,7 @@ pub(crate) use changing::change_each;
 use ends::Ends;
 use std::alloc::{Allocator, Global};
 use std::test::Fail;
-use words::cut;
+use test_scripts::{Line, Mark, Script, Scripts, Wrong, cut, scripts_of};
 
 /// An end of a script.
 #[derive(Clone, Copy, PartialEq, Eq)]
@@ -66,88 +64,108 @@ pub(crate) enum End {
 
 /// Carries out each of the scripts, over ends of its own; steps that name no end are of this one.
 /// Memory is ample, and no step wants any.
-pub(crate) fn run(alloc: Global, end: End, scripts: &str) -> Result<(), Fail> {
-    for script in scripts.split("\n== ").skip(1) {
-        if run_script(alloc, alloc, end, "", script)? != 0 {
-            return Err(Fail::new("a step wants memory"));
+pub(crate) fn run(alloc: Global, end: End, file: &Scripts<'_>) -> Result<(), Fail> {
+    for script in scripts_of(alloc, file)?.iter() {
+        if run_script(alloc, alloc, end, None, script)? != 0 {
+            return Err(Wrong::Because("a step wants memory").at(&script.head()));
         }
     }
     Ok(())
 }
 
-/// The script of this name.
-pub(crate) fn find<'a>(scripts: &'a str, name: &str) -> Result<&'a str, Fail> {
-    for script in scripts.split("\n== ").skip(1) {
-        if cut(script, "\n").0 == name {
-            return Ok(script);
-        }
-    }
-    Err(Fail::new("there is no such script"))
-}
-
-/// Carries out a script behind this step, if any, once for each of its rows, or once if it has none,
+/// Carries out a script after this step, if any, once for each of its rows, or once if it has none,
 /// over ends that take their memory there. A step that wants memory is carried out once more: how many
 /// did.
 pub(crate) fn run_script<A: Allocator + Copy>(
     alloc: Global,
     memory: A,
     end: End,
-    first: &str,
-    script: &str,
+    first: Option<&str>,
+    script: &Script<'_>,
 ) -> Result<u64, Fail> {
+    let lines = script.lines(alloc)?;
     let mut wants = None;
-    for line in script.lines() {
-        if let Some(row) = line.strip_prefix("| ") {
-            let more = run_row(alloc, memory, end, first, script, row)?;
+    for row in lines.iter() {
+        if row.mark == Mark::Row {
+            let mut ends = begun(alloc, memory, end, first, script)?;
+            let more = ends.run_lines(script, lines.as_slice(), Some(row))?;
             wants = Some(more.saturating_add(wants.unwrap_or(0)));
         }
     }
     match wants {
         Some(wants) => Ok(wants),
-        None => run_row(alloc, memory, end, first, script, ""),
+        None => begun(alloc, memory, end, first, script)?.run_lines(script, lines.as_slice(), None),
     }
 }
 
-fn run_row<A: Allocator + Copy>(
+// Both ends after the first step, if any.
+fn begun<A: Allocator + Copy>(
     alloc: Global,
     memory: A,
     end: End,
-    first: &str,
-    script: &str,
-    row: &str,
-) -> Result<u64, Fail> {
-    let (name, steps) = cut(script, "\n");
-    let mut ends = Ends::new(alloc, memory, end, name)?;
-    ends.run_steps(first, steps, row)
+    first: Option<&str>,
+    script: &Script<'_>,
+) -> Result<Ends<A>, Fail> {
+    let head = script.head();
+    let mut ends = head.check(Ends::new(alloc, memory, end))?;
+    if let Some(step) = first {
+        head.check(ends.run_step(step))?;
+    }
+    Ok(ends)
 }
 
-impl<'a, A: Allocator + Copy> Ends<'a, A> {
-    // Carries out a step, if it is one, and those behind it, with the columns of a row: how many wanted
-    // memory.
-    fn run_steps(&mut self, first: &'a str, steps: &'a str, row: &str) -> Result<u64, Fail> {
-        self.run_line(first, "")?;
-        for line in steps.lines() {
-            self.run_line(line, row)?;
+impl<A: Allocator + Copy> Ends<A> {
+    // Carries out the lines of a script with the columns of a row, if any: how many wanted memory.
+    fn run_lines<'s>(
+        &mut self,
+        script: &Script<'s>,
+        lines: &[Line<'s>],
+        row: Option<&Line<'s>>,
+    ) -> Result<u64, Fail> {
+        let mut place = script.place;
+        for line in lines {
+            let line = in_row(line, row);
+            place = line.place;
+            match line.mark {
+                Mark::Step => line.check(self.run_line(line.text, row))?,
+                Mark::Row => {}
+                _ => return Err(Wrong::Because("it is no step").at(&line)),
+            }
         }
-        self.is_over()?;
+        let end = Line {
+            place,
+            mark: Mark::Step,
+            text: "the end",
+        };
+        end.check(self.is_over())?;
         Ok(self.wants)
     }
 
-    fn run_line(&mut self, line: &'a str, row: &str) -> Result<(), Fail> {
-        if !is_step(line) {
-            return Ok(());
-        }
-        let step = filled(self.alloc, line, row)?;
-        self.run_step(line, step.as_str())
+    fn run_line(&mut self, line: &str, row: Option<&Line<'_>>) -> Result<(), Wrong> {
+        let columns = columns_of(row);
+        let step = filled(self.alloc, line, columns)?;
+        self.run_step(step.as_str())
     }
 }
 
-fn is_step(line: &str) -> bool {
-    !(line.is_empty() || line.starts_with('#') || line.starts_with("| "))
+// The columns of a row, and none where there is no row.
+fn columns_of<'a>(row: Option<&Line<'a>>) -> &'a str {
+    match row {
+        Some(row) => row.text,
+        None => "",
+    }
+}
+
+// The line with the place of the row whose columns it has.
+fn in_row<'a>(line: &Line<'a>, row: Option<&Line<'_>>) -> Line<'a> {
+    match row {
+        Some(row) => line.with_row(row),
+        None => *line,
+    }
 }
 
 // The line with a column of the row for the `$1`, `$2` or `$3` that ends it.
-fn filled(alloc: Global, line: &str, row: &str) -> Result<String, Fail> {
+fn filled(alloc: Global, line: &str, row: &str) -> Result<String, Wrong> {
     let (before, place) = cut(line, "$");
     let place: usize = match place {
         "" => return Ok(String::from_str(alloc, line)?),
@@ -159,7 +177,7 @@ fn filled(alloc: Global, line: &str, row: &str) -> Result<String, Fail> {
 }
 
 // The step with the count for each `{d}` in decimal, and for each `{4}` in so many digits of hex.
-fn counted(alloc: Global, step: &str, count: u64) -> Result<String, Fail> {
+fn counted(alloc: Global, step: &str, count: u64) -> Result<String, Wrong> {
     let mut whole = String::new(alloc);
     for part in step.split('}') {
         let (before, form) = cut(part, "{");
@@ -169,7 +187,7 @@ fn counted(alloc: Global, step: &str, count: u64) -> Result<String, Fail> {
     Ok(whole)
 }
 
-fn number_in(alloc: Global, form: &str, count: u64) -> Result<String, Fail> {
+fn number_in(alloc: Global, form: &str, count: u64) -> Result<String, Wrong> {
     let (form, more) = cut(form, "+");
     let more: u64 = match more {
         "" => 0,

@@ -1,8 +1,7 @@
 //! Scripts with what they print.
 //!
-//! A script begins with `== ` and its name. A line that begins with `> ` is printed, one that begins
-//! with `#` says why, and each other one is a line of the script. `{61*3}` stands for `616161`, `{}`
-//! for nothing, and a `_` in what is printed parts bytes that belong together.
+//! `test_scripts` says what a script is. A line that begins with `> ` is printed. Each step is a line that the program
+//! reads.
 mod calls;
 mod charts;
 mod ends;
@@ -19,85 +18,125 @@ use crate::rows::words_of;
 use coap_arguments::{StoreKind, path_of_text};
 use coap_commands::{Printing, USUAL_ENDS, close, command, sim_to, sim_with};
 use coap_types::{Path, Remembered};
-use std::alloc::{AllocError, Global};
+use std::alloc::Global;
 use std::io::{ErrorKind, Read};
 use std::process::Abort;
 use std::test::Fail;
 use std::{fs, io};
+use test_scripts::{Mark, Script, Wanted, Wrong, push_spelt, scripts_of};
 
 // The status that a script ends with, and what it prints.
 type Ending<'a> = (u8, &'a [u8]);
 
-// Runs one script over each store, where the map is the one that is not named. Both runs end so.
-fn check_script(rt: &impl Abort, alloc: Global, name: &str, script: &[u8], ending: Ending<'_>) {
-    let mut out = Vec::new(alloc);
+// How a script ended in one of its runs.
+#[derive(Drop)]
+struct Ran {
+    run: &'static str,
+    status: u8,
+    printed: Vec<u8>,
+}
+
+// Runs a script over the store that is not named, a map.
+fn ran_by_default(alloc: Global, script: &[u8]) -> Ran {
+    let mut printed = Vec::new(alloc);
     let mut err = Vec::new(alloc);
     let mut reader = script;
-    let ended = sim_to(alloc, &mut reader, &mut out);
-    assert_eq!(rt; out.as_slice(), ending.1, "at {name}");
-    assert_eq!(rt; close(ended, &mut err).number(), ending.0, "at {name}");
-    check_script_with(rt, alloc, name, script, &[], ending);
+    let ended = sim_to(alloc, &mut reader, &mut printed);
+    Ran {
+        run: "over the usual store",
+        status: close(ended, &mut err).number(),
+        printed,
+    }
 }
 
-// The same, with these plain paths.
-fn check_script_with(
-    rt: &impl Abort,
-    alloc: Global,
-    name: &str,
-    script: &[u8],
-    plains: &[Path],
-    ending: Ending<'_>,
-) {
-    let (status, printed) = ending;
+// Runs a script over this store, with these plain paths.
+fn ran_over(alloc: Global, script: &[u8], store: StoreKind, plains: &[Path]) -> Ran {
+    let mut printed = Vec::new(alloc);
+    let mut err = Vec::new(alloc);
+    let mut reader = script;
+    let ended = sim_with(
+        alloc,
+        &mut reader,
+        store,
+        plains,
+        Remembered::default(),
+        USUAL_ENDS,
+        Printing::Lines,
+        &mut printed,
+    );
+    Ran {
+        run: match store {
+            StoreKind::Map => "over a map",
+            StoreKind::List => "over a list",
+        },
+        status: close(ended, &mut err).number(),
+        printed,
+    }
+}
+
+// Runs one script over each store. All runs end so.
+fn check_script(rt: &impl Abort, alloc: Global, name: &str, script: &[u8], ending: Ending<'_>) {
+    is_ended_so(rt, name, &ran_by_default(alloc, script), ending);
     for store in [StoreKind::Map, StoreKind::List] {
-        let mut out = Vec::new(alloc);
-        let mut err = Vec::new(alloc);
-        let mut reader = script;
-        let ended = sim_with(
-            alloc,
-            &mut reader,
-            store,
-            plains,
-            Remembered::default(),
-            USUAL_ENDS,
-            Printing::Lines,
-            &mut out,
-        );
-        assert_eq!(rt; out.as_slice(), printed, "at {name} over {store:?}");
-        assert_eq!(rt;
-            close(ended, &mut err).number(),
-            status,
-            "at {name} over {store:?}"
-        );
+        is_ended_so(rt, name, &ran_over(alloc, script, store, &[]), ending);
     }
 }
 
-// The text with each of its repetitions written out.
-fn spelt(alloc: Global, text: &str) -> Result<String, Fail> {
-    let mut whole = String::new(alloc);
-    for part in text.split('}') {
-        let (plain, repeated) = part.split_once('{').unwrap_or((part, ""));
-        whole.push_str(plain)?;
-        let Some((word, count)) = repeated.split_once('*') else {
-            continue;
-        };
-        for _ in 0..count.parse::<u32>()? {
-            whole.push_str(word)?;
+fn is_ended_so(rt: &impl Abort, name: &str, ran: &Ran, ending: Ending<'_>) {
+    let run = ran.run;
+    assert_eq!(rt; ran.printed.as_slice(), ending.1, "at {name} {run}");
+    assert_eq!(rt; ran.status, ending.0, "at {name} {run}");
+}
+
+// A script as the program reads it, and what it prints.
+#[derive(Drop)]
+struct Case<'a> {
+    script: Script<'a>,
+    text: String,
+    wanted: Wanted<'a>,
+}
+
+impl<'a> Case<'a> {
+    fn of(alloc: Global, script: &Script<'a>) -> Result<Self, Fail> {
+        let mut text = String::new(alloc);
+        let mut wanted = Wanted::new(alloc, script);
+        for line in script.lines(alloc)?.iter() {
+            match line.mark {
+                Mark::Told => line.check(wanted.push_told(alloc, line))?,
+                Mark::Step => line.check(add_line(&mut text, line.text))?,
+                _ => return Err(Wrong::Because("the program reads no such line").at(line)),
+            }
         }
+        Ok(Case {
+            script: *script,
+            text,
+            wanted,
+        })
     }
-    Ok(whole)
+
+    // Memory is ample, and no input wants any.
+    fn with_ample_memory(alloc: Global, script: &Script<'a>) -> Result<Self, Fail> {
+        let case = Case::of(alloc, script)?;
+        if case.wanted.as_str().contains(" memory\n") {
+            return Err(Wrong::Because("an input wants memory").at(&script.head()));
+        }
+        Ok(case)
+    }
+
+    fn check(&self, ran: &Ran) -> Result<(), Fail> {
+        self.wanted.check(ran.run, ran.printed.as_slice())?;
+        if ran.status != status_of(self.wanted.as_str()) {
+            return Err(Wrong::Because("it ends with another status").at(&self.script.head()));
+        }
+        Ok(())
+    }
 }
 
-// Adds the line, with a line end.
-fn add_line(alloc: Global, line: &str, text: &mut String) -> Result<(), Fail> {
-    text.push_str(spelt(alloc, line)?.as_str())?;
+// Adds a line with a line end, and with its repetitions written out.
+fn add_line(text: &mut String, line: &str) -> Result<(), Wrong> {
+    push_spelt(text, line)?;
     text.push('\n')?;
     Ok(())
-}
-
-// The bytes that are printed, without what parts them.
-fn joined(alloc: Global, line: &str) -> Result<String, AllocError> {
-    line.chars().filter(|letter| *letter != '_').collect(alloc)
 }
 
 // The status of a run that prints this.
@@ -111,50 +150,20 @@ fn status_of(printed: &str) -> u8 {
     }
 }
 
-// The name of a script.
-fn name_of(case: &str) -> &str {
-    case.split_once('\n').unwrap_or((case, "")).0
+// Over each store, with these plain paths.
+fn check_over_each(alloc: Global, case: &Case<'_>, plains: &[Path]) -> Result<(), Fail> {
+    let script = case.text.as_bytes();
+    case.check(&ran_over(alloc, script, StoreKind::Map, plains))?;
+    case.check(&ran_over(alloc, script, StoreKind::List, plains))
 }
 
-// A script, and what it prints.
-fn parts_of(alloc: Global, case: &str) -> Result<(String, String), Fail> {
-    let mut script = String::new(alloc);
-    let mut printed = String::new(alloc);
-    for line in case.lines().skip(1) {
-        if line.is_empty() || line.starts_with('#') {
-            continue;
-        }
-        match line.strip_prefix("> ") {
-            Some(line) => add_line(alloc, joined(alloc, line)?.as_str(), &mut printed)?,
-            None => add_line(alloc, line, &mut script)?,
-        }
-    }
-    Ok((script, printed))
-}
-
-// Memory is ample, and no input wants any.
-fn check_case(rt: &impl Abort, alloc: Global, case: &str) -> Result<(), Fail> {
-    let (script, printed) = parts_of(alloc, case)?;
-    assert!(rt; !printed.as_str().contains(" memory\n"));
-    let ending = (status_of(printed.as_str()), printed.as_bytes());
-    check_script(rt, alloc, name_of(case), script.as_bytes(), ending);
-    Ok(())
-}
-
-// The same, where observers of `t` are told in NONs.
-fn check_plain_case(rt: &impl Abort, alloc: Global, case: &str) -> Result<(), Fail> {
-    let (script, printed) = parts_of(alloc, case)?;
-    assert!(rt; !printed.as_str().contains(" memory\n"));
-    let ending = (status_of(printed.as_str()), printed.as_bytes());
-    let plains = [path_of_text(alloc, "t")?];
-    check_script_with(rt, alloc, name_of(case), script.as_bytes(), &plains, ending);
-    Ok(())
-}
-
+// Observers of `t` are told in NONs.
 #[test]
 fn scripts_with_a_plain_path(rt: HostRuntime) -> Result<(), Fail> {
-    for case in plain_paths::SCRIPTS.split("\n== ").skip(1) {
-        check_plain_case(&rt, rt.alloc(), case)?;
+    let plains = [path_of_text(rt.alloc(), "t")?];
+    for script in scripts_of(rt.alloc(), &plain_paths::SCRIPTS)?.iter() {
+        let case = Case::with_ample_memory(rt.alloc(), script)?;
+        check_over_each(rt.alloc(), &case, &plains)?;
     }
     Ok(())
 }
@@ -170,8 +179,10 @@ fn scripts(rt: HostRuntime) -> Result<(), Fail> {
         legality::SCRIPTS,
     ];
     for theme in themes {
-        for case in theme.split("\n== ").skip(1) {
-            check_case(&rt, rt.alloc(), case)?;
+        for script in scripts_of(rt.alloc(), &theme)?.iter() {
+            let case = Case::with_ample_memory(rt.alloc(), script)?;
+            case.check(&ran_by_default(rt.alloc(), case.text.as_bytes()))?;
+            check_over_each(rt.alloc(), &case, &[])?;
         }
     }
     Ok(())

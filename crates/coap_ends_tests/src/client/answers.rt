@@ -1,8 +1,12 @@
 //! What an answer, or its lack, is to a call in one message.
 use crate::script::{End, run};
 use std::test::Fail;
+use test_scripts::Scripts;
 
-const SCRIPTS: &str = "
+const SCRIPTS: Scripts<'static> = Scripts {
+    module: module_path!(),
+    line: 9,
+    text: "
 == a_get_is_answered
 call 0 get /t
 asked nothing
@@ -232,9 +236,10 @@ tick 400001
 out S 48010000 0000000000010000 b174
 feed 400001 S 68840000 0000000000010000
 told 65538 failed 4.04
-";
+",
+};
 
 #[test]
 fn answers(rt: HostRuntime) -> Result<(), Fail> {
-    run(rt.alloc(), End::Client, SCRIPTS)
+    run(rt.alloc(), End::Client, &SCRIPTS)
 }

@@ -1,8 +1,12 @@
 //! What each code is to each method, and which options requests carry.
 use crate::script::{End, run};
 use std::test::Fail;
+use test_scripts::Scripts;
 
-const SCRIPTS: &str = "
+const SCRIPTS: Scripts<'static> = Scripts {
+    module: module_path!(),
+    line: 9,
+    text: "
 == each_code_is_reported
 call 0 put /t = a
 call 0 put /t = a
@@ -107,9 +111,10 @@ tick 0
 out S 48030003 0000000000000003 b174
 feed 0 S 68410003 0000000000000003
 told 3 done 2.01
-";
+",
+};
 
 #[test]
 fn codes(rt: HostRuntime) -> Result<(), Fail> {
-    run(rt.alloc(), End::Client, SCRIPTS)
+    run(rt.alloc(), End::Client, &SCRIPTS)
 }

@@ -1,8 +1,12 @@
 //! Bodies that are fetched in blocks (RFC 7959, section 2.4).
 use crate::script::{End, run};
 use std::test::Fail;
+use test_scripts::Scripts;
 
-const SCRIPTS: &str = "
+const SCRIPTS: Scripts<'static> = Scripts {
+    module: module_path!(),
+    line: 9,
+    text: "
 == a_body_is_fetched_in_blocks
 call 0 get /t
 tick 0
@@ -145,9 +149,10 @@ told 0 $2
 | 70000001 | reset
 | 68840001 0000000000000001 | failed 4.04
 | 68430001 0000000000000001 | failed 2.03
-";
+",
+};
 
 #[test]
 fn downloads(rt: HostRuntime) -> Result<(), Fail> {
-    run(rt.alloc(), End::Client, SCRIPTS)
+    run(rt.alloc(), End::Client, &SCRIPTS)
 }

@@ -2,8 +2,12 @@
 //! section 2.6).
 use crate::script::{End, run};
 use std::test::Fail;
+use test_scripts::Scripts;
 
-pub(crate) const SCRIPTS: &str = "
+pub(crate) const SCRIPTS: Scripts<'static> = Scripts {
+    module: module_path!(),
+    line: 10,
+    text: "
 == the_rest_of_a_value_is_fetched
 observe 0 /t
 tick 0
@@ -255,9 +259,10 @@ feed 100001 S 68a30003 0000000000000003
 told 2 failed 5.03
 tick 100001
 out S 48010004 0000000000000000 6101 5174
-";
+",
+};
 
 #[test]
 fn fetches(rt: HostRuntime) -> Result<(), Fail> {
-    run(rt.alloc(), End::Client, SCRIPTS)
+    run(rt.alloc(), End::Client, &SCRIPTS)
 }

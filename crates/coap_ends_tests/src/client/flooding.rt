@@ -3,8 +3,12 @@
 //! section 2.6; the bounds are a profile).
 use crate::script::{End, run};
 use std::test::Fail;
+use test_scripts::Scripts;
 
-const SCRIPTS: &str = "
+const SCRIPTS: Scripts<'static> = Scripts {
+    module: module_path!(),
+    line: 11,
+    text: "
 == others_cannot_stop_an_answer_in_an_acknowledgement
 times 0..4096: feed 0 X 5845{4} 0000000000000000; out X 7000{4}
 feed 0 X 58451000 0000000000000000
@@ -46,9 +50,10 @@ idle 0
 # The observation goes on.
 feed 0 S 58450000 0000000000000000 4102 2102 ff62
 told 0 value 2 02 - = b
-";
+",
+};
 
 #[test]
 fn flooding(rt: HostRuntime) -> Result<(), Fail> {
-    run(rt.alloc(), End::Client, SCRIPTS)
+    run(rt.alloc(), End::Client, &SCRIPTS)
 }

@@ -1,8 +1,12 @@
 //! The longest body that a client sends and joins, where one is chosen (RFC 7959, section 7).
 use crate::script::{End, run};
 use std::test::Fail;
+use test_scripts::Scripts;
 
-const SCRIPTS: &str = "
+const SCRIPTS: Scripts<'static> = Scripts {
+    module: module_path!(),
+    line: 9,
+    text: "
 == a_call_over_the_limit_is_refused
 new limit=$1
 call 0 put /t = $2
@@ -47,9 +51,10 @@ call 0 put /t = x*1048577 -> BodyTooLarge
 call 0 put /t = x*1048576
 tick 0
 out S 48030000 0000000000000000 b174 d1030e ff 78*1024
-";
+",
+};
 
 #[test]
 fn limits(rt: HostRuntime) -> Result<(), Fail> {
-    run(rt.alloc(), End::Client, SCRIPTS)
+    run(rt.alloc(), End::Client, &SCRIPTS)
 }

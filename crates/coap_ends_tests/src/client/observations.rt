@@ -1,8 +1,12 @@
 //! Observations, from the registration to their end (RFC 7641).
 use crate::script::{End, run};
 use std::test::Fail;
+use test_scripts::Scripts;
 
-const SCRIPTS: &str = "
+const SCRIPTS: Scripts<'static> = Scripts {
+    module: module_path!(),
+    line: 9,
+    text: "
 == a_resource_is_observed
 observe 0 /t
 tick 0
@@ -236,9 +240,10 @@ tick 0
 out S 48010003 0000000000000000 6101 5174
 feed 0 S 68840003 0000000000000000
 told 0 cancelled
-";
+",
+};
 
 #[test]
 fn observations(rt: HostRuntime) -> Result<(), Fail> {
-    run(rt.alloc(), End::Client, SCRIPTS)
+    run(rt.alloc(), End::Client, &SCRIPTS)
 }

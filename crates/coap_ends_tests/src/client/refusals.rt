@@ -1,8 +1,12 @@
 //! Calls that a client does not take, at the border of each bound.
 use crate::script::{End, run};
 use std::test::Fail;
+use test_scripts::Scripts;
 
-const SCRIPTS: &str = "
+const SCRIPTS: Scripts<'static> = Scripts {
+    module: module_path!(),
+    line: 9,
+    text: "
 == eight_operations_wait
 call 0 get /a
 call 0 get /b
@@ -116,9 +120,10 @@ feed 0 S 58840000 0000000000000001
 told 1 ended 4.04
 cancel 0 0
 call 0 get /h -> QueueFull
-";
+",
+};
 
 #[test]
 fn refusals(rt: HostRuntime) -> Result<(), Fail> {
-    run(rt.alloc(), End::Client, SCRIPTS)
+    run(rt.alloc(), End::Client, &SCRIPTS)
 }

@@ -1,8 +1,12 @@
 //! Bodies that are sent in blocks (RFC 7959, section 2.5).
 use crate::script::{End, run};
 use std::test::Fail;
+use test_scripts::Scripts;
 
-const SCRIPTS: &str = "
+const SCRIPTS: Scripts<'static> = Scripts {
+    module: module_path!(),
+    line: 9,
+    text: "
 == a_body_is_sent_in_blocks
 client new szx=3
 call 0 put /t = x*200
@@ -208,9 +212,10 @@ out S 70000000
 told nothing
 feed 0 S 68440001 0000000000000001 d10e13
 told 0 done 2.04
-";
+",
+};
 
 #[test]
 fn uploads(rt: HostRuntime) -> Result<(), Fail> {
-    run(rt.alloc(), End::Client, SCRIPTS)
+    run(rt.alloc(), End::Client, &SCRIPTS)
 }

@@ -1,8 +1,12 @@
 //! When the next tick of a client is due (RFC 7252, sections 4.2, 4.7 and 5.2.2).
 use crate::script::{End, run};
 use std::test::Fail;
+use test_scripts::Scripts;
 
-const SCRIPTS: &str = "
+const SCRIPTS: Scripts<'static> = Scripts {
+    module: module_path!(),
+    line: 9,
+    text: "
 == a_request_is_copied_and_fails
 new word=1000
 due nothing
@@ -109,9 +113,10 @@ due 2
 tick 2
 out S 48010001 0000000000000001 b174 c113
 due 2002
-";
+",
+};
 
 #[test]
 fn waking(rt: HostRuntime) -> Result<(), Fail> {
-    run(rt.alloc(), End::Client, SCRIPTS)
+    run(rt.alloc(), End::Client, &SCRIPTS)
 }

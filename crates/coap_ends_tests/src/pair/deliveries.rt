@@ -1,8 +1,12 @@
 //! Datagrams that arrive late, again, or from a third party (RFC 7252, sections 4.5 and 5.3.2).
 use crate::script::{End, run};
 use std::test::Fail;
+use test_scripts::Scripts;
 
-pub(crate) const SCRIPTS: &str = "
+pub(crate) const SCRIPTS: Scripts<'static> = Scripts {
+    module: module_path!(),
+    line: 9,
+    text: "
 == a_get_is_answered
 set 0 /t 0 = hi
 call 0 get /t
@@ -119,9 +123,10 @@ told 0 cancelled
 set 0 /t 0 = c*200
 server idle 0
 client idle 0
-";
+",
+};
 
 #[test]
 fn deliveries(rt: HostRuntime) -> Result<(), Fail> {
-    run(rt.alloc(), End::Client, SCRIPTS)
+    run(rt.alloc(), End::Client, &SCRIPTS)
 }

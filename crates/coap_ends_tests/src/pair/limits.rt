@@ -1,8 +1,12 @@
 //! Bodies between a client and a server whose limits are unequal (RFC 7959, section 7).
 use crate::script::{End, run};
 use std::test::Fail;
+use test_scripts::Scripts;
 
-const SCRIPTS: &str = "
+const SCRIPTS: Scripts<'static> = Scripts {
+    module: module_path!(),
+    line: 9,
+    text: "
 == a_server_holds_less_than_a_client_sends
 client new limit=64
 server new limit=$1
@@ -101,9 +105,10 @@ holds /t nothing
 call 0 put /t = y*1025
 client tick 0
 out S 48030041 0000000000000041 b174 d1030e ff 79*1024
-";
+",
+};
 
 #[test]
 fn limits(rt: HostRuntime) -> Result<(), Fail> {
-    run(rt.alloc(), End::Client, SCRIPTS)
+    run(rt.alloc(), End::Client, &SCRIPTS)
 }

@@ -1,8 +1,12 @@
 //! Bodies in blocks between both ends (RFC 7959).
 use crate::script::{End, run};
 use std::test::Fail;
+use test_scripts::Scripts;
 
-pub(crate) const SCRIPTS: &str = "
+pub(crate) const SCRIPTS: Scripts<'static> = Scripts {
+    module: module_path!(),
+    line: 9,
+    text: "
 == an_upload_in_the_blocks_of_the_server
 client new szx=3
 server new szx=1
@@ -268,9 +272,10 @@ arrives 0
 out C 68450002 0000000000000002 480000000000000001 80 b132 ff 63*8
 arrives 0
 told 0 body 0000000000000001 0 = a*128+b*64+c*8
-";
+",
+};
 
 #[test]
 fn transfers(rt: HostRuntime) -> Result<(), Fail> {
-    run(rt.alloc(), End::Client, SCRIPTS)
+    run(rt.alloc(), End::Client, &SCRIPTS)
 }

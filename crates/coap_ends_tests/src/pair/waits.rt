@@ -2,8 +2,12 @@
 //! (RFC 7252, sections 4.2 and 5.2.2).
 use crate::script::{End, run};
 use std::test::Fail;
+use test_scripts::Scripts;
 
-pub(crate) const SCRIPTS: &str = "
+pub(crate) const SCRIPTS: Scripts<'static> = Scripts {
+    module: module_path!(),
+    line: 10,
+    text: "
 == a_separate_response
 set 0 /t 0 = hi
 delay /t 1000
@@ -97,9 +101,10 @@ told 0 cancelled
 set 6 /t 0 = c
 server idle 6
 client idle 6
-";
+",
+};
 
 #[test]
 fn waits(rt: HostRuntime) -> Result<(), Fail> {
-    run(rt.alloc(), End::Client, SCRIPTS)
+    run(rt.alloc(), End::Client, &SCRIPTS)
 }

@@ -1,15 +1,15 @@
 //! The steps of the client's own side, and what it shows.
 use super::ends::Ends;
 use super::reports::{body_of, head_of};
-use super::words::{cut, first, method_of, path_of, push_tag, text_of};
+use super::words::{path_of, text_of};
 use bytes::Bytes;
 use coap_ends::{CallId, CallRefusal, Report, SentRequest};
 use coap_types::{Moment, Request, Tags};
 use std::alloc::Allocator;
-use std::test::Fail;
+use test_scripts::{Wrong, first, method_of, put_option};
 
-impl<A: Allocator + Copy> Ends<'_, A> {
-    pub(super) fn call(&mut self, words: &str, text: &str, answer: &str) -> Result<(), Fail> {
+impl<A: Allocator + Copy> Ends<A> {
+    pub(super) fn call(&mut self, words: &str, text: &str, answer: &str) -> Result<(), Wrong> {
         let (at, words) = first(words);
         let at = Moment(at.parse()?);
         let Some(request) = self.request_of(words, text)? else {
@@ -19,7 +19,7 @@ impl<A: Allocator + Copy> Ends<'_, A> {
         self.is_taken(taken, answer)
     }
 
-    pub(super) fn observe(&mut self, words: &str, answer: &str) -> Result<(), Fail> {
+    pub(super) fn observe(&mut self, words: &str, answer: &str) -> Result<(), Wrong> {
         let (at, path) = first(words);
         let Some(path) = path_of(self.alloc, self.memory, path)? else {
             return self.wants_memory();
@@ -29,20 +29,20 @@ impl<A: Allocator + Copy> Ends<'_, A> {
     }
 
     // It is taken under the next number, or refused so.
-    fn is_taken(&mut self, taken: Result<CallId, CallRefusal>, answer: &str) -> Result<(), Fail> {
+    fn is_taken(&mut self, taken: Result<CallId, CallRefusal>, answer: &str) -> Result<(), Wrong> {
         match taken {
             Ok(id) if id == CallId(self.taken) => {
                 self.taken = self.taken.saturating_add(1);
                 self.is_same("", answer)
             }
-            Ok(_) => Err(self.wrong("it has another number")),
+            Ok(_) => Err(Wrong::Because("it has another number")),
             Err(CallRefusal::Memory) => self.wants_memory(),
             Err(why) => self.is_same(format!(in self.alloc; "{why:?}")?.as_str(), answer),
         }
     }
 
     // None where the memory of the ends is wanting.
-    fn request_of(&self, words: &str, text: &str) -> Result<Option<Request<A>>, Fail> {
+    fn request_of(&self, words: &str, text: &str) -> Result<Option<Request<A>>, Wrong> {
         let (method, words) = first(words);
         let (path, options) = first(words);
         let text = text_of(self.alloc, text)?;
@@ -63,26 +63,12 @@ impl<A: Allocator + Copy> Ends<'_, A> {
             accept: None,
         };
         for option in options.split(' ') {
-            self.put_option(&mut request, option)?;
+            put_option(self.alloc, &mut request, option)?;
         }
         Ok(Some(request))
     }
 
-    fn put_option(&self, request: &mut Request<A>, option: &str) -> Result<(), Fail> {
-        let (name, value) = cut(option, "=");
-        match name {
-            "" => {}
-            "format" => request.format = Some(value.parse()?),
-            "accept" => request.accept = Some(value.parse()?),
-            "if-none-match" => request.if_none_match = true,
-            "etag" => push_tag(self.alloc, &mut request.etags, value)?,
-            "if-match" => push_tag(self.alloc, &mut request.if_match, value)?,
-            _ => return Err(self.wrong("no option")),
-        }
-        Ok(())
-    }
-
-    pub(super) fn cancel(&mut self, words: &str, answer: &str) -> Result<(), Fail> {
+    pub(super) fn cancel(&mut self, words: &str, answer: &str) -> Result<(), Wrong> {
         let (at, number) = first(words);
         let id = CallId(number.parse()?);
         match self.client.cancel(Moment(at.parse()?), id) {
@@ -91,12 +77,12 @@ impl<A: Allocator + Copy> Ends<'_, A> {
         }
     }
 
-    pub(super) fn forget(&mut self, number: &str, answer: &str) -> Result<(), Fail> {
+    pub(super) fn forget(&mut self, number: &str, answer: &str) -> Result<(), Wrong> {
         let there = self.client.forget(CallId(number.parse()?));
         self.is_same(if there { "" } else { "nothing" }, answer)
     }
 
-    pub(super) fn told(&mut self, words: &str, text: &str) -> Result<(), Fail> {
+    pub(super) fn told(&mut self, words: &str, text: &str) -> Result<(), Wrong> {
         match self.next_report() {
             Some((id, report)) => self.is_report(id, &report, words, text),
             None => self.is_same("nothing", words),
@@ -109,18 +95,18 @@ impl<A: Allocator + Copy> Ends<'_, A> {
         report: &Report<A>,
         words: &str,
         text: &str,
-    ) -> Result<(), Fail> {
+    ) -> Result<(), Wrong> {
         let head = head_of(self.alloc, report)?;
         let came = format!(in self.alloc; "{id} {head}")?;
         self.is_same(came.as_str(), words)?;
         let body = text_of(self.alloc, text)?;
         if body_of(report) != body.as_bytes() {
-            return Err(self.wrong("another body is reported"));
+            return Err(Wrong::Because("another body is reported"));
         }
         Ok(())
     }
 
-    pub(super) fn asked(&self, words: &str) -> Result<(), Fail> {
+    pub(super) fn asked(&self, words: &str) -> Result<(), Wrong> {
         let Some(SentRequest { call, token }) = self.client.asked() else {
             return self.is_same("nothing", words);
         };

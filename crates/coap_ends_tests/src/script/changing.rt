@@ -1,7 +1,7 @@
 //! Datagrams with one byte changed, which both ends take as they come.
+use super::End;
 use super::ends::Ends;
-use super::words::{CLIENT, SERVER, bytes_of, cut, endpoint, port_of};
-use super::{End, is_step};
+use super::words::{CLIENT, SERVER, bytes_of, endpoint, port_of};
 use coap_codec::decode;
 use coap_layer::Datagram;
 use coap_types::limits::MAX_MESSAGE_LEN;
@@ -9,6 +9,7 @@ use coap_types::transmission::EXCHANGE_LIFETIME_MS;
 use std::alloc::{Allocator, Global};
 use std::ops::Range;
 use std::test::Fail;
+use test_scripts::{Line, Mark, Script, Wrong, cut};
 
 // No message is remembered for so long (RFC 7252, section 4.8.2).
 const LATER_MS: u64 = EXCHANGE_LIFETIME_MS + 1;
@@ -16,6 +17,7 @@ const LATER_MS: u64 = EXCHANGE_LIFETIME_MS + 1;
 // A datagram of a talk, in hex and in bytes, and the port that it goes to.
 #[derive(Drop)]
 struct Said<'a> {
+    line: Line<'a>,
     hex: &'a str,
     bytes: Vec<u8>,
     to: u16,
@@ -23,11 +25,11 @@ struct Said<'a> {
     answers: [&'a str; 2],
 }
 
-// What two ends say to each other, behind the steps that it begins with.
+// What two ends say to each other, after the steps that it begins with.
 #[derive(Drop)]
 struct Talk<'a> {
-    name: &'a str,
-    steps: Vec<&'a str>,
+    head: Line<'a>,
+    steps: Vec<Line<'a>>,
     said: Vec<Said<'a>>,
 }
 
@@ -37,11 +39,15 @@ struct Talk<'a> {
 /// A line that begins with `> ` is a datagram of the client, one with `< ` one of the server, in the
 /// order in which they go, with ` | ` and the answers of the server to `D` and of the client to `X`;
 /// `D held` is that to the GET of the path that is watched. The other lines are the steps before them.
-pub(crate) fn change_each(alloc: Global, text: &str, numbers: Range<usize>) -> Result<(), Fail> {
-    let talk = talk_of(alloc, text)?;
+pub(crate) fn change_each(
+    alloc: Global,
+    script: &Script<'_>,
+    numbers: Range<usize>,
+) -> Result<(), Fail> {
+    let talk = talk_of(alloc, script)?;
     for number in numbers {
         let Some(own) = talk.said.get(number) else {
-            return Err(Fail::new("it is not said"));
+            return Err(Wrong::Because("it has not so many datagrams").at(&talk.head));
         };
         for place in 0..own.bytes.len() {
             change_byte(alloc, &talk, number, place)?;
@@ -50,26 +56,26 @@ pub(crate) fn change_each(alloc: Global, text: &str, numbers: Range<usize>) -> R
     Ok(())
 }
 
-fn talk_of<'a>(alloc: Global, text: &'a str) -> Result<Talk<'a>, Fail> {
-    let (name, lines) = cut(text, "\n");
+fn talk_of<'a>(alloc: Global, script: &Script<'a>) -> Result<Talk<'a>, Fail> {
     let mut steps = Vec::new(alloc);
     let mut said = Vec::new(alloc);
-    for line in lines.lines() {
-        if let Some(words) = line.strip_prefix("> ") {
-            said.push(said_to(alloc, SERVER, words)?)?;
-        } else if let Some(words) = line.strip_prefix("< ") {
-            said.push(said_to(alloc, CLIENT, words)?)?;
-        } else if is_step(line) {
-            steps.push(line)?;
+    for line in script.lines(alloc)?.iter() {
+        match line.mark {
+            Mark::Told => said.push(line.check(said_to(alloc, SERVER, line))?)?,
+            Mark::Back => said.push(line.check(said_to(alloc, CLIENT, line))?)?,
+            Mark::Step => steps.push(*line)?,
+            _ => return Err(Wrong::Because("a talk has no such line").at(line)),
         }
     }
-    Ok(Talk { name, steps, said })
+    let head = script.head();
+    Ok(Talk { head, steps, said })
 }
 
-fn said_to<'a>(alloc: Global, to: u16, words: &'a str) -> Result<Said<'a>, Fail> {
-    let (hex, answers) = cut(words, " | ");
+fn said_to<'a>(alloc: Global, to: u16, line: &Line<'a>) -> Result<Said<'a>, Wrong> {
+    let (hex, answers) = cut(line.text, " | ");
     let (of_server, of_client) = cut(answers, " | ");
     Ok(Said {
+        line: *line,
         hex,
         bytes: bytes_of(alloc, hex)?,
         to,
@@ -84,12 +90,12 @@ fn change_byte(alloc: Global, talk: &Talk<'_>, number: usize, place: usize) -> R
     bear_each(alloc, talk, number, place, &mut ends)
 }
 
-fn bear_each<'a>(
+fn bear_each(
     alloc: Global,
-    talk: &Talk<'a>,
+    talk: &Talk<'_>,
     number: usize,
     place: usize,
-    ends: &mut Ends<'a, Global>,
+    ends: &mut Ends<Global>,
 ) -> Result<(), Fail> {
     let before = talk.said.get(..number).unwrap_or(&[]);
     let behind = talk.said.get(number..).unwrap_or(&[]);
@@ -100,8 +106,8 @@ fn bear_each<'a>(
     for value in 0..=u8::MAX {
         put(&mut changed, place, value);
         ends.at = LATER_MS.saturating_mul(u64::from(value));
-        ends.line = own.hex;
-        ends.bear_changed(before, behind, changed.as_slice())?;
+        own.line
+            .check(ends.bear_changed(before, behind, changed.as_slice()))?;
         if own.to == CLIENT || ends.is_changed {
             begin_anew(alloc, talk, ends)?;
         }
@@ -116,32 +122,32 @@ fn put(bytes: &mut [u8], place: usize, value: u8) {
 }
 
 // Both ends after the first steps of a talk.
-fn begun<'a>(alloc: Global, talk: &Talk<'a>) -> Result<Ends<'a, Global>, Fail> {
-    let mut ends = Ends::new(alloc, alloc, End::Client, talk.name)?;
+fn begun(alloc: Global, talk: &Talk<'_>) -> Result<Ends<Global>, Fail> {
+    let mut ends = talk.head.check(Ends::new(alloc, alloc, End::Client))?;
     begin(&mut ends, talk)?;
     Ok(ends)
 }
 
-fn begin<'a>(ends: &mut Ends<'a, Global>, talk: &Talk<'a>) -> Result<(), Fail> {
+fn begin(ends: &mut Ends<Global>, talk: &Talk<'_>) -> Result<(), Fail> {
     for step in talk.steps.iter() {
-        ends.run_step(step, step)?;
+        step.check(ends.run_step(step.text))?;
     }
     Ok(())
 }
 
-fn begin_anew<'a>(alloc: Global, talk: &Talk<'a>, ends: &mut Ends<'a, Global>) -> Result<(), Fail> {
+fn begin_anew(alloc: Global, talk: &Talk<'_>, ends: &mut Ends<Global>) -> Result<(), Fail> {
     *ends = begun(alloc, talk)?;
     Ok(())
 }
 
-impl<A: Allocator + Copy> Ends<'_, A> {
+impl<A: Allocator + Copy> Ends<A> {
     // Both ends take a changed datagram, the first of those that go behind the others.
     fn bear_changed(
         &mut self,
         before: &[Said<'_>],
         behind: &[Said<'_>],
         changed: &[u8],
-    ) -> Result<(), Fail> {
+    ) -> Result<(), Wrong> {
         let Some(own) = behind.first() else {
             return Ok(());
         };
@@ -154,7 +160,7 @@ impl<A: Allocator + Copy> Ends<'_, A> {
     }
 
     // What is said before to the same end arrives.
-    fn go_to(&mut self, before: &[Said<'_>], own: &Said<'_>) -> Result<(), Fail> {
+    fn go_to(&mut self, before: &[Said<'_>], own: &Said<'_>) -> Result<(), Wrong> {
         self.pass_on()?;
         for said in before {
             if said.to == own.to {
@@ -166,7 +172,7 @@ impl<A: Allocator + Copy> Ends<'_, A> {
     }
 
     // Takes a datagram to this port, of the other end.
-    fn hear(&mut self, to: u16, bytes: &[u8]) -> Result<(), Fail> {
+    fn hear(&mut self, to: u16, bytes: &[u8]) -> Result<(), Wrong> {
         let from = if to == SERVER { CLIENT } else { SERVER };
         self.feed(self.at, from, bytes)?;
         if self.server.applied().is_some() {
@@ -176,7 +182,7 @@ impl<A: Allocator + Copy> Ends<'_, A> {
     }
 
     // At most one datagram goes out of the server and two of the client, each to the other end.
-    fn pass_on(&mut self) -> Result<(), Fail> {
+    fn pass_on(&mut self) -> Result<(), Wrong> {
         let replied = self.server.next_out();
         self.goes_to(CLIENT, &replied)?;
         let acknowledged = self.client.next_out();
@@ -185,17 +191,17 @@ impl<A: Allocator + Copy> Ends<'_, A> {
         self.goes_to(SERVER, &asked)
     }
 
-    fn goes_to(&self, port: u16, datagram: &Option<Datagram<A>>) -> Result<(), Fail> {
+    fn goes_to(&self, port: u16, datagram: &Option<Datagram<A>>) -> Result<(), Wrong> {
         match datagram {
             Some(d) if d.to() != endpoint(port) || d.bytes().len() > MAX_MESSAGE_LEN => {
-                Err(self.wrong("it goes to another, or is too long"))
+                Err(Wrong::Because("it goes to another, or is too long"))
             }
             _ => Ok(()),
         }
     }
 
     // Both ends take the changed datagram from one another, and then its original from others.
-    fn bear(&mut self, changed: &[u8], own: &Said<'_>) -> Result<(), Fail> {
+    fn bear(&mut self, changed: &[u8], own: &Said<'_>) -> Result<(), Wrong> {
         self.take(SERVER, changed)?;
         self.take(CLIENT, changed)?;
         self.pass_report();
@@ -206,7 +212,7 @@ impl<A: Allocator + Copy> Ends<'_, A> {
         self.told("nothing", "")
     }
 
-    fn take(&mut self, to: u16, changed: &[u8]) -> Result<(), Fail> {
+    fn take(&mut self, to: u16, changed: &[u8]) -> Result<(), Wrong> {
         self.hear(to, changed)?;
         self.pass_on()
     }
@@ -217,7 +223,7 @@ impl<A: Allocator + Copy> Ends<'_, A> {
     }
 
     // The original gets this answer where it comes from another.
-    fn answers(&mut self, bytes: &[u8], answer: &str) -> Result<(), Fail> {
+    fn answers(&mut self, bytes: &[u8], answer: &str) -> Result<(), Wrong> {
         self.feed(self.at, port_of(cut(answer, " ").0)?, bytes)?;
         match answer {
             "D held" => self.out(self.held_reply()?.as_str()),
@@ -226,7 +232,7 @@ impl<A: Allocator + Copy> Ends<'_, A> {
     }
 
     // What was malformed changed nothing: the original gets the next one of the talk.
-    fn go_on(&mut self, behind: &[Said<'_>]) -> Result<(), Fail> {
+    fn go_on(&mut self, behind: &[Said<'_>]) -> Result<(), Wrong> {
         let Some((own, behind)) = behind.split_first() else {
             return Ok(());
         };

@@ -3,7 +3,7 @@ use super::ends::Ends;
 use super::words::{CLIENT, SERVER};
 use coap_layer::Datagram;
 use std::alloc::{Allocator, Global};
-use std::test::Fail;
+use test_scripts::Wrong;
 
 /// The bytes of a datagram, and the port that it came from.
 #[derive(Drop)]
@@ -22,9 +22,9 @@ impl Sent {
     }
 }
 
-impl<A: Allocator + Copy> Ends<'_, A> {
+impl<A: Allocator + Copy> Ends<A> {
     /// The datagram is what was given out last.
-    pub(super) fn sent(&mut self, datagram: &Datagram<A>) -> Result<(), Fail> {
+    pub(super) fn sent(&mut self, datagram: &Datagram<A>) -> Result<(), Wrong> {
         let is_to_server = datagram.to().port == SERVER;
         self.last = Sent {
             bytes: datagram.bytes().to_vec(self.alloc)?,
@@ -33,13 +33,13 @@ impl<A: Allocator + Copy> Ends<'_, A> {
         Ok(())
     }
 
-    pub(super) fn arrives(&mut self, words: &str) -> Result<(), Fail> {
+    pub(super) fn arrives(&mut self, words: &str) -> Result<(), Wrong> {
         let bytes = self.last.bytes.clone()?;
         self.feed(words.parse()?, self.last.from, bytes.as_slice())
     }
 
     /// What was given out last is kept.
-    pub(super) fn keep(&mut self) -> Result<(), Fail> {
+    pub(super) fn keep(&mut self) -> Result<(), Wrong> {
         self.kept = Sent {
             bytes: self.last.bytes.clone()?,
             from: self.last.from,
@@ -47,7 +47,7 @@ impl<A: Allocator + Copy> Ends<'_, A> {
         Ok(())
     }
 
-    pub(super) fn late(&mut self, words: &str) -> Result<(), Fail> {
+    pub(super) fn late(&mut self, words: &str) -> Result<(), Wrong> {
         let bytes = self.kept.bytes.clone()?;
         self.feed(words.parse()?, self.kept.from, bytes.as_slice())
     }

@@ -1,6 +1,6 @@
 //! Both ends, and the steps that are of either.
 use super::delivery::Sent;
-use super::words::{CLIENT, SERVER, bytes_of, cut, endpoint, first, hex_of, is_of_client, port_of};
+use super::words::{CLIENT, SERVER, bytes_of, endpoint, hex_of, is_of_client, port_of};
 use super::{End, counted};
 use coap_ends::{CallId, Client, Report, Server};
 use coap_layer::Datagram;
@@ -8,11 +8,11 @@ use coap_resource::{ListStore, MAX_CHANGES_PER_WINDOW, Store};
 use coap_types::{BodyLimit, DEFAULT_BODY_LIMIT, MAX_SZX, Moment, Path, Szx};
 use std::alloc::{AllocError, Allocator, Global};
 use std::hash::BuildHasherDefault;
-use std::test::Fail;
+use test_scripts::{Wrong, cut, first, limit_of, szx_of};
 
-/// Both ends of a script and its name, and the line that it is at.
+/// Both ends of a script.
 #[derive(Drop)]
-pub(super) struct Ends<'a, A: Allocator + Copy> {
+pub(super) struct Ends<A: Allocator + Copy> {
     pub(super) alloc: Global,
     /// Where the ends take their memory.
     pub(super) memory: A,
@@ -35,14 +35,12 @@ pub(super) struct Ends<'a, A: Allocator + Copy> {
     pub(super) is_changed: bool,
     /// A report that is to be said before any other.
     pub(super) report: Option<(CallId, Report<A>)>,
-    script: &'a str,
-    pub(super) line: &'a str,
 }
 
-impl<'a, A: Allocator + Copy> Ends<'a, A> {
+impl<A: Allocator + Copy> Ends<A> {
     /// Both ends, with the word 0, blocks of 1,024 bytes and all the changes that a window can take.
-    pub(super) fn new(alloc: Global, memory: A, end: End, script: &'a str) -> Result<Self, Fail> {
-        let szx = block_size(MAX_SZX)?;
+    pub(super) fn new(alloc: Global, memory: A, end: End) -> Result<Self, Wrong> {
+        let szx = szx_of(MAX_SZX)?;
         Ok(Ends {
             alloc,
             memory,
@@ -59,14 +57,11 @@ impl<'a, A: Allocator + Copy> Ends<'a, A> {
             at: 0,
             is_changed: false,
             report: None,
-            script,
-            line: "",
         })
     }
 
     /// Carries out a step, or a step for each count.
-    pub(super) fn run_step(&mut self, line: &'a str, step: &str) -> Result<(), Fail> {
-        self.line = line;
+    pub(super) fn run_step(&mut self, step: &str) -> Result<(), Wrong> {
         let Some(times) = step.strip_prefix("times ") else {
             return self.carry_through(step);
         };
@@ -80,7 +75,7 @@ impl<'a, A: Allocator + Copy> Ends<'a, A> {
         Ok(())
     }
 
-    fn run_counted(&mut self, steps: &str, count: u64) -> Result<(), Fail> {
+    fn run_counted(&mut self, steps: &str, count: u64) -> Result<(), Wrong> {
         for step in steps.split("; ") {
             let step = counted(self.alloc, step, count)?;
             self.carry_through(step.as_str())?;
@@ -89,12 +84,12 @@ impl<'a, A: Allocator + Copy> Ends<'a, A> {
     }
 
     /// The step wants memory: it is counted, and nothing more comes of the step.
-    pub(super) fn wants_memory(&mut self) -> Result<(), Fail> {
+    pub(super) fn wants_memory(&mut self) -> Result<(), Wrong> {
         self.wants = self.wants.saturating_add(1);
         Ok(())
     }
 
-    pub(super) fn carry_out(&mut self, step: &str) -> Result<(), Fail> {
+    pub(super) fn carry_out(&mut self, step: &str) -> Result<(), Wrong> {
         let step = self.without_end(step);
         let (step, answer) = cut(step, " -> ");
         let (step, text) = cut(step, " = ");
@@ -136,34 +131,28 @@ impl<'a, A: Allocator + Copy> Ends<'a, A> {
     }
 
     /// What came of the step is what had to.
-    pub(super) fn is_same(&self, came: &str, wanted: &str) -> Result<(), Fail> {
+    pub(super) fn is_same(&self, came: &str, wanted: &str) -> Result<(), Wrong> {
         if came == wanted {
             return Ok(());
         }
-        Err(self.wrong(came))
-    }
-
-    /// The step went wrong in this way.
-    pub(super) fn wrong(&self, came: &str) -> Fail {
-        Fail::new(format_args!("in {}, at `{}`: {came}", self.script, self.line))
+        Err(Wrong::came(self.alloc, came))
     }
 
     /// Nothing is left to go out.
-    pub(super) fn is_quiet(&mut self) -> Result<(), Fail> {
+    pub(super) fn is_quiet(&mut self) -> Result<(), Wrong> {
         if self.client.next_out().is_none() && self.server.next_out().is_none() {
             return Ok(());
         }
-        Err(self.wrong("more goes out before it"))
+        Err(Wrong::Because("more goes out before it"))
     }
 
     /// Nothing is left to go out or to be reported.
-    pub(super) fn is_over(&mut self) -> Result<(), Fail> {
-        self.line = "its end";
+    pub(super) fn is_over(&mut self) -> Result<(), Wrong> {
         self.is_quiet()?;
         self.told("nothing", "")
     }
 
-    fn begin(&mut self, words: &str) -> Result<(), Fail> {
+    fn begin(&mut self, words: &str) -> Result<(), Wrong> {
         let mut szx = MAX_SZX;
         let mut word = 0;
         let mut changes = MAX_CHANGES_PER_WINDOW;
@@ -174,10 +163,10 @@ impl<'a, A: Allocator + Copy> Ends<'a, A> {
                 ("word", value) => word = value.parse()?,
                 ("changes", value) => changes = value.parse()?,
                 ("limit", value) => limit = value.parse()?,
-                _ => return Err(self.wrong("no setting")),
+                _ => return Err(Wrong::Because("there is no such setting")),
             }
         }
-        self.begin_with(block_size(szx)?, word, changes, body_limit(limit)?)
+        self.begin_with(szx_of(szx)?, word, changes, limit_of(limit)?)
     }
 
     fn begin_with(
@@ -186,7 +175,7 @@ impl<'a, A: Allocator + Copy> Ends<'a, A> {
         word: u64,
         changes: u32,
         limit: BodyLimit,
-    ) -> Result<(), Fail> {
+    ) -> Result<(), Wrong> {
         match self.end {
             End::Client => self.begin_client(szx, word, limit),
             End::Server => self.begin_server(szx, word, changes, limit)?,
@@ -205,20 +194,20 @@ impl<'a, A: Allocator + Copy> Ends<'a, A> {
         word: u64,
         changes: u32,
         limit: BodyLimit,
-    ) -> Result<(), Fail> {
+    ) -> Result<(), Wrong> {
         self.server_word = word;
         self.server = server(self.memory, changes, limit, szx, word)?;
         Ok(())
     }
 
-    fn feed_words(&mut self, words: &str) -> Result<(), Fail> {
+    fn feed_words(&mut self, words: &str) -> Result<(), Wrong> {
         let (at, words) = first(words);
         let (port, hex) = first(words);
         let bytes = bytes_of(self.alloc, hex)?;
         self.feed(at.parse()?, port_of(port)?, bytes.as_slice())
     }
 
-    pub(super) fn feed(&mut self, at: u64, port: u16, bytes: &[u8]) -> Result<(), Fail> {
+    pub(super) fn feed(&mut self, at: u64, port: u16, bytes: &[u8]) -> Result<(), Wrong> {
         self.is_quiet()?;
         let from = endpoint(port);
         let taken = if is_of_client(port) {
@@ -232,7 +221,7 @@ impl<'a, A: Allocator + Copy> Ends<'a, A> {
         }
     }
 
-    pub(super) fn tick(&mut self, words: &str, wanted: &str) -> Result<(), Fail> {
+    pub(super) fn tick(&mut self, words: &str, wanted: &str) -> Result<(), Wrong> {
         self.is_quiet()?;
         let at = Moment(words.parse()?);
         let did = match self.end {
@@ -246,7 +235,7 @@ impl<'a, A: Allocator + Copy> Ends<'a, A> {
     }
 
     // The next tick of the end is due then, or never.
-    fn due(&mut self, wanted: &str) -> Result<(), Fail> {
+    fn due(&mut self, wanted: &str) -> Result<(), Wrong> {
         self.is_quiet()?;
         let due = match self.end {
             End::Client => self.client.due(),
@@ -260,7 +249,7 @@ impl<'a, A: Allocator + Copy> Ends<'a, A> {
         self.is_same(came.as_str(), wanted)
     }
 
-    pub(super) fn out(&mut self, words: &str) -> Result<(), Fail> {
+    pub(super) fn out(&mut self, words: &str) -> Result<(), Wrong> {
         let (port, hex) = first(words);
         let port = port_of(port)?;
         let datagram = if is_of_client(port) {
@@ -275,7 +264,7 @@ impl<'a, A: Allocator + Copy> Ends<'a, A> {
     }
 
     // It is kept as what was given out last.
-    fn is_datagram(&mut self, datagram: &Datagram<A>, port: u16, hex: &str) -> Result<(), Fail> {
+    fn is_datagram(&mut self, datagram: &Datagram<A>, port: u16, hex: &str) -> Result<(), Wrong> {
         let came = hex::encode(self.alloc, datagram.bytes())?;
         let wanted = hex_of(self.alloc, hex)?;
         self.is_same(came.as_str(), wanted.as_str())?;
@@ -283,21 +272,7 @@ impl<'a, A: Allocator + Copy> Ends<'a, A> {
         if datagram.to() == endpoint(port) {
             return Ok(());
         }
-        Err(self.wrong("it goes to another"))
-    }
-}
-
-fn block_size(szx: u8) -> Result<Szx, Fail> {
-    match Szx::new(szx) {
-        Some(szx) => Ok(szx),
-        None => Err(Fail::new("a size exponent is 0 to 6")),
-    }
-}
-
-fn body_limit(bytes: usize) -> Result<BodyLimit, Fail> {
-    match BodyLimit::new(bytes) {
-        Some(limit) => Ok(limit),
-        None => Err(Fail::new("a limit is 1 to 1,048,576 bytes")),
+        Err(Wrong::Because("it goes to another"))
     }
 }
 
@@ -313,9 +288,9 @@ fn server<A: Allocator + Copy>(
     limit: BodyLimit,
     szx: Szx,
     word: u64,
-) -> Result<Server<ListStore<A>, A>, Fail> {
+) -> Result<Server<ListStore<A>, A>, Wrong> {
     match ListStore::new_sized(memory, changes, limit) {
         Some(store) => Ok(Server::new(memory, store, szx, word)),
-        None => Err(Fail::new("a window takes 1 change at least")),
+        None => Err(Wrong::Because("a window takes 1 change at least")),
     }
 }

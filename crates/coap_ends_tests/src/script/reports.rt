@@ -2,10 +2,10 @@
 use coap_ends::{Fetched, Report};
 use coap_types::{Code, Tag};
 use std::alloc::{Allocator, Global};
-use std::test::Fail;
+use test_scripts::Wrong;
 
 /// What is said of a report beside its body.
-pub(super) fn head_of<A: Allocator>(alloc: Global, report: &Report<A>) -> Result<String, Fail> {
+pub(super) fn head_of<A: Allocator>(alloc: Global, report: &Report<A>) -> Result<String, Wrong> {
     Ok(match report {
         Report::Body(fetched) => {
             let held = held_of(alloc, fetched)?;
@@ -41,20 +41,20 @@ fn word_of<A: Allocator>(report: &Report<A>) -> &'static str {
     }
 }
 
-fn code_text(alloc: Global, word: &str, code: Code) -> Result<String, Fail> {
+fn code_text(alloc: Global, word: &str, code: Code) -> Result<String, Wrong> {
     let class = code.class();
     let detail = code.detail();
     Ok(format!(in alloc; "{word} {class}.{detail:02}")?)
 }
 
-fn tag_text(alloc: Global, tag: &Option<Tag>) -> Result<String, Fail> {
+fn tag_text(alloc: Global, tag: &Option<Tag>) -> Result<String, Wrong> {
     match tag {
         Some(tag) => Ok(hex::encode(alloc, tag.as_slice())?),
         None => Ok(String::from_str(alloc, "-")?),
     }
 }
 
-fn held_of<A: Allocator>(alloc: Global, fetched: &Fetched<A>) -> Result<String, Fail> {
+fn held_of<A: Allocator>(alloc: Global, fetched: &Fetched<A>) -> Result<String, Wrong> {
     let tag = tag_text(alloc, &fetched.tag)?;
     match fetched.format {
         Some(format) => Ok(format!(in alloc; "{tag} {format}")?),

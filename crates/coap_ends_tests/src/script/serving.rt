@@ -1,20 +1,20 @@
 //! The steps of the server's own side, and what it shows.
 use super::ends::Ends;
-use super::words::{bytes_of, endpoint, first, format_of, method_of, path_of, port_of, text_of};
+use super::words::{bytes_of, endpoint, path_of, port_of, text_of};
 use coap_ends::{DelayRefusal, PlainRefusal};
 use coap_resource::StoreRefusal;
 use coap_types::Moment;
 use std::alloc::Allocator;
-use std::test::Fail;
+use test_scripts::{Wrong, first, format_of, method_of};
 
-impl<A: Allocator + Copy> Ends<'_, A> {
+impl<A: Allocator + Copy> Ends<A> {
     pub(super) fn serve(
         &mut self,
         verb: &str,
         words: &str,
         text: &str,
         answer: &str,
-    ) -> Result<(), Fail> {
+    ) -> Result<(), Wrong> {
         match verb {
             "set" => self.set(words, text, answer),
             "remove" => self.remove(words, answer),
@@ -22,11 +22,11 @@ impl<A: Allocator + Copy> Ends<'_, A> {
             "plain" => self.plain(words, answer),
             "holds" => self.holds(words, text),
             "applied" => self.applied(words),
-            _ => Err(self.wrong("no step")),
+            _ => Err(Wrong::Because("there is no such step")),
         }
     }
 
-    fn set(&mut self, words: &str, text: &str, answer: &str) -> Result<(), Fail> {
+    fn set(&mut self, words: &str, text: &str, answer: &str) -> Result<(), Wrong> {
         self.is_quiet()?;
         let (at, words) = first(words);
         let (path, format) = first(words);
@@ -45,7 +45,7 @@ impl<A: Allocator + Copy> Ends<'_, A> {
         }
     }
 
-    fn remove(&mut self, words: &str, answer: &str) -> Result<(), Fail> {
+    fn remove(&mut self, words: &str, answer: &str) -> Result<(), Wrong> {
         self.is_quiet()?;
         let (at, path) = first(words);
         let Some(path) = path_of(self.alloc, self.memory, path)? else {
@@ -59,7 +59,7 @@ impl<A: Allocator + Copy> Ends<'_, A> {
         }
     }
 
-    fn delay(&mut self, words: &str, answer: &str) -> Result<(), Fail> {
+    fn delay(&mut self, words: &str, answer: &str) -> Result<(), Wrong> {
         let (path, ms) = first(words);
         let Some(path) = path_of(self.alloc, self.memory, path)? else {
             return self.wants_memory();
@@ -71,7 +71,7 @@ impl<A: Allocator + Copy> Ends<'_, A> {
         }
     }
 
-    fn plain(&mut self, words: &str, answer: &str) -> Result<(), Fail> {
+    fn plain(&mut self, words: &str, answer: &str) -> Result<(), Wrong> {
         let Some(path) = path_of(self.alloc, self.memory, words)? else {
             return self.wants_memory();
         };
@@ -82,7 +82,7 @@ impl<A: Allocator + Copy> Ends<'_, A> {
         }
     }
 
-    fn holds(&mut self, words: &str, text: &str) -> Result<(), Fail> {
+    fn holds(&mut self, words: &str, text: &str) -> Result<(), Wrong> {
         let (path, words) = first(words);
         let Some(path) = path_of(self.alloc, self.memory, path)? else {
             return self.wants_memory();
@@ -94,15 +94,15 @@ impl<A: Allocator + Copy> Ends<'_, A> {
         let version: u64 = version.parse()?;
         let body = text_of(self.alloc, text)?;
         if held.version != version || held.format != format_of(format)? {
-            return Err(self.wrong("it holds another version or format"));
+            return Err(Wrong::Because("it holds another version or format"));
         }
         if held.body.as_slice() != body.as_bytes() {
-            return Err(self.wrong("it holds another body"));
+            return Err(Wrong::Because("it holds another body"));
         }
         Ok(())
     }
 
-    pub(super) fn applied(&mut self, words: &str) -> Result<(), Fail> {
+    pub(super) fn applied(&mut self, words: &str) -> Result<(), Wrong> {
         let Some(applied) = self.server.applied() else {
             return self.is_same("nothing", words);
         };
@@ -120,7 +120,7 @@ impl<A: Allocator + Copy> Ends<'_, A> {
             || applied.token.as_slice() != bytes_of(self.alloc, token)?.as_slice()
             || applied.version != version
         {
-            return Err(self.wrong("another request was applied"));
+            return Err(Wrong::Because("another request was applied"));
         }
         Ok(())
     }

@@ -4,12 +4,12 @@ use super::words::path_of;
 use coap_ends::{CallId, Report};
 use coap_types::Path;
 use std::alloc::Allocator;
-use std::test::Fail;
+use test_scripts::Wrong;
 
-impl<A: Allocator + Copy> Ends<'_, A> {
+impl<A: Allocator + Copy> Ends<A> {
     /// From now on each step that wants memory has to leave both ends as they were, with what this path
     /// holds.
-    pub(super) fn watch(&mut self, path: &str) -> Result<(), Fail> {
+    pub(super) fn watch(&mut self, path: &str) -> Result<(), Wrong> {
         let Some(path) = path_of(self.alloc, self.memory, path)? else {
             return self.wants_memory();
         };
@@ -18,7 +18,7 @@ impl<A: Allocator + Copy> Ends<'_, A> {
     }
 
     /// Carries out a step, and once more where it wanted memory: it has changed nothing then.
-    pub(super) fn carry_through(&mut self, step: &str) -> Result<(), Fail> {
+    pub(super) fn carry_through(&mut self, step: &str) -> Result<(), Wrong> {
         if self.watched.is_some() && self.report.is_none() {
             self.report = self.client.next_report();
         }
@@ -33,7 +33,7 @@ impl<A: Allocator + Copy> Ends<'_, A> {
     }
 
     // In words, beside what goes out and what is told: nothing where no path is watched.
-    fn shown(&self) -> Result<String, Fail> {
+    fn shown(&self) -> Result<String, Wrong> {
         let Some(path) = &self.watched else {
             return Ok(String::new(self.alloc));
         };
@@ -43,7 +43,7 @@ impl<A: Allocator + Copy> Ends<'_, A> {
         Ok(format!(in self.alloc; "{asked:?}, {applied}, {held}")?)
     }
 
-    fn held_at(&self, path: &Path<A>) -> Result<String, Fail> {
+    fn held_at(&self, path: &Path<A>) -> Result<String, Wrong> {
         let Some(held) = self.server.get(path) else {
             return Ok(String::from_str(self.alloc, "nothing is held")?);
         };
@@ -55,9 +55,9 @@ impl<A: Allocator + Copy> Ends<'_, A> {
 
     /// The reply to `D` and the GET of the path that is watched, by what it holds: 4.04, or 2.05 with its
     /// entity-tag, its format, which is 0 or none, and its body (RFC 7252, sections 5.8.1 and 5.10).
-    pub(super) fn held_reply(&self) -> Result<String, Fail> {
+    pub(super) fn held_reply(&self) -> Result<String, Wrong> {
         let Some(path) = &self.watched else {
-            return Err(self.wrong("no path is watched"));
+            return Err(Wrong::Because("no path is watched"));
         };
         let Some(held) = self.server.get(path) else {
             return Ok(String::from_str(self.alloc, "D 60847d34")?);
@@ -69,7 +69,7 @@ impl<A: Allocator + Copy> Ends<'_, A> {
         Ok(format!(in self.alloc; "D 60457d3448{version:016x}{format}{marker}{body}")?)
     }
 
-    fn applied_text(&self) -> Result<String, Fail> {
+    fn applied_text(&self) -> Result<String, Wrong> {
         let Some(applied) = self.server.applied() else {
             return Ok(String::from_str(self.alloc, "nothing is applied")?);
         };
@@ -82,10 +82,10 @@ impl<A: Allocator + Copy> Ends<'_, A> {
     }
 
     // The step that wanted memory left them so: they show the same, and nothing goes out or is told.
-    fn is_as_before(&mut self, before: &str) -> Result<(), Fail> {
+    fn is_as_before(&mut self, before: &str) -> Result<(), Wrong> {
         self.is_quiet()?;
         if self.client.next_report().is_some() {
-            return Err(self.wrong("it reports and wants memory"));
+            return Err(Wrong::Because("it reports and wants memory"));
         }
         let now = self.shown()?;
         self.is_same(now.as_str(), before)

@@ -1,7 +1,7 @@
 //! What the words of a step mean.
-use coap_types::{Endpoint, Method, Path, PathRefusal, Tag, Tags};
+use coap_types::{Endpoint, Path, PathRefusal};
 use std::alloc::{Allocator, Global};
-use std::test::Fail;
+use test_scripts::{Wrong, push_repeated};
 
 /// The ports of the server and of a third party; any other is that of a client.
 pub(super) const SERVER: u16 = 5_683;
@@ -11,20 +11,7 @@ const STRANGER: u16 = 5_684;
 /// The port of the client, where both ends are in one script.
 pub(super) const CLIENT: u16 = 40_001;
 
-/// What stands before the first of these, and what stands behind it: nothing where there is none.
-pub(super) fn cut<'a>(text: &'a str, parted_by: &str) -> (&'a str, &'a str) {
-    match text.split_once(parted_by) {
-        Some(parts) => parts,
-        None => (text, ""),
-    }
-}
-
-/// The first word, and the others.
-pub(super) fn first(words: &str) -> (&str, &str) {
-    cut(words, " ")
-}
-
-pub(super) fn port_of(word: &str) -> Result<u16, Fail> {
+pub(super) fn port_of(word: &str) -> Result<u16, Wrong> {
     Ok(match word {
         "S" => SERVER,
         "X" => STRANGER,
@@ -49,58 +36,27 @@ pub(super) fn endpoint(port: u16) -> Endpoint {
     }
 }
 
-pub(super) fn method_of(word: &str) -> Result<Method, Fail> {
-    match word {
-        "get" => Ok(Method::Get),
-        "post" => Ok(Method::Post),
-        "put" => Ok(Method::Put),
-        "delete" => Ok(Method::Delete),
-        _ => Err(Fail::new("no method")),
-    }
-}
-
-/// A Content-Format, or `-` for none.
-pub(super) fn format_of(word: &str) -> Result<Option<u16>, Fail> {
-    Ok(match word {
-        "-" => None,
-        _ => Some(word.parse()?),
-    })
-}
-
 // A text whose words, parted by this, are joined: `ab*3` stands for `ababab`.
-fn joined(alloc: Global, text: &str, parted_by: char) -> Result<String, Fail> {
+fn joined(alloc: Global, text: &str, parted_by: char) -> Result<String, Wrong> {
     let mut whole = String::new(alloc);
     for word in text.split(parted_by) {
-        push_word(&mut whole, word)?;
+        push_repeated(&mut whole, word)?;
     }
     Ok(whole)
 }
 
-// Adds a word, which says with `*` how often it is repeated.
-fn push_word(whole: &mut String, word: &str) -> Result<(), Fail> {
-    let Some((part, count)) = word.split_once('*') else {
-        whole.push_str(word)?;
-        return Ok(());
-    };
-    let count: u32 = count.parse()?;
-    for _ in 0..count {
-        whole.push_str(part)?;
-    }
-    Ok(())
-}
-
 /// The text whose words are parted by `+`.
-pub(super) fn text_of(alloc: Global, text: &str) -> Result<String, Fail> {
+pub(super) fn text_of(alloc: Global, text: &str) -> Result<String, Wrong> {
     joined(alloc, text, '+')
 }
 
 /// The hex whose words are parted by spaces.
-pub(super) fn hex_of(alloc: Global, text: &str) -> Result<String, Fail> {
+pub(super) fn hex_of(alloc: Global, text: &str) -> Result<String, Wrong> {
     joined(alloc, text, ' ')
 }
 
 /// The bytes that this hex says.
-pub(super) fn bytes_of(alloc: Global, text: &str) -> Result<Vec<u8>, Fail> {
+pub(super) fn bytes_of(alloc: Global, text: &str) -> Result<Vec<u8>, Wrong> {
     let whole = hex_of(alloc, text)?;
     Ok(hex::decode(alloc, whole.as_str())?)
 }
@@ -111,7 +67,7 @@ pub(super) fn path_of<A: Allocator + Copy>(
     alloc: Global,
     memory: A,
     text: &str,
-) -> Result<Option<Path<A>>, Fail> {
+) -> Result<Option<Path<A>>, Wrong> {
     let mut path = Path::new(memory);
     if text == "/" {
         return Ok(Some(path));
@@ -121,27 +77,15 @@ pub(super) fn path_of<A: Allocator + Copy>(
         match path.push(segment.as_slice()) {
             Ok(()) => {}
             Err(PathRefusal::Memory) => return Ok(None),
-            Err(why) => return Err(Fail::from(why)),
+            Err(why) => return Err(Wrong::from(why)),
         }
     }
     Ok(Some(path))
 }
 
-fn segment_of(alloc: Global, word: &str) -> Result<Vec<u8>, Fail> {
+fn segment_of(alloc: Global, word: &str) -> Result<Vec<u8>, Wrong> {
     match word.strip_prefix('%') {
         Some(hex) => bytes_of(alloc, hex),
         None => Ok(text_of(alloc, word)?.into_bytes()),
-    }
-}
-
-/// Adds an entity-tag, in hex.
-pub(super) fn push_tag(alloc: Global, tags: &mut Tags, word: &str) -> Result<(), Fail> {
-    let bytes = bytes_of(alloc, word)?;
-    let Some(tag) = Tag::new(bytes.as_slice()) else {
-        return Err(Fail::new("a tag has 1 to 8 bytes"));
-    };
-    match tags.push(tag) {
-        Ok(()) => Ok(()),
-        Err(_) => Err(Fail::new("there are at most 4 tags")),
     }
 }

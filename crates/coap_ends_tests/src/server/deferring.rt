@@ -1,8 +1,12 @@
 //! Separate responses: requests that wait for the delay of their path (RFC 7252, section 5.2.2).
 use crate::script::{End, run};
 use std::test::Fail;
+use test_scripts::Scripts;
 
-const SCRIPTS: &str = "
+const SCRIPTS: Scripts<'static> = Scripts {
+    module: module_path!(),
+    line: 9,
+    text: "
 == a_request_is_deferred
 set 0 /t 0 = hi
 delay /t 1000
@@ -227,9 +231,10 @@ tick 2
 out C 40840000
 feed 2 C 40010002b16f
 out C 60840002
-";
+",
+};
 
 #[test]
 fn deferring(rt: HostRuntime) -> Result<(), Fail> {
-    run(rt.alloc(), End::Server, SCRIPTS)
+    run(rt.alloc(), End::Server, &SCRIPTS)
 }

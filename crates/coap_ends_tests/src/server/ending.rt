@@ -1,8 +1,12 @@
 //! How a registration ends (RFC 7641, sections 3.6, 4.2 and 4.5).
 use crate::script::{End, run};
 use std::test::Fail;
+use test_scripts::Scripts;
 
-const SCRIPTS: &str = "
+const SCRIPTS: Scripts<'static> = Scripts {
+    module: module_path!(),
+    line: 9,
+    text: "
 == what_is_gone_is_notified_and_ends_the_registration
 set 0 /t 0 = a
 feed 1 C 480100000000000000000000605174
@@ -126,9 +130,10 @@ idle 62999
 tick 63000
 set 63000 /t 0 = c
 idle 63000
-";
+",
+};
 
 #[test]
 fn ending(rt: HostRuntime) -> Result<(), Fail> {
-    run(rt.alloc(), End::Server, SCRIPTS)
+    run(rt.alloc(), End::Server, &SCRIPTS)
 }

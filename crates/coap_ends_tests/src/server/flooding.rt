@@ -2,8 +2,12 @@
 //! until there is room (RFC 7252, section 4.5; how many are remembered is a profile).
 use crate::script::{End, run};
 use std::test::Fail;
+use test_scripts::Scripts;
 
-const SCRIPTS: &str = "
+const SCRIPTS: Scripts<'static> = Scripts {
+    module: module_path!(),
+    line: 10,
+    text: "
 == a_flood_of_others_forgets_nobody
 set 0 /t 0 = hi
 feed 0 C 41010001 ee 60 5174
@@ -45,9 +49,10 @@ feed 0 C 40010001b174
 feed 247000 C 40010001b174
 feed 247001 C 40010001b174
 out C 60450001 480000000000000001 80 ff6869
-";
+",
+};
 
 #[test]
 fn flooding(rt: HostRuntime) -> Result<(), Fail> {
-    run(rt.alloc(), End::Server, SCRIPTS)
+    run(rt.alloc(), End::Server, &SCRIPTS)
 }

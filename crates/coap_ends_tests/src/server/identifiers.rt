@@ -1,8 +1,12 @@
 //! Message IDs and duplicates (RFC 7252, sections 4.4 and 4.5).
 use crate::script::{End, run};
 use std::test::Fail;
+use test_scripts::Scripts;
 
-const SCRIPTS: &str = "
+const SCRIPTS: Scripts<'static> = Scripts {
+    module: module_path!(),
+    line: 9,
+    text: "
 == a_non_without_a_response_takes_no_message_id
 set 0 /t 0 = hi
 feed 0 C 50010001 b174 4178
@@ -70,9 +74,10 @@ tick 400001
 out D 40450000 480000000000000002 80 ff6869
 tick 400001
 out C 41450001 ee 48 0000000000010003 23010003 60 ff79
-";
+",
+};
 
 #[test]
 fn identifiers(rt: HostRuntime) -> Result<(), Fail> {
-    run(rt.alloc(), End::Server, SCRIPTS)
+    run(rt.alloc(), End::Server, &SCRIPTS)
 }

@@ -1,8 +1,12 @@
 //! The longest body that a server joins and holds, where one is chosen (RFC 7959, sections 2.9.3 and 7).
 use crate::script::{End, run};
 use std::test::Fail;
+use test_scripts::Scripts;
 
-const SCRIPTS: &str = "
+const SCRIPTS: Scripts<'static> = Scripts {
+    module: module_path!(),
+    line: 9,
+    text: "
 == a_server_holds_no_more
 new limit=$1
 set 0 /t 0 = $2
@@ -36,9 +40,10 @@ feed 0 C 40030002 b174 d10310 ff 78*$1
 out C $2
 | 1 | 60410002 d10e10
 | 2 | 608d0002
-";
+",
+};
 
 #[test]
 fn limits(rt: HostRuntime) -> Result<(), Fail> {
-    run(rt.alloc(), End::Server, SCRIPTS)
+    run(rt.alloc(), End::Server, &SCRIPTS)
 }

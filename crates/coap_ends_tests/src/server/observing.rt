@@ -1,8 +1,12 @@
 //! Observers: who is registered, and who is notified when (RFC 7641).
 use crate::script::{End, run};
 use std::test::Fail;
+use test_scripts::Scripts;
 
-const SCRIPTS: &str = "
+const SCRIPTS: Scripts<'static> = Scripts {
+    module: module_path!(),
+    line: 9,
+    text: "
 == a_change_is_notified
 set 0 /t 0 = a
 feed 1 C 480100000000000000000000605174
@@ -199,9 +203,10 @@ out E 40450002 480000000000000002 80 ff6869
 tick 62000
 out F 41450003 ff 480000000000000005 2105 60 ff64
 idle 62000
-";
+",
+};
 
 #[test]
 fn observing(rt: HostRuntime) -> Result<(), Fail> {
-    run(rt.alloc(), End::Server, SCRIPTS)
+    run(rt.alloc(), End::Server, &SCRIPTS)
 }

@@ -1,8 +1,12 @@
 //! Notifications in NONs, of paths that are plain (RFC 7641, sections 3.6 and 4.5).
 use crate::script::{End, run};
 use std::test::Fail;
+use test_scripts::Scripts;
 
-const SCRIPTS: &str = "
+const SCRIPTS: Scripts<'static> = Scripts {
+    module: module_path!(),
+    line: 9,
+    text: "
 == a_plain_path_is_notified_in_a_non
 plain /t
 set 0 /t 0 = a
@@ -188,9 +192,10 @@ plain /n
 plain /o -> Full
 # One of them is named again.
 plain /n
-";
+",
+};
 
 #[test]
 fn plain(rt: HostRuntime) -> Result<(), Fail> {
-    run(rt.alloc(), End::Server, SCRIPTS)
+    run(rt.alloc(), End::Server, &SCRIPTS)
 }

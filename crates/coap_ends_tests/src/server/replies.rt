@@ -1,8 +1,12 @@
 //! Datagrams and their replies: the checks of a request, in their order.
 use crate::script::{End, run};
 use std::test::Fail;
+use test_scripts::Scripts;
 
-pub(crate) const SCRIPTS: &str = "
+pub(crate) const SCRIPTS: Scripts<'static> = Scripts {
+    module: module_path!(),
+    line: 9,
+    text: "
 == a_resource_is_read
 set 0 /temperature 0 = 22.3 C
 feed 0 C $1
@@ -199,9 +203,10 @@ out C $2
 | 40010001 b174 | 60450001 480000000000000001 80
 | 40010001 b174 c0 | 60450001 480000000000000001 80 b0
 | 40010001 b174 c110 | 60800001
-";
+",
+};
 
 #[test]
 fn replies(rt: HostRuntime) -> Result<(), Fail> {
-    run(rt.alloc(), End::Server, SCRIPTS)
+    run(rt.alloc(), End::Server, &SCRIPTS)
 }

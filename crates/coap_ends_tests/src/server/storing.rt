@@ -1,8 +1,12 @@
 //! What a server holds, and which requests it applied.
 use crate::script::{End, run};
 use std::test::Fail;
+use test_scripts::Scripts;
 
-pub(crate) const SCRIPTS: &str = "
+pub(crate) const SCRIPTS: Scripts<'static> = Scripts {
+    module: module_path!(),
+    line: 9,
+    text: "
 == a_repeated_post_is_applied_once
 set 0 /log 0 = x
 feed 0 C 41020a0101b36c6f67ff61
@@ -123,9 +127,10 @@ times 1..4097: feed 0 {d} 40010001b174; out {d} 60450001 480000000000000001 80 f
 feed 247000 C 40010001b174
 feed 247001 C 40010001b174
 out C 60450001 480000000000000001 80 ff6869
-";
+",
+};
 
 #[test]
 fn storing(rt: HostRuntime) -> Result<(), Fail> {
-    run(rt.alloc(), End::Server, SCRIPTS)
+    run(rt.alloc(), End::Server, &SCRIPTS)
 }

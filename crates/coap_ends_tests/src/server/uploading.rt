@@ -1,8 +1,12 @@
 //! Bodies that arrive in blocks (RFC 7959, section 2.5).
 use crate::script::{End, run};
 use std::test::Fail;
+use test_scripts::Scripts;
 
-const SCRIPTS: &str = "
+const SCRIPTS: Scripts<'static> = Scripts {
+    module: module_path!(),
+    line: 9,
+    text: "
 == blocks_shrink_to_those_of_the_server
 server new szx=1
 feed 0 C 48030000 0000000000000000 b174 d1030b ff 78*128
@@ -172,9 +176,10 @@ feed 0 C 50030001 b174 d10308 ff 61*16
 feed 0 C 50030002 b174 d10310 ff62
 out C 50410001 d10e10
 holds /t 1 - = a*16+b
-";
+",
+};
 
 #[test]
 fn uploading(rt: HostRuntime) -> Result<(), Fail> {
-    run(rt.alloc(), End::Server, SCRIPTS)
+    run(rt.alloc(), End::Server, &SCRIPTS)
 }

@@ -1,8 +1,12 @@
 //! When the next tick of a server is due (RFC 7252, sections 4.2 and 5.2.2; RFC 7641, section 4.5).
 use crate::script::{End, run};
 use std::test::Fail;
+use test_scripts::Scripts;
 
-const SCRIPTS: &str = "
+const SCRIPTS: Scripts<'static> = Scripts {
+    module: module_path!(),
+    line: 9,
+    text: "
 == a_deferred_request_waits_for_its_delay
 due nothing
 set 0 /t 0 = hi
@@ -82,9 +86,10 @@ out C 41457000 ee 480000000000000002 2102 60 ff62
 due 62219
 tick 62219
 due nothing
-";
+",
+};
 
 #[test]
 fn waking(rt: HostRuntime) -> Result<(), Fail> {
-    run(rt.alloc(), End::Server, SCRIPTS)
+    run(rt.alloc(), End::Server, &SCRIPTS)
 }

@@ -1,6 +1,10 @@
 //! Calls of the client (RFC 7252, section 5).
+use test_scripts::Scripts;
 
-pub(super) const SCRIPTS: &str = "
+pub(super) const SCRIPTS: Scripts<'static> = Scripts {
+    module: module_path!(),
+    line: 7,
+    text: "
 == a_get
 0 set t hi
 0 call get t
@@ -234,4 +238,5 @@ pub(super) const SCRIPTS: &str = "
 > 4 out 15 server 6845_0007_0000000000000007_480000000000000005_80_b116_ff65
 4 deliver 15
 > 4 report 0 changed
-";
+",
+};

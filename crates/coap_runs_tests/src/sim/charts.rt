@@ -1,6 +1,6 @@
 //! Runs that are drawn as charts: rows of what happens, and of datagrams that are sent and delivered, lost, sent again,
 //! delivered twice, late, and from and for elsewhere.
-use super::{name_of, parts_of};
+use super::Case;
 use crate::rows::{check_row, words_of};
 use coap_arguments::StoreKind;
 use coap_commands::{
@@ -17,8 +17,12 @@ use std::process::Abort;
 use std::random::RandomSource;
 use std::rt::{Clock, Files};
 use std::test::Fail;
+use test_scripts::{Script, Scripts, scripts_of};
 
-const SCRIPTS: &str = "
+const SCRIPTS: Scripts<'static> = Scripts {
+    module: module_path!(),
+    line: 25,
+    text: "
 == a_get
 >     ms    client                                                                           server
 0 set t hi
@@ -149,7 +153,8 @@ const SCRIPTS: &str = "
 18446744073709551615 stranger server 9 40000001
 > 18446744073709551615    |                              from 127.0.0.1:9: CON 0.00 0001 [] Empty |<--
 > 18446744073709551615    |                              0 to 127.0.0.1:9: RST 0.00 0001 [] Empty |-->
-";
+",
+};
 
 // No row has more columns.
 const MAX_WIDTH: usize = 100;
@@ -181,31 +186,32 @@ fn drawn<A: Allocator + Copy, W: Write>(
 }
 
 // A script is drawn so, over each store.
-fn check_chart(rt: &impl Abort, alloc: Global, case: &str) -> Result<(), Fail> {
-    let name = name_of(case);
-    let (script, chart) = parts_of(alloc, case)?;
-    let chart = chart.as_str();
+fn check_chart(rt: &impl Abort, alloc: Global, script: &Script<'_>) -> Result<(), Fail> {
+    let name = script.name();
+    let case = Case::of(alloc, script)?;
     assert!(rt;
-        chart.lines().all(|row| row.len() <= MAX_WIDTH),
+        case.wanted
+            .as_str()
+            .lines()
+            .all(|row| row.len() <= MAX_WIDTH),
         "at {name}"
     );
-    for store in [StoreKind::Map, StoreKind::List] {
+    for (store, run) in [
+        (StoreKind::Map, "over a map"),
+        (StoreKind::List, "over a list"),
+    ] {
         let mut out = Vec::new(alloc);
-        let ended = drawn(alloc, script.as_str(), store, Ink::Plain, &mut out);
+        let ended = drawn(alloc, case.text.as_str(), store, Ink::Plain, &mut out);
         assert!(rt; matches!(ended, Ok(Status::Done)), "at {name}");
-        assert_eq!(rt;
-            out.as_slice(),
-            chart.as_bytes(),
-            "at {name} over {store:?}"
-        );
+        case.wanted.check(run, out.as_slice())?;
     }
     Ok(())
 }
 
 #[test]
 fn charts(rt: HostRuntime) -> Result<(), Fail> {
-    for case in SCRIPTS.split("\n== ").skip(1) {
-        check_chart(&rt, rt.alloc(), case)?;
+    for script in scripts_of(rt.alloc(), &SCRIPTS)?.iter() {
+        check_chart(&rt, rt.alloc(), script)?;
     }
     Ok(())
 }

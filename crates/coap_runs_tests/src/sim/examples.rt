@@ -1,6 +1,10 @@
 //! The scripts of the folder `examples` at the top of the repository, with what stands beside them.
+use test_scripts::Scripts;
 
-pub(super) const SCRIPTS: &str = "
+pub(super) const SCRIPTS: Scripts<'static> = Scripts {
+    module: module_path!(),
+    line: 7,
+    text: "
 == get
 0 set t hi
 0 call get t
@@ -116,4 +120,5 @@ pub(super) const SCRIPTS: &str = "
 7 stranger server 9 70000000
 8 set t ho
 8 tick server
-";
+",
+};

@@ -1,6 +1,10 @@
 //! Runs that are legal and runs that are not, and lines that can't be read.
+use test_scripts::Scripts;
 
-pub(super) const SCRIPTS: &str = "
+pub(super) const SCRIPTS: Scripts<'static> = Scripts {
+    module: module_path!(),
+    line: 7,
+    text: "
 == nothing
 
 == nothing_happens
@@ -58,7 +62,8 @@ pub(super) const SCRIPTS: &str = "
 4 tick client
 4 tick
 > bad line 3
-";
+",
+};
 
 /// Lines that can't be read.
 pub(super) const BAD_LINES: [&str; 48] = [

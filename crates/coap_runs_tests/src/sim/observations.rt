@@ -1,6 +1,10 @@
 //! Observations (RFC 7641).
+use test_scripts::Scripts;
 
-pub(super) const SCRIPTS: &str = "
+pub(super) const SCRIPTS: Scripts<'static> = Scripts {
+    module: module_path!(),
+    line: 7,
+    text: "
 == an_observation
 0 set t a
 0 observe t
@@ -183,4 +187,5 @@ pub(super) const SCRIPTS: &str = "
 7 forget 0
 7 cancel 0
 > 7 refused 1
-";
+",
+};

@@ -7,10 +7,14 @@ use std::alloc::{AllocError, Global};
 use std::fs;
 use std::process::Abort;
 use std::test::Fail;
+use test_scripts::Scripts;
 
 // The first stands in the folder `examples` at the top of the repository, with its words and what it
 // prints beside it.
-pub(super) const SCRIPTS: &str = "
+pub(super) const SCRIPTS: Scripts<'static> = Scripts {
+    module: module_path!(),
+    line: 17,
+    text: "
 == plain
 0 set t a
 0 observe t
@@ -73,7 +77,8 @@ pub(super) const SCRIPTS: &str = "
 5 deliver 3
 6 set t c
 6 tick server
-";
+",
+};
 
 // An observation, up to its first value, and then a change of `t`.
 const OBSERVATION: &str =

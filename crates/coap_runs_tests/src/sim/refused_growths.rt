@@ -1,12 +1,13 @@
 //! Each growth of a script refused in turn: an input that meets that inside an end counts as lost, and
 //! elsewhere the script ends for want of memory.
-use super::{calls, name_of, observations, parts_of, plain_paths, strangers};
+use super::{Case, calls, observations, plain_paths, strangers};
 use coap_arguments::StoreKind;
 use coap_commands::{Printing, Stop, USUAL_ENDS, close, sim_with};
 use coap_types::{Path, Remembered};
 use failing_allocator::Failing;
 use std::alloc::{Allocator, Global};
 use std::test::Fail;
+use test_scripts::{Place, Scripts, find};
 
 // No script takes so many growths.
 const MANY: u64 = 1_000_000;
@@ -24,7 +25,7 @@ struct Ended {
 #[test]
 fn each_growth_is_refused(rt: HostRuntime) -> Result<(), Fail> {
     let alloc = rt.alloc();
-    let cases: [(&str, &str, &[&str]); 8] = [
+    let cases: [(Scripts<'static>, &str, &[&str]); 8] = [
         (calls::SCRIPTS, "a_get", &[]),
         (calls::SCRIPTS, "a_post_that_comes_twice", &[]),
         (observations::SCRIPTS, "an_observation", &[]),
@@ -51,47 +52,39 @@ fn each_growth_is_refused(rt: HostRuntime) -> Result<(), Fail> {
         ),
     ];
     for (scripts, name, plains) in cases {
-        refuse_each(alloc, script_of(alloc, scripts, name)?.as_str(), plains)?;
+        let script = find(alloc, &scripts, name)?;
+        let case = Case::of(alloc, &script)?;
+        refuse_each(alloc, script.place, case.text.as_str(), plains)?;
     }
     Ok(())
 }
 
-fn script_of(alloc: Global, scripts: &str, name: &str) -> Result<String, Fail> {
-    for case in scripts.split("\n== ").skip(1) {
-        if name_of(case) == name {
-            let (script, _printed) = parts_of(alloc, case)?;
-            return Ok(script);
-        }
-    }
-    Err(Fail::new("there is no such script"))
-}
-
 // Refuses the growths of the script one after the other, each in a run of its own, until there is no
 // further one.
-fn refuse_each(alloc: Global, script: &str, plains: &[&str]) -> Result<(), Fail> {
+fn refuse_each(alloc: Global, place: Place<'_>, script: &str, plains: &[&str]) -> Result<(), Fail> {
     let whole = ended_over(alloc, alloc, script, plains);
     let lost = each_lost(alloc, script, plains)?;
     for number in 1..MANY {
         let memory = Failing::new(alloc, number);
         let ended = ended_over(alloc, &memory, script, plains);
         if memory.left() != 0 {
-            return is_right(number, is_same(&ended, &whole));
+            return is_right(place, number, is_same(&ended, &whole));
         }
         let is_so = match ended.status {
             NO_MEMORY => whole.printed.starts_with(ended.printed.as_slice()),
             // A message may be sent from the room that was made for it: then nothing is lost.
             _ => is_same(&ended, &whole) || lost.iter().any(|lost| is_same(&ended, lost)),
         };
-        is_right(number, is_so)?;
+        is_right(place, number, is_so)?;
     }
     Err(Fail::new("it takes too many growths"))
 }
 
-fn is_right(number: u64, is_so: bool) -> Result<(), Fail> {
+fn is_right(place: Place<'_>, number: u64, is_so: bool) -> Result<(), Fail> {
     if is_so {
         return Ok(());
     }
-    Err(Fail::new(format_args!("at growth {number}")))
+    Err(Fail::new(format_args!("{place}, at growth {number}")))
 }
 
 fn is_same(ended: &Ended, other: &Ended) -> bool {

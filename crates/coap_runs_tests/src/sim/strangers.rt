@@ -1,6 +1,10 @@
 //! Datagrams of strangers (RFC 7252, section 11).
+use test_scripts::Scripts;
 
-pub(super) const SCRIPTS: &str = "
+pub(super) const SCRIPTS: Scripts<'static> = Scripts {
+    module: module_path!(),
+    line: 7,
+    text: "
 == a_ping
 0 stranger server 9 40000001
 > 0 out 0 server 70000001
@@ -77,4 +81,5 @@ pub(super) const SCRIPTS: &str = "
 2 deliver 3
 > 2 out 4 client 60000000
 > 2 report 0 value 2 0000000000000002 - 78
-";
+",
+};

@@ -1,6 +1,10 @@
 //! Uploads in blocks (RFC 7959, section 2.5).
+use test_scripts::Scripts;
 
-pub(super) const SCRIPTS: &str = "
+pub(super) const SCRIPTS: Scripts<'static> = Scripts {
+    module: module_path!(),
+    line: 7,
+    text: "
 == an_upload
 0 call put t {a*2049}
 0 tick client
@@ -119,4 +123,5 @@ pub(super) const SCRIPTS: &str = "
 100000 tick client
 100001 tick client
 > 100001 out 1 client 4803_0001_0000000000000001_b174_d1030e_ff{62*1024}
-";
+",
+};
