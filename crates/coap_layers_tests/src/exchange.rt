@@ -1,10 +1,9 @@
 //! Scripts for the two sides of the request/response layer, as text: what is called, and what that
 //! answers.
 //!
-//! A script begins with `== ` and its name; each further line is a call, but for those that begin
-//! with `#`. ` -> ` and what it answers end a call, and nothing where it answers nothing. A moment
-//! comes first, in milliseconds; each word is 0. A port is `S` for the server, `X` for a third party,
-//! `C` and `D` for clients. Bytes are in hex, and `_` parts those that belong together.
+//! `test_scripts` says what a script is. Each step is a call. ` -> ` and what it answers end a call, and nothing where
+//! it answers nothing. A moment comes first, in milliseconds; each word is 0. A port is `S` for the server, `X` for a
+//! third party, `C` and `D` for clients. Bytes are in hex, and `_` parts those that belong together.
 //!
 //! | Call of `Asker` | What it answers |
 //! |---|---|
@@ -46,46 +45,40 @@ mod words;
 
 use std::alloc::Global;
 use std::test::Fail;
-use words::cut;
+use test_scripts::{Mark, Script, Wrong, cut};
 
 /// A side of the layer, by its calls.
 pub(crate) trait Side {
     /// Makes this call with these words, and says what it answers.
-    fn call(&mut self, verb: &str, words: &str) -> Result<String, Fail>;
-}
-
-/// The script of this name.
-pub(crate) fn find<'a>(scripts: &'a str, name: &str) -> Result<&'a str, Fail> {
-    for script in scripts.split("\n== ").skip(1) {
-        if cut(script, "\n").0 == name {
-            return Ok(script);
-        }
-    }
-    Err(Fail::new("there is no such script"))
+    fn call(&mut self, verb: &str, words: &str) -> Result<String, Wrong>;
 }
 
 /// Makes the calls of a script, one after the other.
-pub(crate) fn run_script<T: Side>(alloc: Global, side: &mut T, script: &str) -> Result<(), Fail> {
-    let (name, lines) = cut(script, "\n");
-    for line in lines.lines() {
-        if !line.is_empty() && !line.starts_with('#') {
-            run_line(alloc, side, name, line)?;
+pub(crate) fn run_script<T: Side>(
+    alloc: Global,
+    side: &mut T,
+    script: &Script<'_>,
+) -> Result<(), Fail> {
+    for line in script.lines(alloc)?.iter() {
+        match line.mark {
+            Mark::Step => line.check(run_line(alloc, side, line.text))?,
+            _ => return Err(Wrong::Because("it is no call").at(line)),
         }
     }
     Ok(())
 }
 
 // Makes a call, or calls for each count.
-fn run_line<T: Side>(alloc: Global, side: &mut T, name: &str, line: &str) -> Result<(), Fail> {
+fn run_line<T: Side>(alloc: Global, side: &mut T, line: &str) -> Result<(), Wrong> {
     let Some(times) = line.strip_prefix("times ") else {
-        return run_call(alloc, side, name, line);
+        return run_call(alloc, side, line);
     };
     let (counts, calls) = cut(times, ": ");
     let (from, to) = cut(counts, "..");
     let from: u8 = from.parse()?;
     let to: u8 = to.parse()?;
     for count in from..to {
-        run_counted(alloc, side, name, calls, count)?;
+        run_counted(alloc, side, calls, count)?;
     }
     Ok(())
 }
@@ -93,29 +86,24 @@ fn run_line<T: Side>(alloc: Global, side: &mut T, name: &str, line: &str) -> Res
 fn run_counted<T: Side>(
     alloc: Global,
     side: &mut T,
-    name: &str,
     calls: &str,
     count: u8,
-) -> Result<(), Fail> {
+) -> Result<(), Wrong> {
     let digits = format!(in alloc; "{count:02x}")?;
     let calls = calls.replace(alloc, "{2}", digits.as_str())?;
     for call in calls.as_str().split("; ") {
-        run_call(alloc, side, name, call)?;
+        run_call(alloc, side, call)?;
     }
     Ok(())
 }
 
-fn run_call<T: Side>(alloc: Global, side: &mut T, name: &str, line: &str) -> Result<(), Fail> {
+fn run_call<T: Side>(alloc: Global, side: &mut T, line: &str) -> Result<(), Wrong> {
     let whole = line.replace(alloc, "_", "")?;
     let (call, wanted) = cut(whole.as_str(), " -> ");
     let (verb, words) = cut(call, " ");
     let told = side.call(verb, words)?;
-    is_same(name, line, told.as_str(), wanted)
-}
-
-fn is_same(name: &str, line: &str, told: &str, wanted: &str) -> Result<(), Fail> {
-    if told == wanted {
+    if told.as_str() == wanted {
         return Ok(());
     }
-    Err(Fail::new(format_args!("in {name}, at `{line}`: {told}")))
+    Err(Wrong::came(alloc, told.as_str()))
 }

@@ -2,7 +2,7 @@
 ghost use Rattle.std.specs.Prelude.{◌≡◌, true, IsSome, IfSome};
 ghost use Rattle.coap_exchange.specs.ShortAnswers.{IsShortAnswer};
 
-use super::words::{datagram_text, endpoint_of, first, name_of, said, token_of, truth};
+use super::words::{datagram_text, endpoint_of, name_of, said, token_of, truth};
 use super::{Side, run_script};
 use coap_exchange::{Answerer, Asked, Due, Response, answerable_law, notifiable_law};
 use coap_layer::Datagram;
@@ -13,6 +13,7 @@ use std::cell::Cell;
 use std::hash::BuildHasher;
 use std::marker::Model;
 use std::test::Fail;
+use test_scripts::{Script, Wrong, first};
 
 // Observe 0.
 const OBSERVED: &[Opt<'static>] = &[Opt {
@@ -58,7 +59,7 @@ pub(super) fn run_server<S: BuildHasher + Drop>(
     alloc: Global,
     hasher: S,
     uses: &Cell<u32>,
-    script: &str,
+    script: &Script<'_>,
 ) -> Result<(), Fail> {
     let mut server = Server {
         alloc,
@@ -74,7 +75,7 @@ pub(super) fn run_server<S: BuildHasher + Drop>(
 }
 
 impl<S: BuildHasher> Side for Server<'_, S> {
-    fn call(&mut self, verb: &str, words: &str) -> Result<String, Fail> {
+    fn call(&mut self, verb: &str, words: &str) -> Result<String, Wrong> {
         match verb {
             "incoming" => self.incoming(words),
             "answer" => self.answer(words),
@@ -90,13 +91,13 @@ impl<S: BuildHasher> Side for Server<'_, S> {
             "undo" => self.undo(),
             "clock" => self.clock(),
             "hashed" => self.hashed(),
-            _ => Err(Fail::new("no call")),
+            _ => Err(Wrong::Because("there is no such call")),
         }
     }
 }
 
 impl<S: BuildHasher> Server<'_, S> {
-    fn incoming(&mut self, words: &str) -> Result<String, Fail> {
+    fn incoming(&mut self, words: &str) -> Result<String, Wrong> {
         let (at, words) = first(words);
         let (from, hex) = first(words);
         let bytes: Vec<u8> = hex::decode(self.alloc, hex)?;
@@ -121,9 +122,9 @@ impl<S: BuildHasher> Server<'_, S> {
         }
     }
 
-    fn answer(&mut self, response: &str) -> Result<String, Fail> {
+    fn answer(&mut self, response: &str) -> Result<String, Wrong> {
         let Some(asked) = &self.asked else {
-            return Err(Fail::new("there is no request"));
+            return Err(Wrong::Because("there is no request"));
         };
         answerable_law();
         reveal(&asked.token);
@@ -134,12 +135,12 @@ impl<S: BuildHasher> Server<'_, S> {
         said(self.alloc, "")
     }
 
-    fn defer(&mut self, words: &str) -> Result<String, Fail> {
+    fn defer(&mut self, words: &str) -> Result<String, Wrong> {
         let (at, delay) = first(words);
         let did = self.put_off(Moment(at.parse()?), delay.parse()?);
         match did {
             Some(did) => truth(self.alloc, did),
-            None => Err(Fail::new("there is no Confirmable request")),
+            None => Err(Wrong::Because("there is no Confirmable request")),
         }
     }
 
@@ -153,7 +154,7 @@ impl<S: BuildHasher> Server<'_, S> {
         }
     }
 
-    fn tick(&mut self, words: &str) -> Result<String, Fail> {
+    fn tick(&mut self, words: &str) -> Result<String, Wrong> {
         let due = self.pass(Moment(words.parse()?))?;
         said(self.alloc, due)
     }
@@ -177,9 +178,9 @@ impl<S: BuildHasher> Server<'_, S> {
         }
     }
 
-    fn respond(&mut self, response: &str) -> Result<String, Fail> {
+    fn respond(&mut self, response: &str) -> Result<String, Wrong> {
         let Some(asked) = &self.due else {
-            return Err(Fail::new("no deferred request is ready"));
+            return Err(Wrong::Because("no deferred request is ready"));
         };
         answerable_law();
         reveal(&asked.token);
@@ -192,7 +193,7 @@ impl<S: BuildHasher> Server<'_, S> {
         Ok(format!(in self.alloc; "{id}")?)
     }
 
-    fn ready(&mut self, words: &str) -> Result<String, Fail> {
+    fn ready(&mut self, words: &str) -> Result<String, Wrong> {
         let (at, to) = first(words);
         let may = self.may_notify(Moment(at.parse()?), endpoint_of(to)?)?;
         truth(self.alloc, may)
@@ -209,11 +210,11 @@ impl<S: BuildHasher> Server<'_, S> {
         Ok(may)
     }
 
-    fn notify(&mut self, words: &str) -> Result<String, Fail> {
+    fn notify(&mut self, words: &str) -> Result<String, Wrong> {
         let (token, response) = first(words);
         let token = token_of(self.alloc, token)?;
         let Some(to) = self.there else {
-            return Err(Fail::new("no notification can be sent"));
+            return Err(Wrong::Because("no notification can be sent"));
         };
         notifiable_law();
         reveal(&token);
@@ -226,11 +227,11 @@ impl<S: BuildHasher> Server<'_, S> {
         Ok(format!(in self.alloc; "{id}")?)
     }
 
-    fn notify_plain(&mut self, words: &str) -> Result<String, Fail> {
+    fn notify_plain(&mut self, words: &str) -> Result<String, Wrong> {
         let (token, response) = first(words);
         let token = token_of(self.alloc, token)?;
         let Some(to) = self.there else {
-            return Err(Fail::new("no notification can be sent"));
+            return Err(Wrong::Because("no notification can be sent"));
         };
         notifiable_law();
         reveal(&token);
@@ -243,7 +244,7 @@ impl<S: BuildHasher> Server<'_, S> {
         Ok(format!(in self.alloc; "{id}")?)
     }
 
-    fn unmatched(&self) -> Result<String, Fail> {
+    fn unmatched(&self) -> Result<String, Wrong> {
         let Some((from, Id(id))) = self.answerer.unmatched() else {
             return said(self.alloc, "nothing");
         };
@@ -251,7 +252,7 @@ impl<S: BuildHasher> Server<'_, S> {
         Ok(format!(in self.alloc; "{from} {id}")?)
     }
 
-    fn ended(&self) -> Result<String, Fail> {
+    fn ended(&self) -> Result<String, Wrong> {
         let Some(ended) = self.answerer.ended() else {
             return said(self.alloc, "nothing");
         };
@@ -261,7 +262,7 @@ impl<S: BuildHasher> Server<'_, S> {
         Ok(format!(in self.alloc; "{to} {token} {observe}")?)
     }
 
-    fn out(&mut self) -> Result<String, Fail> {
+    fn out(&mut self) -> Result<String, Wrong> {
         let alloc = self.alloc;
         datagram_text(alloc, &self.next_out())
     }
@@ -274,9 +275,9 @@ impl<S: BuildHasher> Server<'_, S> {
         self.answerer.next_out()
     }
 
-    fn undo(&mut self) -> Result<String, Fail> {
+    fn undo(&mut self) -> Result<String, Wrong> {
         if !self.undoable {
-            return Err(Fail::new("there is nothing to take back"));
+            return Err(Wrong::Because("there is nothing to take back"));
         }
         self.answerer.undo();
         self.undoable = false;
@@ -286,12 +287,12 @@ impl<S: BuildHasher> Server<'_, S> {
         said(self.alloc, "")
     }
 
-    fn clock(&self) -> Result<String, Fail> {
+    fn clock(&self) -> Result<String, Wrong> {
         let Moment(at) = self.answerer.clock();
         Ok(format!(in self.alloc; "{at}")?)
     }
 
-    fn hashed(&self) -> Result<String, Fail> {
+    fn hashed(&self) -> Result<String, Wrong> {
         let uses = self.uses.replace(0);
         truth(self.alloc, uses > 0)
     }

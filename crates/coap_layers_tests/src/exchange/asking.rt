@@ -4,7 +4,7 @@ ghost use Rattle.coap_types.specs.CoapOption.{options_of};
 ghost use Rattle.coap_exchange.specs.ShortRequests.{IsShort};
 
 use super::words::{
-    SERVER, at_port, datagram_text, endpoint_of, first, response_text, said, token_of, truth,
+    SERVER, at_port, datagram_text, endpoint_of, response_text, said, token_of, truth,
 };
 use super::{Side, run_script};
 use coap_exchange::{Ask, AskRefusal, Asker, Event, Turn, askable_law};
@@ -15,6 +15,7 @@ use std::alloc::{AllocError, Global};
 use std::cell::Cell;
 use std::hash::BuildHasher;
 use std::test::Fail;
+use test_scripts::{Script, Wrong, first};
 
 // The path `/t`.
 const T: &[Opt<'static>] = &[Opt {
@@ -39,7 +40,7 @@ pub(super) fn run_client<S: BuildHasher + Drop>(
     alloc: Global,
     hasher: S,
     uses: &Cell<u32>,
-    script: &str,
+    script: &Script<'_>,
 ) -> Result<(), Fail> {
     let mut client = Client {
         alloc,
@@ -51,7 +52,7 @@ pub(super) fn run_client<S: BuildHasher + Drop>(
 }
 
 impl<S: BuildHasher> Side for Client<'_, S> {
-    fn call(&mut self, verb: &str, words: &str) -> Result<String, Fail> {
+    fn call(&mut self, verb: &str, words: &str) -> Result<String, Wrong> {
         match verb {
             "ask" => self.ask(words),
             "cancel" => self.cancel(words),
@@ -63,19 +64,19 @@ impl<S: BuildHasher> Side for Client<'_, S> {
             "undo" => self.undo(),
             "clock" => self.clock(),
             "hashed" => self.hashed(),
-            _ => Err(Fail::new("no call")),
+            _ => Err(Wrong::Because("there is no such call")),
         }
     }
 }
 
 impl<S: BuildHasher> Client<'_, S> {
-    fn ask(&mut self, words: &str) -> Result<String, Fail> {
+    fn ask(&mut self, words: &str) -> Result<String, Wrong> {
         let (at, path) = first(words);
         let answer = self.get(Moment(at.parse()?), path, None);
         self.asked(answer)
     }
 
-    fn cancel(&mut self, words: &str) -> Result<String, Fail> {
+    fn cancel(&mut self, words: &str) -> Result<String, Wrong> {
         let (at, words) = first(words);
         let (path, token) = first(words);
         let token = token_of(self.alloc, token)?;
@@ -95,14 +96,14 @@ impl<S: BuildHasher> Client<'_, S> {
         self.asker.ask(now, &get, 0)
     }
 
-    fn asked(&self, answer: Result<Token, AskRefusal>) -> Result<String, Fail> {
+    fn asked(&self, answer: Result<Token, AskRefusal>) -> Result<String, Wrong> {
         match answer {
             Ok(token) => Ok(hex::encode(self.alloc, token.as_slice())?),
             Err(why) => Ok(format!(in self.alloc; "{why:?}")?),
         }
     }
 
-    fn receive(&mut self, words: &str) -> Result<String, Fail> {
+    fn receive(&mut self, words: &str) -> Result<String, Wrong> {
         let (at, words) = first(words);
         let (from, hex) = first(words);
         let bytes: Vec<u8> = hex::decode(self.alloc, hex)?;
@@ -122,7 +123,7 @@ impl<S: BuildHasher> Client<'_, S> {
         Ok(told)
     }
 
-    fn tick(&mut self, words: &str) -> Result<String, Fail> {
+    fn tick(&mut self, words: &str) -> Result<String, Wrong> {
         let turn = self.pass(Moment(words.parse()?))?;
         match turn {
             Turn::Idle => said(self.alloc, "idle"),
@@ -138,17 +139,17 @@ impl<S: BuildHasher> Client<'_, S> {
         Ok(turn)
     }
 
-    fn keep(&mut self, token: &str) -> Result<String, Fail> {
+    fn keep(&mut self, token: &str) -> Result<String, Wrong> {
         let token = token_of(self.alloc, token)?;
         truth(self.alloc, self.asker.keep(&token))
     }
 
-    fn release(&mut self, token: &str) -> Result<String, Fail> {
+    fn release(&mut self, token: &str) -> Result<String, Wrong> {
         let token = token_of(self.alloc, token)?;
         truth(self.alloc, self.asker.release(&token))
     }
 
-    fn out(&mut self) -> Result<String, Fail> {
+    fn out(&mut self) -> Result<String, Wrong> {
         datagram_text(self.alloc, &self.next_out())
     }
 
@@ -157,21 +158,21 @@ impl<S: BuildHasher> Client<'_, S> {
         self.asker.next_out()
     }
 
-    fn undo(&mut self) -> Result<String, Fail> {
+    fn undo(&mut self) -> Result<String, Wrong> {
         if !self.undoable {
-            return Err(Fail::new("there is nothing to take back"));
+            return Err(Wrong::Because("there is nothing to take back"));
         }
         self.asker.undo();
         self.undoable = false;
         said(self.alloc, "")
     }
 
-    fn clock(&self) -> Result<String, Fail> {
+    fn clock(&self) -> Result<String, Wrong> {
         let Moment(at) = self.asker.clock();
         Ok(format!(in self.alloc; "{at}")?)
     }
 
-    fn hashed(&self) -> Result<String, Fail> {
+    fn hashed(&self) -> Result<String, Wrong> {
         let uses = self.uses.replace(0);
         truth(self.alloc, uses > 0)
     }
@@ -189,14 +190,14 @@ fn path_options(path: &str) -> &'static [Opt<'static>]
 }
 
 // What was told, if anything.
-fn told_text(alloc: Global, told: Option<Event<'_>>) -> Result<String, Fail> {
+fn told_text(alloc: Global, told: Option<Event<'_>>) -> Result<String, Wrong> {
     match told {
         Some(event) => event_text(alloc, &event),
         None => said(alloc, "nothing"),
     }
 }
 
-fn event_text(alloc: Global, event: &Event<'_>) -> Result<String, Fail> {
+fn event_text(alloc: Global, event: &Event<'_>) -> Result<String, Wrong> {
     match event {
         Event::Answer(response) => response_text(alloc, "answer", response),
         Event::Notice(response) => response_text(alloc, "notice", response),

@@ -3,8 +3,12 @@ use super::asking::run_client;
 use std::cell::Cell;
 use std::hash::{BuildHasherDefault, FoldHasher};
 use std::test::*;
+use test_scripts::{Scripts, scripts_of};
 
-const SCRIPTS: &str = "
+const SCRIPTS: Scripts<'static> = Scripts {
+    module: module_path!(),
+    line: 11,
+    text: "
 == a_piggybacked_response_answers_its_request
 ask 0 /t -> 0000000000000000
 out -> S 48010000_0000000000000000_b174
@@ -195,11 +199,12 @@ receive 1 S 58450009_0000000000000000_b174 -> nothing
 receive 1 S 68450000_0000000000000000_b174 -> nothing
 out -> nothing
 receive 2 S 68450000_0000000000000000_ff6869 -> answer 2.05 6869
-";
+",
+};
 
 #[test]
 fn exchanges(rt: HostRuntime) -> Result<(), Fail> {
-    for script in SCRIPTS.split("\n== ").skip(1) {
+    for script in scripts_of(rt.alloc(), &SCRIPTS)?.iter() {
         let hasher = BuildHasherDefault::<FoldHasher>::new();
         run_client(rt.alloc(), hasher, &Cell::new(0), script)?;
     }

@@ -1,12 +1,15 @@
 //! Each side remembers messages by the hasher that it is handed.
 use super::answering::run_server;
 use super::asking::run_client;
-use super::find;
 use std::cell::Cell;
 use std::hash::{BuildHasher, FoldHasher, RandomState};
 use std::test::*;
+use test_scripts::{Scripts, find};
 
-const SCRIPTS: &str = "
+const SCRIPTS: Scripts<'static> = Scripts {
+    module: module_path!(),
+    line: 12,
+    text: "
 == a_response_is_told_once
 ask 0 / -> 0000000000000000
 out -> S 48010000_0000000000000000
@@ -56,7 +59,8 @@ out -> nothing
 hashed -> true
 hashed -> false
 times 1..21: incoming 247001 C 400100{2} -> request; hashed -> true
-";
+",
+};
 
 // Counts how many hashes are begun.
 #[derive(Clone, Copy)]
@@ -85,26 +89,26 @@ fn counting(uses: &Cell<u32>) -> Counts<'_> {
 
 #[test]
 fn a_response_is_told_once_with_random_keys(rt: HostRuntime) -> Result<(), Fail> {
-    let script = find(SCRIPTS, "a_response_is_told_once")?;
-    run_client(rt.alloc(), RandomState::new(&rt)?, &Cell::new(0), script)
+    let script = find(rt.alloc(), &SCRIPTS, "a_response_is_told_once")?;
+    run_client(rt.alloc(), RandomState::new(&rt)?, &Cell::new(0), &script)
 }
 
 #[test]
 fn a_request_is_handed_up_once_with_random_keys(rt: HostRuntime) -> Result<(), Fail> {
-    let script = find(SCRIPTS, "a_request_is_handed_up_once")?;
-    run_server(rt.alloc(), RandomState::new(&rt)?, &Cell::new(0), script)
+    let script = find(rt.alloc(), &SCRIPTS, "a_request_is_handed_up_once")?;
+    run_server(rt.alloc(), RandomState::new(&rt)?, &Cell::new(0), &script)
 }
 
 #[test]
 fn each_new_response_is_hashed(rt: HostRuntime) -> Result<(), Fail> {
-    let script = find(SCRIPTS, "each_new_response_is_hashed")?;
+    let script = find(rt.alloc(), &SCRIPTS, "each_new_response_is_hashed")?;
     let uses = Cell::new(0);
-    run_client(rt.alloc(), counting(&uses), &uses, script)
+    run_client(rt.alloc(), counting(&uses), &uses, &script)
 }
 
 #[test]
 fn each_new_request_is_hashed(rt: HostRuntime) -> Result<(), Fail> {
-    let script = find(SCRIPTS, "each_new_request_is_hashed")?;
+    let script = find(rt.alloc(), &SCRIPTS, "each_new_request_is_hashed")?;
     let uses = Cell::new(0);
-    run_server(rt.alloc(), counting(&uses), &uses, script)
+    run_server(rt.alloc(), counting(&uses), &uses, &script)
 }

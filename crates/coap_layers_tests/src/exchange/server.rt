@@ -3,8 +3,12 @@ use super::answering::run_server;
 use std::cell::Cell;
 use std::hash::{BuildHasherDefault, FoldHasher};
 use std::test::*;
+use test_scripts::{Scripts, scripts_of};
 
-const SCRIPTS: &str = "
+const SCRIPTS: Scripts<'static> = Scripts {
+    module: module_path!(),
+    line: 11,
+    text: "
 == a_request_is_answered
 incoming 0 C 48010000_0000000000000000_b174 -> request
 answer 2.05 hi
@@ -308,11 +312,12 @@ clock -> 1
 ready 1 C -> true
 notify 0000000000000000 2.05 observe hi -> 1
 out -> C 48450001_0000000000000000_60_ff6869
-";
+",
+};
 
 #[test]
 fn responses(rt: HostRuntime) -> Result<(), Fail> {
-    for script in SCRIPTS.split("\n== ").skip(1) {
+    for script in scripts_of(rt.alloc(), &SCRIPTS)?.iter() {
         let hasher = BuildHasherDefault::<FoldHasher>::new();
         run_server(rt.alloc(), hasher, &Cell::new(0), script)?;
     }

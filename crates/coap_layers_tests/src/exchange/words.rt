@@ -3,23 +3,10 @@ use coap_codec::View;
 use coap_layer::Datagram;
 use coap_types::{Endpoint, Token};
 use std::alloc::Global;
-use std::test::Fail;
+use test_scripts::Wrong;
 
 /// The port of the server.
 pub(super) const SERVER: u16 = 5_683;
-
-/// What stands before the first of these, and what stands behind it: nothing where there is none.
-pub(super) fn cut<'a>(text: &'a str, parted_by: &str) -> (&'a str, &'a str) {
-    match text.split_once(parted_by) {
-        Some(parts) => parts,
-        None => (text, ""),
-    }
-}
-
-/// The first word, and the others.
-pub(super) fn first(words: &str) -> (&str, &str) {
-    cut(words, " ")
-}
 
 /// The endpoint of this port of the local host.
 pub(super) fn at_port(port: u16) -> Endpoint {
@@ -30,13 +17,13 @@ pub(super) fn at_port(port: u16) -> Endpoint {
 }
 
 /// The endpoint that a word names.
-pub(super) fn endpoint_of(word: &str) -> Result<Endpoint, Fail> {
+pub(super) fn endpoint_of(word: &str) -> Result<Endpoint, Wrong> {
     match word {
         "S" => Ok(at_port(SERVER)),
         "X" => Ok(at_port(5_684)),
         "C" => Ok(at_port(40_001)),
         "D" => Ok(at_port(40_002)),
-        _ => Err(Fail::new("no endpoint")),
+        _ => Err(Wrong::Because("there is no such endpoint")),
     }
 }
 
@@ -55,21 +42,21 @@ pub(super) fn name_of(endpoint: Endpoint) -> &'static str {
 }
 
 /// The token of these bytes, in hex.
-pub(super) fn token_of(alloc: Global, hex: &str) -> Result<Token, Fail> {
+pub(super) fn token_of(alloc: Global, hex: &str) -> Result<Token, Wrong> {
     let bytes: Vec<u8> = hex::decode(alloc, hex)?;
     match Token::new(bytes.as_slice()) {
         Some(token) => Ok(token),
-        None => Err(Fail::new("a token has at most 8 bytes")),
+        None => Err(Wrong::Because("a token has at most 8 bytes")),
     }
 }
 
 /// This text.
-pub(super) fn said(alloc: Global, text: &str) -> Result<String, Fail> {
+pub(super) fn said(alloc: Global, text: &str) -> Result<String, Wrong> {
     Ok(String::from_str(alloc, text)?)
 }
 
 /// `true` or `false`.
-pub(super) fn truth(alloc: Global, is: bool) -> Result<String, Fail> {
+pub(super) fn truth(alloc: Global, is: bool) -> Result<String, Wrong> {
     said(alloc, if is { "true" } else { "false" })
 }
 
@@ -77,7 +64,7 @@ pub(super) fn truth(alloc: Global, is: bool) -> Result<String, Fail> {
 pub(super) fn datagram_text(
     alloc: Global,
     datagram: &Option<Datagram<Global>>,
-) -> Result<String, Fail> {
+) -> Result<String, Wrong> {
     let Some(datagram) = datagram else {
         return said(alloc, "nothing");
     };
@@ -91,7 +78,7 @@ pub(super) fn response_text(
     alloc: Global,
     told: &str,
     response: &View<'_>,
-) -> Result<String, Fail> {
+) -> Result<String, Wrong> {
     let code = response.code();
     if response.payload().is_empty() {
         return Ok(format!(in alloc; "{told} {code} -")?);
