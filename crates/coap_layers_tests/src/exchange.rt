@@ -83,12 +83,7 @@ fn run_line<T: Side>(alloc: Global, side: &mut T, line: &str) -> Result<(), Wron
     Ok(())
 }
 
-fn run_counted<T: Side>(
-    alloc: Global,
-    side: &mut T,
-    calls: &str,
-    count: u8,
-) -> Result<(), Wrong> {
+fn run_counted<T: Side>(alloc: Global, side: &mut T, calls: &str, count: u8) -> Result<(), Wrong> {
     let digits = format!(in alloc; "{count:02x}")?;
     let calls = calls.replace(alloc, "{2}", digits.as_str())?;
     for call in calls.as_str().split("; ") {
