@@ -6,7 +6,7 @@ use Rattle.coap_arguments.specs.declared.orders.AskOptions.{AskOptions}
 use Rattle.coap_arguments.specs.declared.orders.What.{What}
 use Rattle.coap_commands.specs.Asked.{IsWord}
 use Rattle.coap_commands.specs.Hosts.{IsServer}
-use Rattle.coap_commands.specs.Tasks.{Does, DoesAt, IsAsked, IsDiscovered, IsDiscovery, IsTask}
+use Rattle.coap_commands.specs.Tasks.{Does, DoneAt, IsAsked, IsDiscovered, IsDiscovery, IsTask}
 use Rattle.coap_commands.specs.Watches.{Again, IsNext, Watches, anew, first}
 use Rattle.coap_commands.specs.declared.asking.Task.{Task}
 use Rattle.coap_commands.specs.declared.asking.Task.TheVariants.{Discovery, Observation, Polling, Request, Watch}
@@ -16,15 +16,15 @@ use Rattle.coap_scripts.specs.declared.status.Stop.{Stop}
 
 -- a task that needs one link is done at the server that the link knows
 done_at : (Stands : Endpoint → Type 0) (server : Endpoint) (options : AskOptions) (word : ℕ) (task : Task) (s : Status)
-    → Stands server → DoesAt server options word task s → Does Stands options word task s
+    → Stands server → DoneAt server options word task s → Does Stands options word task s
 done_at Stands server options word (Request made) s stands h = (server, stands, h)
 done_at Stands server options word (Observation of) s stands h = (server, stands, h)
-done_at Stands server options word (Watch of again) s stands h = absurd h
+done_at Stands server options word (Watch of again) s stands h = absurd h.2
 done_at Stands server options word (Polling of every) s stands h = (server, stands, h)
 done_at Stands server options word (Discovery made) s stands h = (server, stands, h)
 
 pub done_there : (Stands : Endpoint → Type 0) (server : Endpoint) (options : AskOptions) (word : ℕ) (task : Task)
-    (ended : Result Status Stop) → Stands server → IfOk ended (DoesAt server options word task)
+    (ended : Result Status Stop) → Stands server → IfOk ended (DoneAt server options word task)
     → IfOk ended (Does Stands options word task)
 done_there Stands server options word task (Ok s) stands h = done_at Stands server options word task s stands h
 done_there Stands server options word task (Err stop) stands h = tt

@@ -1,9 +1,12 @@
 -- A server that commits each input to its journal is turned as one without: by what it is handed, and what is taken.
-use Rattle.std.proofs.Common.{◌≡◌, ◌≢◌, ◌⊎◌, ◌≤◌, ◌+◌, ◌^◌, ℕ, Bool, false, true, List, [], ◌∷◌, Option, Some, arith}
+use Rattle.std.proofs.Common.{◌≡◌, ◌≢◌, ◌⊎◌, ◌≤◌, ◌+◌, ◌^◌, ℕ, Bool, false, true, List, [], ◌∷◌, Some, arith}
 use Rattle.std.proofs.Common.{if◌then◌else◌}
-use Rattle.std.proofs.Common.{ap, inl, inr, refl, subst, sym, ◌∙◌, ◌++◌, ◌<◌, Err, IfOk, Ok, Result, get_or, length}
-use Rattle.std.proofs.Common.{take}
-use Rattle.std.proofs.lemmas.List.{take_more}
+use Rattle.std.proofs.Common.{ap, inl, inr, refl, subst, sym, ◌∙◌, ◌++◌, ◌<◌, Err, IfOk, Ok, OnOk}
+use Rattle.std.proofs.Common.{Option, Result, get_or, length}
+use Rattle.std.specs.Io.KnownBytes.{Appends}
+use Rattle.std.proofs.Common.{drop, take}
+use Rattle.std.proofs.lemmas.List.{drop_more, take-append-drop, take_more}
+use Rattle.coap_resource.specs.declared.refusal.StoreRefusal.{StoreRefusal}
 use Rattle.coap_types.specs.declared.endpoint.Endpoint.{Endpoint}
 use Rattle.coap_layer.specs.Trace as layer
 use Rattle.coap_journal.specs.Input.{Feed, Tick}
@@ -18,8 +21,14 @@ use Rattle.coap_server.specs.Led.{State, Step}
 use Rattle.coap_server.specs.Trace.{NextOut, Ticks}
 use Rattle.coap_server.specs.Trace.{Feeds as FedIn}
 use Rattle.coap_arguments.specs.declared.orders.Hold.{Hold}
-use Rattle.coap_commands.specs.Kept.{HoldsEach, HoldsMissing}
+use Rattle.coap_arguments.specs.declared.orders.ServeOptions.{ServeOptions}
+use Rattle.coap_commands.specs.Kept.{HoldsEach, HoldsMissing, IsGoneOn, IsRefusedMissing, IsSetMissing, RefusesAmong}
+use Rattle.coap_commands.specs.Kept.{RefusesMissing}
+use Rattle.coap_commands.specs.Printed.{refused_text, served_text}
 use Rattle.coap_commands.specs.Served.{FedFrom}
+use Rattle.coap_scripts.specs.declared.status.Status.{Status}
+use Rattle.coap_scripts.specs.declared.status.Status.TheVariants as status
+use Rattle.coap_scripts.specs.declared.status.Stop.{Stop}
 use Rattle.coap_commands.proofs.ServedCalls.{FedMost, fed_call, fed_here, fed_less, most_on, most_same, server_feeds}
 use Rattle.coap_commands.proofs.ServedCalls.{server_gives, server_ticks, turn_fed}
 
@@ -105,8 +114,47 @@ one_each at holds i x is lt old between new so one =
     (sym (take_more holds i x lt ∙ ap (λ y. take i holds ++ y ∷ []) (sym is)))
     (each_more at (take i holds) x old between new so one)
 
+pub one_among : (at : ℕ) (holds : List Hold) (i : ℕ) (x : Hold) → x ≡ get_or holds i x → i < length holds
+    → (why : StoreRefusal) (old between new : State) → HoldsEach at (take i holds) old between
+    → RefusesMissing at x.path x.body.items why between new → RefusesAmong at holds why old new
+one_among at holds i x is lt why old between new so one = (
+  take i holds,
+  x,
+  drop (i + 1) holds,
+  sym (take-append-drop i holds) ∙ ap (λ rest. take i holds ++ rest) (drop_more holds i x lt)
+      ∙ ap (λ y. take i holds ++ y ∷ drop (i + 1) holds) (sym is),
+  between,
+  so,
+  one,
+)
+
 -- ---- what an answer comes to
 
 pub if_ok : {X E : Type 0} {P Q : X → Type 0} (r : Result X E) → ((x : X) → P x → Q x) → IfOk r P → IfOk r Q
 if_ok (Ok x) on h = on x h
 if_ok (Err e) on h = tt
+
+pub no_answer : {X E : Type 0} (Q : X → Type 0) (r : Result X E) → IfOk r (λ _. ⊥) → IfOk r Q
+no_answer Q (Ok x) h = absurd h
+no_answer Q (Err e) h = tt
+
+pub nothing_done : {X E : Type 0} (Q : Type 0) (r : Result X E) → IfOk r (λ _. ⊥) → OnOk r Q
+nothing_done Q (Ok x) h = absurd h
+nothing_done Q (Err e) h = tt
+
+-- ---- a server that goes on
+
+module _ (before after : Option (List ℕ)) (count : ℕ) (options : ServeOptions) (at : ℕ) (start : State) where
+  pub gone_on : (set : State) (ended : Result Status Stop) → IsSetMissing at options start set
+      → IfOk ended (λ s. (s ≡ status.Done) × (last : State) × FedFrom count set last)
+      → OnOk ended (Appends before after (served_text count))
+      → IfOk ended (IsGoneOn before after count options at start)
+  gone_on set (Ok s) is h written = inr (h.0, set, is, h.1, h.2, written)
+  gone_on set (Err stop) is h written = tt
+
+  pub gone_refused : (why : StoreRefusal) (last : State) (ended : Result Status Stop)
+      → IsRefusedMissing at options why start last → IfOk ended (λ s. s ≡ status.Refused)
+      → OnOk ended (Appends before after (refused_text why))
+      → IfOk ended (IsGoneOn before after count options at start)
+  gone_refused why last (Ok s) is h written = inl (h, why, last, is, written)
+  gone_refused why last (Err stop) is h written = tt

@@ -3,6 +3,7 @@ pub mod CapturedPackets
 pub mod ChosenAddresses
 pub mod ObservedCalls
 pub mod PairCalls
+pub mod PairTexts
 pub mod PolledCalls
 pub mod ScriptCalls
 pub mod KeptCalls
@@ -10,5 +11,6 @@ pub mod ServedCalls
 pub mod SettingUpCalls
 pub mod Statuses
 pub mod TurnCalls
+pub mod WaitedTurns
 pub mod WatchedCalls
 pub mod WhatBecomes

@@ -1,5 +1,6 @@
 -- What a pair comes to, from the calls of its client to its status.
-use Rattle.std.proofs.Common.{◌≡◌, ◌++◌, ◌∷◌, ◌⊎◌, [], ℕ, List, Result, Ok, Err, IfOk, inl, inr, refl, subst, sym}
+use Rattle.std.proofs.Common.{◌≡◌, ◌++◌, ◌∷◌, ◌⊎◌, [], ℕ, List, Option, Result, Ok, Err, IfOk, inl, inr, refl, subst}
+use Rattle.std.proofs.Common.{sym}
 use Rattle.coap_types.specs.declared.endpoint.Endpoint.{Endpoint}
 use Rattle.coap_types.specs.declared.request.Method.TheVariants.{Get, Put}
 use Rattle.coap_types.specs.declared.szx.TheConstants.{MAX_SZX as max_szx}
@@ -17,7 +18,9 @@ use Rattle.coap_arguments.specs.declared.orders.WordChoice.{WordChoice}
 use Rattle.coap_commands.specs.Asked.{IsWord}
 use Rattle.coap_commands.specs.Asks.{AsksNothing, Turned, changed_status, takes_report}
 use Rattle.coap_commands.specs.Ends.{client_sizes}
-use Rattle.coap_commands.specs.Pairs.{CameBack, IsHanded, IsPaired, Pairs, got, not_got, not_put, paired_setup}
+use Rattle.coap_commands.specs.Pairs.{CameBack, IsHanded, IsPaired, Pairs, WritesBoth, got, not_got, not_put}
+use Rattle.coap_commands.specs.Pairs.{paired_setup}
+use Rattle.coap_commands.specs.Printed.{WritesPut}
 use Rattle.coap_scripts.specs.Script.{plain_request}
 use Rattle.coap_commands.specs.Statuses.{IsCarriedOut}
 use Rattle.coap_commands.specs.declared.calling.Outcome.{Outcome}
@@ -70,41 +73,48 @@ refused_handed now request answer why old new is led = λ server sizes w t befor
 
 -- ---- what the two requests come to
 
-abbrev pub PairsFrom : State → List (List ℕ) → List ℕ → Status → Type 0
-PairsFrom old path body s = (server : Endpoint) (sizes : Sizes) (w : Setup) → Led server sizes w [] old
-    → Pairs server sizes w path body s
+abbrev pub PairsFrom : (before after : Option (List ℕ)) → State → List (List ℕ) → List ℕ → Status → Type 0
+PairsFrom before after old path body s = (server : Endpoint) (sizes : Sizes) (w : Setup) → Led server sizes w [] old
+    → Pairs before after server sizes w path body s
 
-pub failed_pair : (path : List (List ℕ)) (body : List ℕ) (asked : Request) (put : Outcome) (old mid : State)
+pub failed_pair : (before after : Option (List ℕ)) (path : List (List ℕ)) (body : List ℕ) (asked : Request)
+    (put : Outcome) (old mid : State)
     → asked ≡ plain_request Put path body → Handed old asked mid put → changed_status put ≡ status.Refused
-    → PairsFrom old path body status.Refused
-failed_pair path body asked put old mid is handed failed = λ server sizes w led.
+    → WritesPut before after put → PairsFrom before after old path body status.Refused
+failed_pair before after path body asked put old mid is handed failed written = λ server sizes w led.
     let h = subst (λ (r : Request). Handed old r mid put) is handed server sizes w [] led in
-    not_put put h.0 mid h.1 failed h.2
+    not_put put h.0 mid h.1 failed h.2 written
 
-pub differing_pair : (path : List (List ℕ)) (body : List ℕ) (asked again : Request) (put second : Outcome)
+pub differing_pair : (before after : Option (List ℕ)) (path : List (List ℕ)) (body : List ℕ) (asked again : Request)
+    (put second : Outcome)
     (old mid new : State) → asked ≡ plain_request Put path body → again ≡ plain_request Get path []
     → Handed old asked mid put → changed_status put ≡ status.Done → Handed mid again new second
-    → (CameBack body second → ⊥) → PairsFrom old path body status.Refused
-differing_pair path body asked again put second old mid new is so handed done further other = λ server sizes w led.
+    → (CameBack body second → ⊥) → WritesBoth before after put second
+    → PairsFrom before after old path body status.Refused
+differing_pair before after path body asked again put second old mid new is so handed done further other written =
+    λ server sizes w led.
     let h = subst (λ (r : Request). Handed old r mid put) is handed server sizes w [] led in
     let k = subst (λ (r : Request). Handed mid r new second) so further server sizes w h.0 h.2 in
-    not_got put second h.0 k.0 new h.1 done k.1 other k.2
+    not_got put second h.0 k.0 new h.1 done k.1 other k.2 written
 
-pub equal_pair : (path : List (List ℕ)) (body : List ℕ) (asked again : Request) (put second : Outcome)
+pub equal_pair : (before after : Option (List ℕ)) (path : List (List ℕ)) (body : List ℕ) (asked again : Request)
+    (put second : Outcome)
     (old mid new : State) → asked ≡ plain_request Put path body → again ≡ plain_request Get path []
     → Handed old asked mid put → changed_status put ≡ status.Done → Handed mid again new second
-    → CameBack body second → PairsFrom old path body status.Done
-equal_pair path body asked again put second old mid new is so handed done further same = λ server sizes w led.
+    → CameBack body second → WritesBoth before after put second → PairsFrom before after old path body status.Done
+equal_pair before after path body asked again put second old mid new is so handed done further same written =
+    λ server sizes w led.
     let h = subst (λ (r : Request). Handed old r mid put) is handed server sizes w [] led in
     let k = subst (λ (r : Request). Handed mid r new second) so further server sizes w h.0 h.2 in
-    got put second h.0 k.0 new h.1 done k.1 same k.2
+    got put second h.0 k.0 new h.1 done k.1 same k.2 written
 
 -- it is carried out
-pub paired_carried : {server : Endpoint} {sizes : Sizes} {w : Setup} {path : List (List ℕ)} {body : List ℕ} {s : Status}
-    → Pairs server sizes w path body s → IsCarriedOut s
-paired_carried (not_put put calls s handed failed led) = inr refl
-paired_carried (not_got put second puts calls s handed done further other led) = inr refl
-paired_carried (got put second puts calls s handed done further same led) = inl refl
+pub paired_carried : {before after : Option (List ℕ)} {server : Endpoint} {sizes : Sizes} {w : Setup} {path : List
+    (List ℕ)} {body : List ℕ} {s : Status}
+    → Pairs before after server sizes w path body s → IsCarriedOut s
+paired_carried (not_put put calls s handed failed led written) = inr refl
+paired_carried (not_got put second puts calls s handed done further other led written) = inr refl
+paired_carried (got put second puts calls s handed done further same led written) = inl refl
 
 carried : (Is : Status → Type 0) (ended : Result Status Stop) → ((s : Status) → Is s → IsCarriedOut s) → IfOk ended Is
     → IfOk ended IsCarriedOut
@@ -113,36 +123,45 @@ carried Is (Err stop) is h = tt
 
 -- ---- by a client that began so
 
-pub pair_began : (own server : Endpoint) (szx limit word remembered : ℕ) (path : List (List ℕ)) (body : List ℕ)
+pub pair_began : (before after : Option (List ℕ)) (own server : Endpoint) (szx limit word remembered : ℕ)
+    (path : List (List ℕ)) (body : List ℕ)
     (client : State) (ended : Result Status Stop) → server ≡ own → szx ≡ max_szx
     → Led server (client_sizes szx limit) (paired_setup word remembered) [] client
-    → IfOk ended (PairsFrom client path body)
-    → IfOk ended (Pairs own (client_sizes max_szx limit) (paired_setup word remembered) path body)
-pair_began own server szx limit word remembered path body client (Ok s) there largest led pairs =
-    subst (λ (e : Endpoint). Pairs e (client_sizes max_szx limit) (paired_setup word remembered) path body s) there
-    (subst (λ (n : ℕ). Pairs server (client_sizes n limit) (paired_setup word remembered) path body s) largest
+    → IfOk ended (PairsFrom before after client path body)
+    → IfOk ended (Pairs before after own (client_sizes max_szx limit) (paired_setup word remembered) path body)
+pair_began before after own server szx limit word remembered path body client (Ok s) there largest led pairs =
+    subst (λ (e : Endpoint). Pairs before after e (client_sizes max_szx limit)
+    (paired_setup word remembered) path body s)
+    there
+    (subst (λ (n : ℕ). Pairs before after server (client_sizes n limit) (paired_setup word remembered) path body s)
+    largest
     (pairs server (client_sizes szx limit) (paired_setup word remembered) led))
-pair_began own server szx limit word remembered path body client (Err stop) there largest led pairs = tt
+pair_began before after own server szx limit word remembered path body client (Err stop) there largest led pairs = tt
 
-pub pair_ends : (own server : Endpoint) (szx limit word remembered : ℕ) (path : List (List ℕ)) (body : List ℕ)
+pub pair_ends : (before after : Option (List ℕ)) (own server : Endpoint) (szx limit word remembered : ℕ)
+    (path : List (List ℕ)) (body : List ℕ)
     (client : State) (ended : Result Status Stop) → server ≡ own → szx ≡ max_szx
     → Led server (client_sizes szx limit) (paired_setup word remembered) [] client
-    → IfOk ended (PairsFrom client path body)
+    → IfOk ended (PairsFrom before after client path body)
     → IfOk ended IsCarriedOut
-pair_ends own server szx limit word remembered path body client ended there largest led pairs =
-    carried (Pairs own (client_sizes max_szx limit) (paired_setup word remembered) path body) ended
+pair_ends before after own server szx limit word remembered path body client ended there largest led pairs =
+    carried (Pairs before after own (client_sizes max_szx limit) (paired_setup word remembered) path body) ended
     (λ s h. paired_carried h)
-    (pair_began own server szx limit word remembered path body client ended there largest led pairs)
+    (pair_began before after own server szx limit word remembered path body client ended there largest led pairs)
 
 -- of the words
-pub paired_by : (server : Endpoint) (word limit remembered : ℕ) (path : List (List ℕ)) (body text : List ℕ)
-    (choice : WordChoice) (ended : Result Status Stop) → IsWord choice word → body ≡ text
-    → IfOk ended (Pairs server (client_sizes max_szx limit) (paired_setup word remembered) path body)
-    → IfOk ended (IsPaired path text choice limit remembered)
-paired_by server word limit remembered path body text choice (Ok s) is_word same pairs = (
+pub paired_by : (before after : Option (List ℕ)) (server : Endpoint) (word limit remembered : ℕ) (path : List (List ℕ))
+    (body text : List ℕ)
+    (choice : WordChoice) (ended : Result Status Stop) → server.ip ≡ 127 ∷ 0 ∷ 0 ∷ 1 ∷ [] → IsWord choice word
+    → body ≡ text
+    → IfOk ended (Pairs before after server (client_sizes max_szx limit) (paired_setup word remembered) path body)
+    → IfOk ended (IsPaired before after path text choice limit remembered)
+paired_by before after server word limit remembered path body text choice (Ok s) at is_word same pairs = (
   server,
+  at,
   word,
   is_word,
-  subst (λ (b : List ℕ). Pairs server (client_sizes max_szx limit) (paired_setup word remembered) path b s) same pairs,
+  subst (λ (b : List ℕ). Pairs before after server (client_sizes max_szx limit) (paired_setup word remembered) path b s)
+      same pairs,
 )
-paired_by server word limit remembered path body text choice (Err stop) is_word same pairs = tt
+paired_by before after server word limit remembered path body text choice (Err stop) at is_word same pairs = tt

@@ -17,7 +17,8 @@ use Rattle.std.specs.declared.alloc.Global.{Global}
 use Rattle.coap_arguments.specs.declared.orders.AskOptions.{AskOptions}
 use Rattle.coap_commands.specs.Asks.{AsksNothing, Chain, Each, Turned, got_status, takes_report}
 use Rattle.coap_commands.specs.Polls.{AreReadings, Closes, Follows, Goes, HasCome, HasRead, IsLeft, IsNext, IsPending}
-use Rattle.coap_commands.specs.Polls.{IsThrough, Polls, Reading, Reads, calls_of, pending_after, read_status}
+use Rattle.coap_commands.specs.Polls.{AreWritten, IsThrough, Polls, Reading, Reads, WritesAs, calls_of, pending_after}
+use Rattle.coap_commands.specs.Polls.{read_status}
 use Rattle.coap_commands.specs.Waiting.{HasPassed}
 use Rattle.coap_commands.specs.declared.calling.Outcome.{Outcome}
 use Rattle.coap_commands.specs.declared.calling.Outcome.TheVariants.{GaveUp, Refused, Reported}
@@ -182,13 +183,15 @@ closed : (pending : Option CallId) (answer : Result ℕ CallRefusal) (more earli
 closed None answer more earlier h k = through_on answer more earlier h
 closed (Some id) answer more earlier h k = through_now answer id more earlier h k
 
-pub none_read : (give_up : Option ℕ) (every : ℕ) (request : Request) (now : ℕ) (s : State)
-    → IsNext give_up every request 0 now s s
-none_read give_up every request now s = ([], refl, tt, (tt, refl))
+pub none_read : (options : AskOptions) (every : ℕ) (request : Request) (now : ℕ) (s : State) (out : Option (List ℕ))
+    → IsNext options every request 0 now s s out out
+none_read options every request now s out = ([], refl, tt, (tt, refl), refl)
 
-module _ (give_up : Option ℕ) (every : ℕ) (request : Request) (count now : ℕ) (came : Outcome)
-    (pending : Option CallId) (old mid new : State) (before : IsNext give_up every request count now old mid)
-    (reads : Reads give_up request now came pending mid new)
+module _ (options : AskOptions) (every : ℕ) (request : Request) (count now : ℕ) (came : Outcome)
+    (pending : Option CallId) (old mid new : State) (out between after : Option (List ℕ))
+    (before : IsNext options every request count now old mid out between)
+    (reads : Reads options.give_up request now came pending mid new)
+    (written : WritesAs options.json options.hex between after came)
   where
     -- all calls, with others behind them
     all_calls : (calls : List Call) (last : State) → Chain new calls last
@@ -205,26 +208,31 @@ module _ (give_up : Option ℕ) (every : ℕ) (request : Request) (count now : �
     follows : Follows every before.0 reads.0.now
     follows = subst (Follows every before.0) (sym reads.1) before.2
 
+    -- what is written of it
+    written_on : WritesAs options.json options.hex between after reads.0.outcome
+    written_on = subst (WritesAs options.json options.hex between after) (sym reads.2) written
+
     -- one more
     pub read_on : (readings : List Reading) × (length readings ≡ count + 1) × (got_status came ≡ read_status readings)
-        × HasRead give_up every request readings old new
+        × HasRead options.give_up every request readings old new × AreWritten options readings out after
     read_on = (
       reads.0 ∷ before.0,
       omega (arith, before.1),
       ap got_status (sym reads.2),
       ((reads.3, follows, before.3.0), all_calls [] new refl),
+      (between, before.4, written_on),
     )
 
     -- .. and it was the last
     pub ends_by : (times : Option ℕ) (status : Status) → times ≡ Some (count + 1) → status ≡ got_status came
         → (readings : List Reading) × (times ≡ Some (length readings)) × (status ≡ read_status readings)
-        × (s : State) × HasRead give_up every request readings old s
+        × (s : State) × HasRead options.give_up every request readings old s × AreWritten options readings out after
     ends_by times status is done =
-        (read_on.0, is ∙ ap Some (sym read_on.1), done ∙ read_on.2, new, read_on.3)
+        (read_on.0, is ∙ ap Some (sym read_on.1), done ∙ read_on.2, new, read_on.3, read_on.4)
 
     -- .. and then the next may begin
     pub next_on : (next : ℕ) (last : State) → HasPassed every now next → Goes (Closes pending) new last
-        → IsNext give_up every request (count + 1) next old last
+        → IsNext options every request (count + 1) next old last out after
     next_on next last passed goes =
         let r = reads.0 in (
           record { now = r.now; answer = r.answer; later = goes.0 ++ r.later; outcome = r.outcome } ∷ before.0,
@@ -237,23 +245,25 @@ module _ (give_up : Option ℕ) (every : ℕ) (request : Request) (count now : �
             (
               (
                 each_join AsksNothing goes.0 r.later goes.1 reads.3.0,
-                come_on give_up r.answer goes.0 r.later r.outcome reads.3.1,
+                come_on options.give_up r.answer goes.0 r.later r.outcome reads.3.1,
               ),
               follows,
               before.3.0,
             ),
             all_calls goes.0 last goes.3,
           ),
+          (between, before.4, written_on),
         )
 
 -- ---- from the client's beginning
 
-pub polled_by : (server : Endpoint) (sizes : Sizes) (setup : Setup) (request : Request) (every : ℕ)
-    (options : AskOptions) (client : State) (ended : Result Status Stop) → Led server sizes setup [] client
+pub polled_by : (old new : Option (List ℕ)) (server : Endpoint) (sizes : Sizes) (setup : Setup) (request : Request)
+    (every : ℕ) (options : AskOptions) (client : State) (ended : Result Status Stop) → Led server sizes setup [] client
     → IfOk ended (λ status. (readings : List Reading) × (options.times ≡ Some (length readings))
-    × (status ≡ read_status readings) × (s : State) × HasRead options.give_up every request readings client s)
-    → IfOk ended (Polls server sizes setup request every options)
-polled_by server sizes setup request every options client (Ok status) led h =
+    × (status ≡ read_status readings) × (s : State) × HasRead options.give_up every request readings client s
+    × AreWritten options readings old new)
+    → IfOk ended (Polls old new server sizes setup request every options)
+polled_by old new server sizes setup request every options client (Ok status) led h =
     let read = h.4 in (
       h.0,
       read.0,
@@ -262,5 +272,6 @@ polled_by server sizes setup request every options client (Ok status) led h =
       h.3,
       subst (λ t. Led server sizes setup t h.3) (append-nil (calls_of request h.0))
           (led_on server sizes setup [] (calls_of request h.0) client h.3 led read.1),
+      h.5,
     )
-polled_by server sizes setup request every options client (Err stop) led h = tt
+polled_by old new server sizes setup request every options client (Err stop) led h = tt

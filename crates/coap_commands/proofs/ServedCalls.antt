@@ -1,10 +1,11 @@
 -- The turns of a server are made of calls of these kinds alone: datagrams are fed, time passes, and what is out is
 -- taken; of its tally, no more is fed than these calls feed.
 use Rattle.std.proofs.Common.{◌≡◌, ◌≤◌, ◌+◌, ℕ, Bool, true, false, List, [], ◌∷◌, ◌++◌, Option, Some, None, Result, Ok}
-use Rattle.std.proofs.Common.{Err, IfErr, IfOk}
+use Rattle.std.proofs.Common.{Err, IfErr, IfOk, OnOk}
 use Rattle.std.proofs.Common.{ap, inl, inr, refl, sym, subst, arith, if◌then◌else◌, nat_lt, ◌^◌, ◌-◌, ◌≢◌, length}
 use Rattle.std.specs.Borrow.{Bor}
 use Rattle.std.specs.Option.{IsSome}
+use Rattle.std.specs.Io.KnownBytes.{Appends}
 use Rattle.coap_types.specs.declared.endpoint.Endpoint.{Endpoint}
 use Rattle.coap_layer.specs.Trace as layer
 use Rattle.coap_layer.specs.Trace.{Answer}
@@ -17,11 +18,13 @@ use Rattle.coap_links.specs.Pumping.{IsFedOrLost, SendsAll}
 use Rattle.coap_links.specs.Turning.{Rests, Steps, Turns, fed, further, next_word, none, pumped}
 use Rattle.coap_links.specs.declared.driver.Pumped.{Pumped}
 use Rattle.coap_links.specs.declared.tally.Tally.{Tally}
+use Rattle.coap_resource.specs.declared.refusal.StoreRefusal.{StoreRefusal}
 use Rattle.coap_server.specs.Led.{State, Step}
 use Rattle.coap_server.specs.Trace.{Call, Handling, NextOut, Ticks}
 use Rattle.coap_server.specs.Trace.{Feeds as FedIn}
 use Rattle.coap_arguments.specs.declared.orders.ServeOptions.{ServeOptions}
 use Rattle.coap_commands.specs.Asked.{IsOrigin}
+use Rattle.coap_commands.specs.Printed.{bad_line_text, not_set_up_text, refused_text, served_text}
 use Rattle.coap_commands.specs.ScriptSettings.{AreOfScript, IsOfSettings}
 use Rattle.coap_commands.specs.declared.setting_up.NotSetUp.{NotSetUp}
 use Rattle.coap_commands.specs.declared.setting_up.NotSetUp.TheVariants as notSetUp
@@ -30,7 +33,7 @@ use Rattle.coap_commands.specs.Served.{AllTurning, FedFrom, IsServed, IsServedBy
 use Rattle.coap_commands.specs.Served.{not_set_up_status}
 use Rattle.coap_commands.specs.Serves.{Serves, Turning, nothing_fed}
 use Rattle.coap_commands.specs.Serves.{further as more, none as no_turn}
-use Rattle.coap_commands.specs.SettingUp.{IsServerAfter}
+use Rattle.coap_commands.specs.SettingUp.{IsRefusedAfter, IsServerAfter}
 use Rattle.coap_scripts.specs.Settings.{Setting}
 use Rattle.coap_scripts.specs.declared.status.Status.{Status}
 use Rattle.coap_scripts.specs.declared.status.Status.TheVariants as status
@@ -225,68 +228,82 @@ module _ {L : Type 0} (waiting : State → List layer.Packet) (sends : L → End
     served_from count word own first last l m (Err stop) is h = tt
 
 -- it serves as its words and its settings say
-pub served_by : (count : ℕ) (options : ServeOptions) (settings : List Setting) (origin : Origin) (first : State)
+pub served_by : (old new : Option (List ℕ)) (count : ℕ) (options : ServeOptions) (settings : List Setting)
+    (origin : Origin) (first : State)
     (ended : Result Status Stop) → IsServerAfter origin options settings first
     → IfOk ended (λ s. (s ≡ status.Done) × (end : State) × FedFrom count first end)
-    → IfOk ended (λ s. IsOrigin options.word origin → IsServedBy count options settings s)
-served_by count options settings origin first (Ok s) set_up h =
-    λ is_origin. inr (inr (h.0, origin, is_origin, first, set_up, h.1, h.2))
-served_by count options settings origin first (Err stop) set_up h = tt
+    → OnOk ended (Appends old new (served_text count))
+    → IfOk ended (λ s. IsOrigin options.word origin → IsServedBy old new count options settings s)
+served_by old new count options settings origin first (Ok s) set_up h written =
+    λ is_origin. inr (inr (h.0, origin, is_origin, first, set_up, h.1, h.2, written))
+served_by old new count options settings origin first (Err stop) set_up h written = tt
 
 -- .. or it isn't set up
-pub refused_by : (count : ℕ) (options : ServeOptions) (settings : List Setting) (origin : Origin)
-    (ended : Result Status Stop) → IfOk ended (λ s. s ≡ status.Refused)
-    → IfOk ended (λ s. IsOrigin options.word origin → IsServedBy count options settings s)
-refused_by count options settings origin (Ok s) h = λ is_origin. inl h
-refused_by count options settings origin (Err stop) h = tt
+refused_by : (old new : Option (List ℕ)) (count : ℕ) (options : ServeOptions) (settings : List Setting)
+    (origin : Origin)
+    (why : StoreRefusal) (ended : Result Status Stop)
+    → IsRefusedAfter origin options settings (notSetUp.Refused why) → IfOk ended (λ s. s ≡ status.Refused)
+    → OnOk ended (Appends old new (refused_text why))
+    → IfOk ended (λ s. IsOrigin options.word origin → IsServedBy old new count options settings s)
+refused_by old new count options settings origin why (Ok s) of h written =
+    λ is_origin. inl (h, (origin, is_origin, why, of, written))
+refused_by old new count options settings origin why (Err stop) of h written = tt
 
 some_settings : (n : ℕ) (settings : List Setting) → 1 ≤ n → n ≤ length settings → settings ≢ []
 some_settings n [] least most = absurd (omega (arith, least, most))
 some_settings n (s ∷ settings) least most = λ is. cc is
 
-pub bad_by : (count : ℕ) (options : ServeOptions) (settings : List Setting) (origin : Origin) (n : ℕ)
-    (ended : Result Status Stop) → 1 ≤ n → n ≤ length settings → IfOk ended (λ s. s ≡ status.Words)
-    → IfOk ended (λ s. IsOrigin options.word origin → IsServedBy count options settings s)
-bad_by count options settings origin n (Ok s) least most h =
-    λ is_origin. inr (inl (h, some_settings n settings least most))
-bad_by count options settings origin n (Err stop) least most h = tt
+bad_by : (old new : Option (List ℕ)) (count : ℕ) (options : ServeOptions) (settings : List Setting) (origin : Origin)
+    (n : ℕ) (ended : Result Status Stop) → 1 ≤ n → n ≤ length settings → IfOk ended (λ s. s ≡ status.Words)
+    → OnOk ended (Appends old new (bad_line_text n))
+    → IfOk ended (λ s. IsOrigin options.word origin → IsServedBy old new count options settings s)
+bad_by old new count options settings origin n (Ok s) least most h written =
+    λ is_origin. inr (inl (h, some_settings n settings least most, (n, written)))
+bad_by old new count options settings origin n (Err stop) least most h written = tt
 
 -- what holds of a refusal
 pub refused_is : {X E : Type 0} (Is : E → Type 0) (made : Result X E) (e : E) → made ≡ Err e → IfErr made Is → Is e
 refused_is Is made e is h = subst (λ (r : Result _ _). IfErr r Is) is h
 
 -- a server that isn't set up
-pub not_set_by : (count : ℕ) (options : ServeOptions) (settings : List Setting) (origin : Origin) (why : NotSetUp)
-    (ended : Result Status Stop) → IsOfSettings settings why → IfOk ended (λ s. s ≡ not_set_up_status why)
-    → IfOk ended (λ s. IsOrigin options.word origin → IsServedBy count options settings s)
-not_set_by count options settings origin (notSetUp.Refused refusal) ended of h =
-    refused_by count options settings origin ended h
-not_set_by count options settings origin (notSetUp.Line bad) ended of h =
-    bad_by count options settings origin bad.0 ended of.0 of.1 h
+pub not_set_by : (old new : Option (List ℕ)) (count : ℕ) (options : ServeOptions) (settings : List Setting)
+    (origin : Origin) (why : NotSetUp)
+    (ended : Result Status Stop) → IsOfSettings settings why → IsRefusedAfter origin options settings why
+    → IfOk ended (λ s. s ≡ not_set_up_status why) → OnOk ended (Appends old new (not_set_up_text why))
+    → IfOk ended (λ s. IsOrigin options.word origin → IsServedBy old new count options settings s)
+not_set_by old new count options settings origin (notSetUp.Refused refusal) ended of refused h written =
+    refused_by old new count options settings origin refusal ended refused h written
+not_set_by old new count options settings origin (notSetUp.Line bad) ended of refused h written =
+    bad_by old new count options settings origin bad.0 ended of.0 of.1 h written
 
 -- what holds of a refusal, whichever it is
 pub where_refused : {X E : Type 0} (P : Type 0) (made : Result X E) (e : E) → made ≡ Err e → IfErr made (λ _. P) → P
 where_refused P made e is h = subst (λ (r : Result _ _). IfErr r (λ _. P)) is h
 
 -- with the word that was chosen
-pub worded : (count : ℕ) (options : ServeOptions) (settings : List Setting) (origin : Origin) (ended : Result Status Stop)
+pub worded : (old new : Option (List ℕ)) (count : ℕ) (options : ServeOptions) (settings : List Setting)
+    (origin : Origin)
+    (ended : Result Status Stop)
     → IsOrigin options.word origin
-    → IfOk ended (λ s. IsOrigin options.word origin → IsServedBy count options settings s)
-    → IfOk ended (IsServedBy count options settings)
-worded count options settings origin (Ok s) is_origin h = h is_origin
-worded count options settings origin (Err stop) is_origin h = tt
+    → IfOk ended (λ s. IsOrigin options.word origin → IsServedBy old new count options settings s)
+    → IfOk ended (IsServedBy old new count options settings)
+worded old new count options settings origin (Ok s) is_origin h = h is_origin
+worded old new count options settings origin (Err stop) is_origin h = tt
 
 -- with the settings of the script that is named
-pub served_as : (count : ℕ) (options : ServeOptions) (script : Option (Bor (List ℕ))) (settings : List Setting)
-    (ended : Result Status Stop) → AreOfScript script settings → IfOk ended (IsServedBy count options settings)
-    → IfOk ended (IsServed count options script)
-served_as count options script settings (Ok s) of h = inr (settings, of, h)
-served_as count options script settings (Err stop) of h = tt
+pub served_as : (old new : Option (List ℕ)) (count : ℕ) (options : ServeOptions) (script : Option (Bor (List ℕ)))
+    (settings : List Setting)
+    (ended : Result Status Stop) → AreOfScript script settings → IfOk ended (IsServedBy old new count options settings)
+    → IfOk ended (IsServed old new count options script)
+served_as old new count options script settings (Ok s) of h = inr (settings, of, h)
+served_as old new count options script settings (Err stop) of h = tt
 
-pub bad_script : (count : ℕ) (options : ServeOptions) (script : Option (Bor (List ℕ))) (ended : Result Status Stop)
-    → IsSome script → IfOk ended (λ s. s ≡ status.Words) → IfOk ended (IsServed count options script)
-bad_script count options script (Ok s) some h = inl (h, some)
-bad_script count options script (Err stop) some h = tt
+pub bad_script : (old new : Option (List ℕ)) (count : ℕ) (options : ServeOptions) (script : Option (Bor (List ℕ)))
+    (ended : Result Status Stop)
+    → IsSome script → IfOk ended (λ s. s ≡ status.Words) → (number : ℕ)
+    → OnOk ended (Appends old new (bad_line_text number)) → IfOk ended (IsServed old new count options script)
+bad_script old new count options script (Ok s) some h number written = inl (h, some, (number, written))
+bad_script old new count options script (Err stop) some h number written = tt
 
 -- what was made is as each that is made
 pub made_is : {X E : Type 0} (Is : X → Type 0) (made : Result X E) (x : X) → made ≡ Ok x → IfOk made Is → Is x

@@ -144,10 +144,11 @@ wrong_answered words ended Hex wrong own (inr told) is = with_3 words wrong _ ow
 wrong_answered words ended Memory wrong own told is = with_4 wrong _ (ap number told)
 
 -- what is wrong is answered so
-pub answered : (words : List Text) (ended : Result Status Stop) → Ends words ended → (wrong : Wrong)
+pub answered : (old new : Option (List ℕ)) (words : List Text) (ended : Result Status Stop) → Ends old new words ended
+    → (wrong : Wrong)
     → IsWrong words wrong → IsAnswered wrong (number ended)
-answered words ended (inl h) wrong is = order_answered words h.0 wrong _ h.1 is
-answered words ended (inr h) wrong is = wrong_answered words ended h.0 wrong h.1 h.2 is
+answered old new words ended (inl h) wrong is = order_answered words h.0 wrong _ h.1 is
+answered old new words ended (inr h) wrong is = wrong_answered words ended h.0 wrong h.1 h.2 is
 
 carried_out : (ended : Result Status Stop) → IfOk ended IsCarriedOut → number ended ≡ 2 → ⊥
 carried_out (Ok s) (inl is) h = absurd (let n : 0 ≡ 2 = sym (ap status_number is) ∙ h in omega (arith, n))
@@ -270,19 +271,19 @@ left_carried (Ended (outcome.GaveUp seconds)) is_over s h = inr (cc h)
 does_carried : (Stands : Endpoint → Type 0) (options : AskOptions) (word : ℕ) (task : Task) (s : Status)
     → Does Stands options word task s → IsCarriedOut s
 does_carried Stands options word (tasks.Request made) s h =
-    let asks = h.2 in
+    let asks = h.2.2 in
     subst IsCarriedOut (sym asks.2) (after_carried (shown_request made).method asks.0)
 does_carried Stands options word (tasks.Observation of) s h =
-    let observes = h.2 in
+    let observes = h.2.2 in
     subst IsCarriedOut (sym observes.2) (observed_ends observes.0)
 does_carried Stands options word (tasks.Watch of again) s h =
     let followed = h.1.9 in
     left_carried h.1.4 followed.1 s followed.3
 does_carried Stands options word (tasks.Polling of every) s h =
-    let polls = h.2 in
+    let polls = h.2.2 in
     subst IsCarriedOut (sym polls.3) (read_ends polls.0)
 does_carried Stands options word (tasks.Discovery made) s h =
-    let discovers = h.2 in
+    let discovers = h.2.2 in
     links_carried discovers.0 s discovers.2
 
 asked_carried : (ended : Result Status Stop) (server : ServerSpec) (path : List (List ℕ)) (what : What)
@@ -295,19 +296,21 @@ discovered_carried : (ended : Result Status Stop) (server : ServerSpec) (options
 discovered_carried (Ok s) server options h = does_carried (IsServer server) options h.0 h.2 s h.4
 discovered_carried (Err stop) server options h = tt
 
-paired_done : (ended : Result Status Stop) (path : List (List ℕ)) (body : List ℕ) (word : WordChoice)
+paired_done : (old new : Option (List ℕ)) (ended : Result Status Stop) (path : List (List ℕ)) (body : List ℕ)
+    (word : WordChoice)
     (limit remembered : ℕ)
-    → IfOk ended (IsPaired path body word limit remembered) → IfOk ended IsCarriedOut
-paired_done (Ok s) path body word limit remembered h = paired_carried h.3
-paired_done (Err stop) path body word limit remembered h = tt
+    → IfOk ended (IsPaired old new path body word limit remembered) → IfOk ended IsCarriedOut
+paired_done old new (Ok s) path body word limit remembered h = paired_carried h.4
+paired_done old new (Err stop) path body word limit remembered h = tt
 
 -- a server that is set up, or is not, comes to 2 only where settings are there
-served_settings : (s : Status) (count : ℕ) (options : ServeOptions) (settings : List SettingSpec)
-    → IsServedBy count options settings s → status_number s ≡ 2 → settings ≢ []
-served_settings s count options settings (inl is) h =
-    absurd (let n : 1 ≡ 2 = sym (ap status_number is) ∙ h in omega (arith, n))
-served_settings s count options settings (inr (inl bad)) h = bad.1
-served_settings s count options settings (inr (inr done)) h =
+served_settings : (old new : Option (List ℕ)) (s : Status) (count : ℕ) (options : ServeOptions)
+    (settings : List SettingSpec)
+    → IsServedBy old new count options settings s → status_number s ≡ 2 → settings ≢ []
+served_settings old new s count options settings (inl is) h =
+    absurd (let n : 1 ≡ 2 = sym (ap status_number is.0) ∙ h in omega (arith, n))
+served_settings old new s count options settings (inr (inl bad)) h = bad.1
+served_settings old new s count options settings (inr (inr done)) h =
     absurd (let n : 0 ≡ 2 = sym (ap status_number done.0) ∙ h in omega (arith, n))
 
 -- .. and so only where a script is named
@@ -316,69 +319,75 @@ scripted : (script : Option (Bor (List ℕ))) (settings : List SettingSpec) → 
 scripted None settings none some = absurd (some none)
 scripted (Some name) settings of some = refl
 
-served_ends : (s : Status) (count : ℕ) (options : ServeOptions) (script : Option (Bor (List ℕ)))
-    → IsServed count options script s → status_number s ≡ 2 → IsSome script
-served_ends s count options script (inl bad) h = bad.1
-served_ends s count options script (inr (settings, of, served)) h =
-    scripted script settings of (served_settings s count options settings served h)
+served_ends : (old new : Option (List ℕ)) (s : Status) (count : ℕ) (options : ServeOptions)
+    (script : Option (Bor (List ℕ)))
+    → IsServed old new count options script s → status_number s ≡ 2 → IsSome script
+served_ends old new s count options script (inl bad) h = bad.1
+served_ends old new s count options script (inr (settings, of, served)) h =
+    scripted script settings of (served_settings old new s count options settings served h)
 
-served_done : (ended : Result Status Stop) (count : ℕ) (options : ServeOptions) (script : Option (Bor (List ℕ)))
-    → IfOk ended (IsServed count options script) → number ended ≡ 2 → IsSome script
-served_done (Ok s) count options script c h = served_ends s count options script c h
-served_done (Err stop.Failed) count options script c h = absurd (let n : 3 ≡ 2 = h in omega (arith, n))
-served_done (Err stop.Memory) count options script c h = absurd (let n : 4 ≡ 2 = h in omega (arith, n))
+served_done : (old new : Option (List ℕ)) (ended : Result Status Stop) (count : ℕ) (options : ServeOptions)
+    (script : Option (Bor (List ℕ)))
+    → IfOk ended (IsServed old new count options script) → number ended ≡ 2 → IsSome script
+served_done old new (Ok s) count options script c h = served_ends old new s count options script c h
+served_done old new (Err stop.Failed) count options script c h = absurd (let n : 3 ≡ 2 = h in omega (arith, n))
+served_done old new (Err stop.Memory) count options script c h = absurd (let n : 4 ≡ 2 = h in omega (arith, n))
 
 -- a server that goes on from a journal comes to no status of wrong words
-gone_ends : (s : Status) (count : ℕ) (options : ServeOptions) (at : ℕ) (start : State)
-    → IsGoneOn count options at start s → IsCarriedOut s
-gone_ends s count options at start (inl refused) = inr refused
-gone_ends s count options at start (inr done) = inl done.0
+gone_ends : (old new : Option (List ℕ)) (s : Status) (count : ℕ) (options : ServeOptions) (at : ℕ) (start : State)
+    → IsGoneOn old new count options at start s → IsCarriedOut s
+gone_ends old new s count options at start (inl refused) = inr refused.0
+gone_ends old new s count options at start (inr done) = inl done.0
 
-kept_ends : (s : Status) (count : ℕ) (options : ServeOptions) (journal : Journal)
-    → IsServedOn count options journal s → IsCarriedOut s
-kept_ends s count options journal (inl refused) = inr refused
-kept_ends s count options journal (inr served) = gone_ends s count options served.3 served.5 served.7
+kept_ends : (old new : Option (List ℕ)) (s : Status) (count : ℕ) (options : ServeOptions) (journal : Journal)
+    → IsServedOn old new count options journal s → IsCarriedOut s
+kept_ends old new s count options journal served = gone_ends old new s count options served.3 served.5 served.7
 
-kept_carried : (ended : Result Status Stop) (count : ℕ) (options : ServeOptions) (journal : Journal)
-    → IfOk ended (IsServedOn count options journal) → IfOk ended IsCarriedOut
-kept_carried (Ok s) count options journal c = kept_ends s count options journal c
-kept_carried (Err stop) count options journal c = tt
+kept_carried : (old new : Option (List ℕ)) (ended : Result Status Stop) (count : ℕ) (options : ServeOptions)
+    (journal : Journal)
+    → IfOk ended (IsServedOn old new count options journal) → IfOk ended IsCarriedOut
+kept_carried old new (Ok s) count options journal c = kept_ends old new s count options journal c
+kept_carried old new (Err stop) count options journal c = tt
 
-as_said : (ended : Result Status Stop) (count : ℕ) (options : ServeOptions) (script : Option (Bor (List ℕ)))
-    (journal : Option Journal) → IfOk ended (IsServedAsSaid count options script journal) → number ended ≡ 2
+as_said : (old new : Option (List ℕ)) (ended : Result Status Stop) (count : ℕ) (options : ServeOptions)
+    (script : Option (Bor (List ℕ)))
+    (journal : Option Journal) → IfOk ended (IsServedAsSaid old new count options script journal) → number ended ≡ 2
     → IsSome script
-as_said ended count options script None c h = served_done ended count options script c h
-as_said ended count options script (Some journal) c h =
-    absurd (carried_out ended (kept_carried ended count options journal c) h)
+as_said old new ended count options script None c h = served_done old new ended count options script c h
+as_said old new ended count options script (Some journal) c h =
+    absurd (carried_out ended (kept_carried old new ended count options journal c) h)
 
 version_done : (ended : Result Status Stop) → IfOk ended (λ s. s ≡ status.Done) → IfOk ended IsCarriedOut
 version_done (Ok s) is = inl is
 version_done (Err stop) is = tt
 
 -- an order that is carried out comes to 2 only where it reads a text
-text_only : (order : Order) (ended : Result Status Stop) → IfOk ended (CarriesOut order) → number ended ≡ 2
+text_only : (old new : Option (List ℕ)) (order : Order) (ended : Result Status Stop)
+    → IfOk ended (CarriesOut old new order) → number ended ≡ 2
     → ReadsText order
-text_only Version ended c h = absurd (carried_out ended (version_done ended c) h)
-text_only (Show datagram) ended c h = absurd (carried_out ended c h)
-text_only Dump ended c h = tt
-text_only (DumpCapture file chart) ended c h = tt
-text_only (Answer path body datagram) ended c h = absurd (carried_out ended c h)
-text_only (Pair path body word limit remembered) ended c h =
-    absurd (carried_out ended (paired_done ended path body.now word limit remembered c) h)
-text_only (Serve port count options script pcap journal) ended c h = as_said ended count options script journal c h
-text_only (Ask server path what options pcap) ended c h =
+text_only old new Version ended c h = absurd (carried_out ended (version_done ended c) h)
+text_only old new (Show datagram) ended c h = absurd (carried_out ended c h)
+text_only old new Dump ended c h = tt
+text_only old new (DumpCapture file chart) ended c h = tt
+text_only old new (Answer path body datagram) ended c h = absurd (carried_out ended c h)
+text_only old new (Pair path body word limit remembered) ended c h =
+    absurd (carried_out ended (paired_done old new ended path body.now word limit remembered c) h)
+text_only old new (Serve port count options script pcap journal) ended c h =
+    as_said old new ended count options script journal c h
+text_only old new (Ask server path what options pcap) ended c h =
     absurd (carried_out ended (asked_carried ended server path what options c) h)
-text_only (Discover server options pcap) ended c h =
+text_only old new (Discover server options pcap) ended c h =
     absurd (carried_out ended (discovered_carried ended server options c) h)
-text_only (Ping server options pcap) ended c h = absurd (carried_out ended c h)
-text_only (Sim file store plains remembered chart client server pcap) ended c h = tt
+text_only old new (Ping server options pcap) ended c h = absurd (carried_out ended c h)
+text_only old new (Sim file store plains remembered chart client server pcap) ended c h = tt
 
 -- 2 says that something is wrong in the words, or that they have a text read
-pub wrong_words : (words : List Text) (ended : Result Status Stop) → Ends words ended → number ended ≡ 2
+pub wrong_words : (old new : Option (List ℕ)) (words : List Text) (ended : Result Status Stop)
+    → Ends old new words ended → number ended ≡ 2
     → ((wrong : Wrong) × IsWrong words wrong × (wrong ≢ Memory))
     ⊎ ((order : Order) × AsksFor words order × ReadsText order)
-wrong_words words ended (inl e) h = inr (e.0, e.1, text_only e.0 ended e.2 h)
-wrong_words words ended (inr e) h = inl (of_words words ended e.0 e.1 e.2 h)
+wrong_words old new words ended (inl e) h = inr (e.0, e.1, text_only old new e.0 ended e.2 h)
+wrong_words old new words ended (inr e) h = inl (of_words words ended e.0 e.1 e.2 h)
 
 told_more : (ended : Result Status Stop) (wrong : Wrong) → IsTold wrong ended → number ended ≤ 1 → ⊥
 told_more ended (Words error) told h = absurd (let n : number ended ≡ 2 = ap number told in omega (arith, n, h))
@@ -402,13 +411,15 @@ told_more ended Hex (inr told) h = absurd (let n : number ended ≡ 3 = ap numbe
 told_more ended Memory told h = absurd (let n : number ended ≡ 4 = ap number told in omega (arith, n, h))
 
 -- 0 and 1 say that the words ask for an order, which was carried out
-carried_to : (order : Order) (ended : Result Status Stop) → IfOk ended (CarriesOut order) → number ended ≤ 1
-    → IsCarriedTo order (number ended)
-carried_to order (Ok s) c h = (s, refl, c)
-carried_to order (Err stop.Failed) c h = absurd (let n : 3 ≤ 1 = h in omega (arith, n))
-carried_to order (Err stop.Memory) c h = absurd (let n : 4 ≤ 1 = h in omega (arith, n))
+carried_to : (old new : Option (List ℕ)) (order : Order) (ended : Result Status Stop)
+    → IfOk ended (CarriesOut old new order) → number ended ≤ 1
+    → IsCarriedTo old new order (number ended)
+carried_to old new order (Ok s) c h = (s, refl, c)
+carried_to old new order (Err stop.Failed) c h = absurd (let n : 3 ≤ 1 = h in omega (arith, n))
+carried_to old new order (Err stop.Memory) c h = absurd (let n : 4 ≤ 1 = h in omega (arith, n))
 
-pub asked : (words : List Text) (ended : Result Status Stop) → Ends words ended → number ended ≤ 1
-    → (order : Order) × AsksFor words order × IsCarriedTo order (number ended)
-asked words ended (inl e) h = (e.0, e.1, carried_to e.0 ended e.2 h)
-asked words ended (inr e) h = absurd (told_more ended e.0 e.2 h)
+pub asked : (old new : Option (List ℕ)) (words : List Text) (ended : Result Status Stop) → Ends old new words ended
+    → number ended ≤ 1
+    → (order : Order) × AsksFor words order × IsCarriedTo old new order (number ended)
+asked old new words ended (inl e) h = (e.0, e.1, carried_to old new e.0 ended e.2 h)
+asked old new words ended (inr e) h = absurd (told_more ended e.0 e.2 h)

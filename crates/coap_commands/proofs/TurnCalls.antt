@@ -16,8 +16,7 @@ use Rattle.coap_links.specs.Pumping.{IsFedOrLost, SendsAll}
 use Rattle.coap_links.specs.Turning.{Rests, Steps, Turns, further, next_word, none, pumped}
 use Rattle.coap_links.specs.declared.driver.Pumped.{Pumped}
 use Rattle.coap_links.specs.declared.tally.Tally.{Tally}
-use Rattle.coap_commands.specs.Asks.{AsksNothing, Chain, Each, Turned}
-use Rattle.coap_commands.specs.Watches.{TurnsAt}
+use Rattle.coap_commands.specs.Asks.{AsksNothing, Chain, Each, Turned, TurnsAt}
 
 pub chain_join : (old mid new : State) (later earlier : List Call) → Chain old earlier mid → Chain mid later new
     → Chain old (later ++ earlier) new

@@ -9,11 +9,11 @@ use Rattle.coap_client.specs.Object.Shown.{shown_report}
 use Rattle.coap_client.specs.Trace.{Report, is_value}
 use Rattle.coap_client.specs.declared.client.report.Report as R
 use Rattle.coap_arguments.specs.declared.orders.AskOptions.{AskOptions}
-use Rattle.coap_commands.specs.Asks.{Turned, takes_report}
+use Rattle.coap_commands.specs.Asks.{Turned, TurnsAt, takes_report}
 use Rattle.coap_commands.specs.Observes.{IsOver}
 use Rattle.coap_commands.specs.Waiting.{HasPassed}
 use Rattle.coap_commands.specs.Watches.{Again, Follows, Goes, IsFollowed, IsLeft, IsNext, IsNoEnd, LastTurn, LeavesAt}
-use Rattle.coap_commands.specs.Watches.{MayCancel, TakesReport, TurnsAt, Watches, anew, further, heard_at, taken}
+use Rattle.coap_commands.specs.Watches.{TakesReport, Watches, anew, further, heard_at, taken}
 use Rattle.coap_commands.specs.Watches.{verdict}
 use Rattle.coap_commands.specs.declared.calling.Outcome.TheVariants.{GaveUp, Refused, Reported}
 use Rattle.coap_commands.specs.declared.watching.Heard.{Heard}
@@ -33,25 +33,25 @@ module _ (options : AskOptions) (again number : ℕ) (first : Heard) (s : State)
   -- so far it goes on, and this was heard
   abbrev pub Going : Heard → State → Type 0
   Going heard m =
-      Goes options first.since.0 number first.last.0 first.values s heard.values heard.last.0 m
+      Goes options again first.since.0 number first.last.0 first.values s heard.values heard.last.0 m
       × (heard.since ≡ first.since)
 
   module _ (heard after : Heard) (now : ℕ) (m t n : State) (going : Going heard m) (turned : Turned (TurnsAt now) m t)
     where
       -- a turn more
       pub turn_on : (o : State) → More number now heard after t n
-          → MayCancel options after.since.0 number now after.values n o → Going after o
-      turn_on o more may = (
+          → LeavesAt options again after.since.0 number after.values after.last.0 now n None o → Going after o
+      turn_on o more on = (
         further heard.values heard.last.0 m now more.0 n after.values after.last.0 o going.0 (t, turned, more.1) more.2
             more.3 more.4
-            (subst (λ (since : ℕ). MayCancel options since number now after.values n o)
-            (ap (λ i. i.0) (more.5 ∙ going.1)) may),
+            (subst (λ (since : ℕ). LeavesAt options again since number after.values after.last.0 now n None o)
+            (ap (λ i. i.0) (more.5 ∙ going.1)) on),
         more.5 ∙ going.1,
       )
 
       -- .. which is the last one
       last_turn : More number now heard after t n
-          → LastTurn options first.since.0 number first.last.0 first.values s after.values after.last.0 now n
+          → LastTurn options again first.since.0 number first.last.0 first.values s after.values after.last.0 now n
       last_turn more =
           (heard.values, heard.last.0, m, going.0, more.0, (t, turned, more.1), more.2, more.3, more.4)
 
@@ -82,7 +82,7 @@ module _ (options : AskOptions) (again number : ℕ) (first : Heard) (s : State)
 
 -- ---- in one turn
 
-valued : (r : Report) → is_value r ≡ true → taken (Some r) ≡ 1
+pub valued : (r : Report) → is_value r ≡ true → taken (Some r) ≡ 1
 valued r is = rw is
 
 heard_now : (now heard : ℕ) (r : Report) → is_value r ≡ true → heard_at now (Some r) heard ≡ now
@@ -104,7 +104,7 @@ more_value number before after now t n r step is same = (
 -- the observation is not left
 pub not_left : (options : AskOptions) (again since number values heard now : ℕ) (s t : State) (r : Option Left)
     → LeavesAt options again since number values heard now s r t → r ≡ None
-    → MayCancel options since number now values s t
+    → LeavesAt options again since number values heard now s None t
 not_left options again since number values heard now s t r h is =
     subst (λ (o : Option Left). LeavesAt options again since number values heard now s o t) is h
 

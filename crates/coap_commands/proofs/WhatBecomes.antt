@@ -9,8 +9,8 @@ use Rattle.coap_client.specs.Trace.{Call, Calls, Request}
 use Rattle.coap_client.specs.declared.client.report.CallId.{CallId}
 use Rattle.coap_client.specs.declared.refusals.CallRefusal.{CallRefusal}
 use Rattle.coap_client.proofs.Facts.EachCall.{led_client}
-use Rattle.coap_commands.specs.Asks.{Asks, AsksNothing, Becomes, Chain, Comes, status_after, takes_report}
-use Rattle.coap_commands.specs.JsonLines.{Tells, WritesOutcome}
+use Rattle.coap_commands.specs.Asks.{Becomes, Chain, Comes, status_after, takes_report}
+use Rattle.coap_commands.specs.JsonLines.{Tells, WritesRequest}
 use Rattle.coap_commands.specs.declared.calling.Outcome.{Outcome}
 use Rattle.coap_commands.specs.declared.calling.Outcome.TheVariants.{GaveUp, Refused, Reported}
 use Rattle.coap_scripts.specs.declared.status.Status.{Status}
@@ -24,23 +24,44 @@ module _ (server : Endpoint) (sizes : Sizes) (setup : Setup) where
   led_on t (c ∷ calls) old new led h =
       led_client server sizes setup (calls ++ t) c h.0 new (led_on t calls old h.0 led h.1) h.2
 
+  -- turns behind a call for the request, and one more
+  led_through : (first last earlier : List Call) (old waited turned : State) → Led server sizes setup first old
+      → Chain old earlier waited → Chain waited last turned → Led server sizes setup (last ++ (earlier ++ first)) turned
+  led_through first last earlier old waited turned led h k =
+      led_on (earlier ++ first) last waited turned (led_on first earlier old waited led h) k
+
   -- a request that was taken, and what its calls came to
   comes_becomes : (now : ℕ) (request : Request) (give_up : Option ℕ) (number : ℕ) (outcome : Outcome) (s : State)
       → Led server sizes setup (Calls now request (Ok number) ∷ []) s
-      → Comes AsksNothing give_up s number outcome → Becomes server sizes setup give_up request outcome
+      → Comes give_up now s number outcome → Becomes server sizes setup give_up request outcome
   comes_becomes now request give_up number (Refused why) s led h = absurd h
-  comes_becomes now request give_up number (Reported report) s led h = (
-    now,
-    number,
-    h.2.0,
-    h.1,
-    h.2.1,
-    led_client server sizes setup (h.2.0 ++ Calls now request (Ok number) ∷ [])
-        (takes_report number (shown_report report)) h.0 h.1 (led_on (Calls now request (Ok number) ∷ []) h.2.0 s h.0 led
-        h.2.2) h.3,
-  )
+  comes_becomes now request give_up number (Reported report) s led h =
+      let first : List Call = Calls now request (Ok number) ∷ [] in (
+        now,
+        number,
+        h.2,
+        h.4.0,
+        h.1.0,
+        h.5,
+        h.4.1,
+        h.1.1,
+        led_client server sizes setup (h.4.0 ++ (h.1.0 ++ first)) (takes_report number (shown_report report)) h.3 h.5
+            (led_through first h.4.0 h.1.0 s h.0 h.3 led h.1.2 h.4.2) h.6,
+      )
   comes_becomes now request give_up number (GaveUp seconds) s led h =
-      (h.0, now, number, h.2.0, h.1, h.2.1, led_on (Calls now request (Ok number) ∷ []) h.2.0 s h.1 led h.2.2)
+      let first : List Call = Calls now request (Ok number) ∷ [] in (
+        h.0,
+        now,
+        number,
+        h.3,
+        h.4,
+        h.6.0,
+        h.2.0,
+        h.5,
+        h.6.1,
+        h.2.1,
+        led_through first h.6.0 h.2.0 s h.1 h.5 led h.2.2 h.6.2,
+      )
 
   pub refused_becomes : (now : ℕ) (request : Request) (give_up : Option ℕ) (answer : Result CallId CallRefusal)
       (why : CallRefusal) (s : State) → answer ≡ Err why
@@ -57,7 +78,7 @@ pub taken_becomes : (Leads : Endpoint → Sizes → Setup → Type 0) (now : ℕ
     (answer : Result CallId CallRefusal) (id : CallId) (s : State) (ended : Result Outcome Stop) → answer ≡ Ok id
     → ((server : Endpoint) (sizes : Sizes) (w : Setup) → Leads server sizes w
     → Led server sizes w (Calls now request (number_of answer) ∷ []) s)
-    → IfOk ended (Comes AsksNothing give_up s id.0)
+    → IfOk ended (Comes give_up now s id.0)
     → IfOk ended (λ outcome. (server : Endpoint) (sizes : Sizes) (w : Setup) → Leads server sizes w
     → Becomes server sizes w give_up request outcome)
 taken_becomes Leads now request give_up answer id s (Ok outcome) is led h = λ server sizes w leads.
@@ -84,20 +105,12 @@ pub told_as : (Leads : Endpoint → Sizes → Setup → Type 0) (json : Bool) (b
     → ((server : Endpoint) (sizes : Sizes) (w : Setup) → Leads server sizes w
     → Becomes server sizes w give_up request outcome)
     → IfOk ended (λ s. s ≡ status_after request.method outcome)
-    → OnOk ended (WritesOutcome json before after outcome)
+    → OnOk ended (WritesRequest json request.method before after outcome)
     → IfOk ended (λ s. (server : Endpoint) (sizes : Sizes) (w : Setup) → Leads server sizes w
     → Tells json before after server sizes w give_up request s)
 told_as Leads json before after give_up request outcome (Ok s) becomes is written =
     λ server sizes w led. (outcome, becomes server sizes w led, is, written)
 told_as Leads json before after give_up request outcome (Err stop) becomes is written = tt
-
--- what is told of was asked
-pub asks_told : (json : Bool) (before after : Option (List ℕ)) (server : Endpoint) (sizes : Sizes) (setup : Setup)
-    (give_up : Option ℕ) (request : Request) (ended : Result Status Stop)
-    → IfOk ended (Tells json before after server sizes setup give_up request)
-    → IfOk ended (Asks server sizes setup give_up request)
-asks_told json before after server sizes setup give_up request (Ok s) h = (h.0, h.1, h.2)
-asks_told json before after server sizes setup give_up request (Err stop) h = tt
 
 -- by a client that began so
 pub began : (Leads : Endpoint → Sizes → Setup → Type 0) (Is : Endpoint → Sizes → Setup → Status → Type 0)

@@ -2,7 +2,8 @@
 use Rattle.std.specs.Prelude.{◌≡◌, ⊤, ℕ, Bool, true, false, List, [], Option, Some, None}
 use Rattle.coap_types.specs.declared.request.Method.{Method}
 use Rattle.coap_types.specs.declared.request.Method.TheVariants as method
-use Rattle.coap_resource.specs.Base.{IsBase}
+use Rattle.std.specs.Int.{from_le_bytes, w64}
+use Rattle.coap_resource.specs.Base.{IsBase, base_of_word}
 use Rattle.coap_client.specs.Trace.{Request}
 use Rattle.coap_arguments.specs.declared.orders.AskOptions.{AskOptions}
 use Rattle.coap_arguments.specs.declared.orders.Content.{Content}
@@ -18,10 +19,24 @@ abbrev pub IsWord : WordChoice → ℕ → Type 0
 IsWord (Given n) word = word ≡ n
 IsWord Random word = ⊤
 
+-- what random bytes are (`draws` says of a source which it may give), as a word: the first byte is the least
+abbrev pub IsRandom : (draws : List ℕ → Type 0) → ℕ → Type 0
+IsRandom draws word = (bytes : List ℕ) × draws bytes × (word ≡ from_le_bytes w64 bytes)
+
+-- .. where none is given
+abbrev pub IsDrawnWord : (draws : List ℕ → Type 0) → WordChoice → ℕ → Type 0
+IsDrawnWord draws (Given n) word = word ≡ n
+IsDrawnWord draws Random word = IsRandom draws word
+
 -- the version after which a server's versions begin: with a word that is given 0, as each time; else one that is drawn
 abbrev pub IsBaseOf : WordChoice → ℕ → Type 0
 IsBaseOf (Given n) base = base ≡ 0
 IsBaseOf Random base = IsBase base
+
+-- .. chosen by such a word
+abbrev pub IsDrawnBase : (draws : List ℕ → Type 0) → WordChoice → ℕ → Type 0
+IsDrawnBase draws (Given n) base = base ≡ 0
+IsDrawnBase draws Random base = (word : ℕ) × IsRandom draws word × (base ≡ base_of_word word)
 
 -- what a server begins with
 abbrev pub IsOrigin : WordChoice → Origin → Type 0

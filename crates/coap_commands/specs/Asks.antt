@@ -1,6 +1,6 @@
 -- What becomes of a request that a client is handed, and with which status a program ends that asks it (RFC 7252,
 -- section 5.2).
-use Rattle.std.specs.Prelude.{◌≡◌, ⊤, ℕ, Option, List, [], ◌∷◌, ◌++◌, Some, Ok, Err}
+use Rattle.std.specs.Prelude.{◌≡◌, ◌-◌, ⊤, ℕ, Option, List, [], ◌∷◌, ◌++◌, Some, Ok, Err}
 use Rattle.std.specs.declared.alloc.Global.{Global}
 use Rattle.coap_types.specs.declared.endpoint.Endpoint.{Endpoint}
 use Rattle.coap_types.specs.declared.request.Method.{Method}
@@ -12,6 +12,7 @@ use Rattle.coap_client.specs.Object.Shown.{shown_report}
 use Rattle.coap_client.specs.Trace.{Call, Calls, Feeds, NextOut, NextReport, Report, Request, Ticks}
 use Rattle.coap_client.specs.declared.client.report.Report as R
 use Rattle.coap_client.specs.declared.client.report.Report.TheVariants as report
+use Rattle.coap_commands.specs.Waiting.{HasLasted, HasPassed}
 use Rattle.coap_commands.specs.declared.calling.Outcome.{Outcome}
 use Rattle.coap_commands.specs.declared.calling.Outcome.TheVariants.{GaveUp, Refused, Reported}
 use Rattle.coap_scripts.specs.declared.status.Status.{Status}
@@ -42,29 +43,50 @@ Turned like old new = (calls : List Call) × Each like calls × Chain old calls 
 abbrev pub takes_report : ℕ → Report → Call
 takes_report number report = NextReport (Some (record { number = number; report = report }))
 
--- such calls lead to a report of this number, which is taken
-abbrev pub Reports : (Call → Type 0) → State → ℕ → Report → Type 0
-Reports like old number report = (turned : State) × (taken : State) × Turned like old turned
-    × Step turned (takes_report number report) taken
+-- a call that asks the client for nothing, in a turn at this moment
+abbrev pub TurnsAt : ℕ → Call → Type 0
+TurnsAt now (Feeds n from bytes word up settled event sent token kept) = n ≡ now
+TurnsAt now (Ticks n word below turn sent token kept answer) = n ≡ now
+TurnsAt now (NextOut answer) = ⊤
+TurnsAt now (NextReport answer) = ⊤
+TurnsAt now call = ⊥
 
--- such calls lead to this: a report of this number, which is taken; or that is given up, where so many seconds may pass
-abbrev pub Comes : (Call → Type 0) → Option ℕ → State → ℕ → Outcome → Type 0
-Comes like give_up old number (Refused why) = ⊥
-Comes like give_up old number (Reported report) = Reports like old number (shown_report report)
-Comes like give_up old number (GaveUp seconds) = (give_up ≡ Some seconds) × (turned : State) × Turned like old turned
+-- .. in a turn before as many seconds had passed since this moment as may pass
+abbrev pub TurnsInTime : Option ℕ → ℕ → Call → Type 0
+TurnsInTime give_up begin (Feeds n from bytes word up settled event sent token kept) =
+    HasLasted give_up (n - begin) → ⊥
+TurnsInTime give_up begin (Ticks n word below turn sent token kept answer) = HasLasted give_up (n - begin) → ⊥
+TurnsInTime give_up begin (NextOut answer) = ⊤
+TurnsInTime give_up begin (NextReport answer) = ⊤
+TurnsInTime give_up begin call = ⊥
+
+-- Turns in time, and then one more, lead to this: a report of this number, which is taken; or that is given up, as many
+-- seconds after this moment as may pass.
+abbrev pub Comes : Option ℕ → ℕ → State → ℕ → Outcome → Type 0
+Comes give_up begin old number (Refused why) = ⊥
+Comes give_up begin old number (Reported report) =
+    (waited : State) × Turned (TurnsInTime give_up begin) old waited
+    × (now : ℕ) × (turned : State) × Turned (TurnsAt now) waited turned
+    × (taken : State) × Step turned (takes_report number (shown_report report)) taken
+Comes give_up begin old number (GaveUp seconds) =
+    (give_up ≡ Some seconds) × (waited : State) × Turned (TurnsInTime give_up begin) old waited
+    × (now : ℕ) × HasPassed seconds begin now × (turned : State) × Turned (TurnsAt now) waited turned
 
 -- A client of this server began with this setup and these sizes. It was handed the request, and nothing else: it
 -- refused it; or it took it under a number, and then this was reported of that number; or nothing was, and it was given
--- up, where so many seconds may pass.
+-- up in the first turn after as many seconds as may pass.
 abbrev pub Becomes : Endpoint → (sizes : Sizes) → Setup → Option ℕ → Request → Outcome → Type 0
 Becomes server sizes setup give_up request (Refused why) =
     (now : ℕ) × (s : State) × Led server sizes setup (Calls now request (Err why) ∷ []) s
 Becomes server sizes setup give_up request (Reported report) =
-    (now : ℕ) × (number : ℕ) × (calls : List Call) × (s : State) × Each AsksNothing calls
-    × Led server sizes setup (takes_report number (shown_report report) ∷ calls ++ Calls now request (Ok number) ∷ []) s
+    (now number at : ℕ) × (last earlier : List Call) × (s : State)
+    × Each (TurnsAt at) last × Each (TurnsInTime give_up now) earlier
+    × Led server sizes setup
+    (takes_report number (shown_report report) ∷ (last ++ (earlier ++ (Calls now request (Ok number) ∷ [])))) s
 Becomes server sizes setup give_up request (GaveUp seconds) =
-    (give_up ≡ Some seconds) × (now : ℕ) × (number : ℕ) × (calls : List Call) × (s : State) × Each AsksNothing calls
-    × Led server sizes setup (calls ++ Calls now request (Ok number) ∷ []) s
+    (give_up ≡ Some seconds) × (now number at : ℕ) × HasPassed seconds now at × (last earlier : List Call) × (s : State)
+    × Each (TurnsAt at) last × Each (TurnsInTime give_up now) earlier
+    × Led server sizes setup (last ++ (earlier ++ (Calls now request (Ok number) ∷ []))) s
 
 -- done is a GET of which a body is reported
 abbrev pub got_report : R.Report Global → Status
@@ -91,9 +113,3 @@ status_after Get outcome = got_status outcome
 status_after Post outcome = changed_status outcome
 status_after Put outcome = changed_status outcome
 status_after Delete outcome = changed_status outcome
-
--- a client is asked this, and the status is that of what becomes of it
-abbrev pub Asks : Endpoint → (sizes : Sizes) → Setup → Option ℕ → Request → Status → Type 0
-Asks server sizes setup give_up request status =
-    (outcome : Outcome) × Becomes server sizes setup give_up request outcome
-    × (status ≡ status_after request.method outcome)

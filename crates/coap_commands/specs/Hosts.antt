@@ -1,10 +1,12 @@
 -- Where a server is that is asked, and by which endpoint a link knows it.
 use Rattle.std.specs.Prelude.{◌≡◌, ⊤, ℕ, Bool, true, false, List, [], ◌∷◌, Option, None, Some}
 use Rattle.std.specs.Net.Addr.{IsIpv4Mapped, ipv4_octets, ipv6_segments, low_octets}
-use Rattle.std.specs.Net.Socket.{v6_ip, v6_port, v6_scope_id}
+use Rattle.std.specs.Net.Addr.{IsLoopbackV4, IsLoopbackV6}
+use Rattle.std.specs.Net.Socket.{v4_ip, v4_port, v6_ip, v6_port, v6_scope_id}
 use Rattle.std.specs.declared.net.socket_addr.SocketAddr.{SocketAddr}
 use Rattle.std.specs.declared.net.socket_addr.SocketAddr.TheVariants.{V4, V6}
 use Rattle.coap_types.specs.declared.endpoint.Endpoint.{Endpoint}
+use Rattle.coap_links.specs.Bound.{IsBoundAt}
 use Rattle.coap_links.specs.Sockets.{is_of_this_network}
 use Rattle.coap_arguments.specs.declared.hosts.Address.{Address}
 use Rattle.coap_arguments.specs.declared.hosts.Address.TheVariants as address
@@ -64,3 +66,22 @@ Knows (peer.Six a) e = is_of_this_network e.ip ≡ true
 -- the endpoint stands for the server that the words ask
 abbrev pub IsServer : Server → Endpoint → Type 0
 IsServer server e = (there : Peer) × IsOfServer server there × Knows there e
+
+-- the peer at this socket address, which the system names
+abbrev pub IsOfSocket : SocketAddr → Peer → Type 0
+IsOfSocket (V4 a) there = IsAtFour (ipv4_octets (v4_ip a)) (v4_port a) there
+IsOfSocket (V6 a) there = IsOfAddress (address.Six (v6_ip a) (v6_scope_id a)) (v6_port a) there
+
+-- only the machine itself reaches this address (RFC 1122, section 3.2.1.3; RFC 4291, section 2.5.3)
+abbrev pub IsLoopback : Address → Type 0
+IsLoopback (address.Four ip) = IsLoopbackV4 ip
+IsLoopback (address.Six ip scope) = IsLoopbackV6 ip
+
+-- a link that is bound for such a peer is where this endpoint is: one over IPv6 is known by a name
+abbrev pub IsBoundThere : Peer → Endpoint → Type 0
+IsBoundThere (peer.Four endpoint) own = IsBoundAt endpoint own
+IsBoundThere (peer.Six a) own = is_of_this_network own.ip ≡ true
+
+-- .. for a server at this address and port
+abbrev pub IsBoundFor : Address → ℕ → Endpoint → Type 0
+IsBoundFor a port own = (there : Peer) × IsOfAddress a port there × IsBoundThere there own

@@ -1,5 +1,5 @@
 -- What is written where a program tells in JSON: an object a line (docs/PROTOCOL.md).
-use Rattle.std.specs.Prelude.{◌≡◌, ℕ, Bool, true, false, ⊤, List, Option}
+use Rattle.std.specs.Prelude.{◌≡◌, ◌-◌, ℕ, Bool, true, false, ⊤, List, Option, Some, None}
 use Rattle.std.specs.Io.KnownBytes.{Appends}
 use Rattle.json.specs.Json.{Json}
 use Rattle.coap_types.specs.declared.endpoint.Endpoint.{Endpoint}
@@ -9,9 +9,11 @@ use Rattle.coap_block.specs.Sizes.{Sizes}
 use Rattle.coap_client.specs.Object.Shown.{shown_report}
 use Rattle.coap_client.specs.Trace.{Request}
 use Rattle.coap_json.specs.Objects.{IsLineOf}
-use Rattle.coap_json.specs.OtherObjects.{applied_object, gave_up_object, refused_object}
+use Rattle.coap_json.specs.OtherObjects.{applied_object, gave_up_object, ping_object, refused_object}
 use Rattle.coap_json.specs.ReportObjects.{report_object}
+use Rattle.coap_json.specs.declared.others.PingEnd.TheVariants as ends
 use Rattle.coap_commands.specs.Asks.{Becomes, status_after}
+use Rattle.coap_commands.specs.Printed.{WritesInWords}
 use Rattle.coap_scripts.specs.declared.status.Status.{Status}
 use Rattle.coap_commands.specs.declared.calling.Outcome.{Outcome}
 use Rattle.coap_commands.specs.declared.calling.Outcome.TheVariants.{GaveUp, Refused, Reported}
@@ -31,14 +33,24 @@ abbrev pub WritesOutcome : Bool → (old new : Option (List ℕ)) → Outcome �
 WritesOutcome false old new outcome = ⊤
 WritesOutcome true old new outcome = (ms : ℕ) × WritesObject old new (outcome_object ms outcome)
 
+-- .. or in words
+abbrev pub WritesRequest : Bool → Method → (old new : Option (List ℕ)) → Outcome → Type 0
+WritesRequest true method old new outcome = WritesOutcome true old new outcome
+WritesRequest false method old new outcome = WritesInWords method old new outcome
+
 -- a client is asked this, the status is that of what becomes of it, and this is written
 abbrev pub Tells : Bool → (old new : Option (List ℕ)) → Endpoint → (sizes : Sizes) → Setup → Option ℕ → Request
     → Status → Type 0
 Tells json old new server sizes setup give_up request status =
     (outcome : Outcome) × Becomes server sizes setup give_up request outcome
-    × (status ≡ status_after request.method outcome) × WritesOutcome json old new outcome
+    × (status ≡ status_after request.method outcome) × WritesRequest json request.method old new outcome
 
 -- .. of a request that was applied: with its path in words
 abbrev pub WritesApplied : (old new : Option (List ℕ)) → ℕ → Method → ℕ → List ℕ → Type 0
 WritesApplied old new at method version body =
     (path : List ℕ) × WritesObject old new (applied_object at method path version body)
+
+-- .. of a ping that began at this moment: answered after so many milliseconds, or not until it was given up
+abbrev pub ping_end_object : (begin now : ℕ) → Option ℕ → Json
+ping_end_object begin now (Some ms) = ping_object now ends.Reset ms
+ping_end_object begin now None = ping_object now ends.Timeout (now - begin)

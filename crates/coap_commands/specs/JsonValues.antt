@@ -1,10 +1,11 @@
--- How the values of an observation are printed in JSON (docs/PROTOCOL.md): each by a line of its own, until it is over.
-use Rattle.std.specs.Prelude.{◌≡◌, ⊤, ℕ, Bool, true, false, List, Option, if◌then◌else◌}
+-- How the values of an observation are printed (docs/PROTOCOL.md): each by a line of its own, until it is over.
+use Rattle.std.specs.Prelude.{◌≡◌, ℕ, Bool, true, false, List, Option, if◌then◌else◌}
 use Rattle.coap_client.specs.Trace.{Report, is_value}
 use Rattle.coap_json.specs.ReportObjects.{report_object}
 use Rattle.coap_types.specs.declared.endpoint.Moment.{Moment}
 use Rattle.coap_arguments.specs.declared.orders.AskOptions.{AskOptions}
 use Rattle.coap_commands.specs.JsonLines.{WritesObject}
+use Rattle.coap_commands.specs.Printed.{WritesLine}
 use Rattle.coap_commands.specs.declared.observe.Form.{Form}
 use Rattle.coap_commands.specs.declared.observe.Form.TheVariants.{Bytes, Hex, Json}
 
@@ -19,6 +20,6 @@ WritesReport true true at old new report = new ≡ old
 WritesReport true false at old new report = WritesObject old new (report_object at report)
 
 abbrev pub WritesValue : Form → Bool → (old new : Option (List ℕ)) → Report → Type 0
-WritesValue Bytes is_over old new report = ⊤
-WritesValue Hex is_over old new report = ⊤
+WritesValue Bytes is_over old new report = WritesLine false is_over old new report
+WritesValue Hex is_over old new report = WritesLine true is_over old new report
 WritesValue (Json at) is_over old new report = WritesReport (is_value report) is_over at.0 old new report

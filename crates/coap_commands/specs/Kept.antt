@@ -1,7 +1,9 @@
 -- What a server comes to that goes on from a journal.
-use Rattle.std.specs.Prelude.{◌≡◌, ◌⊎◌, ℕ, List, [], ◌∷◌, Option, Some, None, Ok, codes}
+use Rattle.std.specs.Prelude.{◌≡◌, ◌⊎◌, ℕ, List, [], ◌∷◌, ◌++◌, Option, Some, None, Ok, Err, codes}
 use Rattle.std.specs.Borrow.{Bor}
+use Rattle.std.specs.Io.KnownBytes.{Appends}
 use Rattle.coap_resource.specs.Content.{Content, Held}
+use Rattle.coap_resource.specs.declared.refusal.StoreRefusal.{StoreRefusal}
 use Rattle.coap_server.specs.Led.{State, Step}
 use Rattle.coap_server.specs.Trace.{Gets, Sets}
 use Rattle.coap_arguments.specs.PathText.{IsPathText}
@@ -9,6 +11,7 @@ use Rattle.coap_arguments.specs.declared.orders.Hold.{Hold}
 use Rattle.coap_arguments.specs.declared.orders.Journal.{Journal}
 use Rattle.coap_arguments.specs.declared.orders.ServeOptions.{ServeOptions}
 use Rattle.coap_commands.specs.KeptWords.{IsKeepingBy, said_beside}
+use Rattle.coap_commands.specs.Printed.{refused_text, served_text}
 use Rattle.coap_commands.specs.Served.{FedFrom, IsServed}
 use Rattle.coap_kept.specs.Kept.{IsAlive}
 use Rattle.coap_kept.specs.declared.keep_words.Keeping.{Keeping}
@@ -33,24 +36,46 @@ HoldsEach at [] old new = new ≡ old
 HoldsEach at (hold ∷ holds) old new = (between : State) × HoldsMissing at hold.path hold.body.items old between
     × HoldsEach at holds between new
 
+-- nothing is held there, and the store refuses the text, for this reason
+abbrev pub RefusesMissing : ℕ → List (List ℕ) → List ℕ → StoreRefusal → State → State → Type 0
+RefusesMissing at path body why old new =
+    Step old (Gets path None) old
+    × (store : Content) × Step old (Sets at path (Some text_plain) body (Err why) store) new
+
+-- one of these is refused so, behind those before it
+abbrev pub RefusesAmong : ℕ → List Hold → StoreRefusal → State → State → Type 0
+RefusesAmong at holds why old new =
+    (held : List Hold) × (hold : Hold) × (rest : List Hold) × (holds ≡ held ++ hold ∷ rest) × (between : State)
+    × HoldsEach at held old between × RefusesMissing at hold.path hold.body.items why between new
+
 -- .. with the text of a temperature, and what the words name
 abbrev pub IsSetMissing : ℕ → ServeOptions → State → State → Type 0
 IsSetMissing at options old new = (path : List (List ℕ)) × IsPathText (codes "temperature") path × (between : State)
     × HoldsMissing at path (codes "22.3 C") old between × HoldsEach at options.holds.items between new
 
--- a server that goes on so is turned, and that is done; or it doesn't hold what the words name
-abbrev pub IsGoneOn : ℕ → ServeOptions → ℕ → State → Status → Type 0
-IsGoneOn count options at start s = (s ≡ status.Refused)
+-- .. where the store refuses one of these
+abbrev pub IsRefusedMissing : ℕ → ServeOptions → StoreRefusal → State → State → Type 0
+IsRefusedMissing at options why old new = (path : List (List ℕ)) × IsPathText (codes "temperature") path
+    × (RefusesMissing at path (codes "22.3 C") why old new ⊎ ((between : State)
+    × HoldsMissing at path (codes "22.3 C") old between × RefusesAmong at options.holds.items why between new))
+
+-- a server that goes on so is turned, and that is done; or its store refuses what the words name; and that is written
+-- behind what a writer has
+abbrev pub IsGoneOn : (old new : Option (List ℕ)) → ℕ → ServeOptions → ℕ → State → Status → Type 0
+IsGoneOn old new count options at start s =
+    ((s ≡ status.Refused) × (why : StoreRefusal) × (last : State) × IsRefusedMissing at options why start last
+    × Appends old new (refused_text why))
     ⊎ ((s ≡ status.Done) × (set : State) × IsSetMissing at options start set × (last : State)
-    × FedFrom count set last)
+    × FedFrom count set last × Appends old new (served_text count))
 
 -- .. and it is the one of a journal, of which the words say this
-abbrev pub IsServedOn : ℕ → ServeOptions → Journal → Status → Type 0
-IsServedOn count options journal s = (s ≡ status.Refused)
-    ⊎ ((keeping : Keeping) × IsKeepingBy options (said_beside journal) keeping × (silent : Silences) × (first : ℕ)
+abbrev pub IsServedOn : (old new : Option (List ℕ)) → ℕ → ServeOptions → Journal → Status → Type 0
+IsServedOn old new count options journal s =
+    (keeping : Keeping) × IsKeepingBy options (said_beside journal) keeping × (silent : Silences) × (first : ℕ)
     × (bytes : List ℕ) × (start : State) × IsAlive keeping silent first bytes start
-    × IsGoneOn count options first start s)
+    × IsGoneOn old new count options first start s
 
-abbrev pub IsServedAsSaid : ℕ → ServeOptions → Option (Bor (List ℕ)) → Option Journal → Status → Type 0
-IsServedAsSaid count options script None s = IsServed count options script s
-IsServedAsSaid count options script (Some journal) s = IsServedOn count options journal s
+abbrev pub IsServedAsSaid : (old new : Option (List ℕ)) → ℕ → ServeOptions → Option (Bor (List ℕ)) → Option Journal
+    → Status → Type 0
+IsServedAsSaid old new count options script None s = IsServed old new count options script s
+IsServedAsSaid old new count options script (Some journal) s = IsServedOn old new count options journal s

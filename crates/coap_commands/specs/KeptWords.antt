@@ -8,7 +8,7 @@ use Rattle.coap_arguments.specs.declared.orders.Journal.{Journal}
 use Rattle.coap_arguments.specs.declared.orders.ServeOptions.{ServeOptions}
 use Rattle.coap_arguments.specs.declared.orders.WordChoice.{WordChoice}
 use Rattle.coap_arguments.specs.declared.orders.WordChoice.TheVariants.{Given, Random}
-use Rattle.coap_commands.specs.Asked.{IsBaseOf, IsWord}
+use Rattle.coap_commands.specs.Asked.{IsBaseOf, IsDrawnBase, IsDrawnWord, IsRandom, IsWord}
 use Rattle.coap_commands.specs.declared.journal_words.Says.{Says}
 use Rattle.coap_journal.specs.Input.{spelled}
 use Rattle.coap_journal.specs.Input as input
@@ -78,6 +78,14 @@ pub record IsDrawnBy (options : ServeOptions) (says : Says) (beginning : Beginni
   pub remembered : beginning.configuration.remembered ≡ options.remembered
   pub szx : beginning.configuration.szx ≡ max_szx
   pub changes : beginning.configuration.changes ≡ max_changes
+
+-- .. where that is drawn (`draws` says of a source which bytes it may give)
+pub record IsDrawnFrom (draws : List ℕ → Type 0) (options : ServeOptions) (says : Says) (beginning : Beginning) : Type 0
+  where
+    pub word : IsDrawnWord draws (choice_if says.word options.word) beginning.seed.word
+    pub key0 : IsRandom draws beginning.seed.key0
+    pub key1 : IsRandom draws beginning.seed.key1
+    pub base : IsDrawnBase draws (base_choice says.renews (choice_if says.word options.word)) beginning.base
 
 -- what the program says of the journal is what the words say
 pub record IsKeepingBy (options : ServeOptions) (says : Says) (keeping : Keeping) : Type 0 where

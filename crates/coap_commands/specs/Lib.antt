@@ -5,8 +5,10 @@ pub mod Captured
 pub mod Capturing
 pub mod Colours
 pub mod Discovers
+pub mod Drawn
 pub mod Dumps
 pub mod Ends
+pub mod Freshness
 pub mod Hosts
 pub mod JsonLines
 pub mod JsonValues
@@ -16,6 +18,7 @@ pub mod Observes
 pub mod Pairs
 pub mod Pinged
 pub mod Polls
+pub mod Printed
 pub mod Progress
 pub mod ScriptSettings
 pub mod Served

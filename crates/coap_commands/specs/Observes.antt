@@ -35,6 +35,11 @@ IsLate (Some seconds) begin now = HasPassed seconds begin now
 abbrev pub IsOver : AskOptions → ℕ → ℕ → ℕ → Type 0
 IsOver options begin values now = HasAll options.times values ⊎ IsLate options.seconds begin now
 
+-- no value was taken, and as many seconds have passed as may pass without one
+abbrev pub HasGivenUp : AskOptions → (begin values now : ℕ) → Type 0
+HasGivenUp options begin values now =
+    (seconds : ℕ) × (options.give_up ≡ Some seconds) × (values ≡ 0) × HasPassed seconds begin now
+
 -- how many values are taken
 abbrev pub value_of : Option Reported → ℕ
 value_of None = 0

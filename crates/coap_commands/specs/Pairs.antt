@@ -1,5 +1,5 @@
 -- What a pair comes to: its client puts a body at a path, and gets what is there then (RFC 7252, section 5.8).
-use Rattle.std.specs.Prelude.{◌≡◌, ℕ, List, [], ◌∷◌, ◌++◌, Ok, Err}
+use Rattle.std.specs.Prelude.{◌≡◌, ℕ, List, [], ◌∷◌, ◌++◌, Ok, Err, Option}
 use Rattle.std.specs.declared.alloc.Global.{Global}
 use Rattle.coap_types.specs.declared.endpoint.Endpoint.{Endpoint}
 use Rattle.coap_types.specs.declared.request.Method.TheVariants.{Get, Put}
@@ -15,6 +15,7 @@ use Rattle.coap_arguments.specs.declared.orders.WordChoice.{WordChoice}
 use Rattle.coap_commands.specs.Asked.{IsWord}
 use Rattle.coap_commands.specs.Asks.{AsksNothing, Each, changed_status, takes_report}
 use Rattle.coap_commands.specs.Ends.{client_sizes}
+use Rattle.coap_commands.specs.Printed.{WritesGet, WritesPut}
 use Rattle.coap_scripts.specs.Script.{plain_request}
 use Rattle.coap_commands.specs.declared.calling.Outcome.{Outcome}
 use Rattle.coap_commands.specs.declared.calling.Outcome.TheVariants.{GaveUp, Refused, Reported}
@@ -41,29 +42,37 @@ CameBack body (Refused why) = ⊥
 CameBack body (Reported report) = Brings body report
 CameBack body (GaveUp seconds) = ⊥
 
+-- what became of the PUT is written behind what a writer has, and then what became of the GET, and nothing else
+abbrev pub WritesBoth : (old new : Option (List ℕ)) → Outcome → Outcome → Type 0
+WritesBoth old new put second =
+    (between : Option (List ℕ)) × WritesPut old between put × WritesGet between new second
+
 -- A client of this server began with this setup and these sizes. It was handed a PUT of the body at the path; where
--- success is reported of it, a GET of the path; and nothing else. Done is a pair to which the body came back.
-pub data Pairs (server : Endpoint) (sizes : Sizes) (setup : Setup) (path : List (List ℕ)) (body : List ℕ) : Status
-    → Type 0
-  where
-    not_put : (put : Outcome) (calls : List Call) (s : State) → IsHanded [] (plain_request Put path body) put calls
-        → changed_status put ≡ status.Refused → Led server sizes setup calls s
-        → Pairs server sizes setup path body status.Refused
-    not_got : (put got : Outcome) (puts calls : List Call) (s : State)
-        → IsHanded [] (plain_request Put path body) put puts
-        → changed_status put ≡ status.Done → IsHanded puts (plain_request Get path []) got calls
-        → (CameBack body got → ⊥)
-        → Led server sizes setup calls s → Pairs server sizes setup path body status.Refused
-    got : (put got : Outcome) (puts calls : List Call) (s : State) → IsHanded [] (plain_request Put path body) put puts
-        → changed_status put ≡ status.Done → IsHanded puts (plain_request Get path []) got calls → CameBack body got
-        → Led server sizes setup calls s → Pairs server sizes setup path body status.Done
+-- success is reported of it, a GET of the path; and nothing else. What became of them is written. Done is a pair to
+-- which the body came back.
+pub data Pairs (old new : Option (List ℕ)) (server : Endpoint) (sizes : Sizes) (setup : Setup) (path : List (List ℕ))
+    (body : List ℕ)
+    : Status → Type 0 where
+  not_put : (put : Outcome) (calls : List Call) (s : State) → IsHanded [] (plain_request Put path body) put calls
+      → changed_status put ≡ status.Refused → Led server sizes setup calls s → WritesPut old new put
+      → Pairs old new server sizes setup path body status.Refused
+  not_got : (put got : Outcome) (puts calls : List Call) (s : State)
+      → IsHanded [] (plain_request Put path body) put puts
+      → changed_status put ≡ status.Done → IsHanded puts (plain_request Get path []) got calls
+      → (CameBack body got → ⊥) → Led server sizes setup calls s → WritesBoth old new put got
+      → Pairs old new server sizes setup path body status.Refused
+  got : (put got : Outcome) (puts calls : List Call) (s : State) → IsHanded [] (plain_request Put path body) put puts
+      → changed_status put ≡ status.Done → IsHanded puts (plain_request Get path []) got calls → CameBack body got
+      → Led server sizes setup calls s → WritesBoth old new put got
+      → Pairs old new server sizes setup path body status.Done
 
 -- with a word that is chosen, and as many messages remembered
 abbrev pub paired_setup : ℕ → ℕ → Setup
 paired_setup word remembered = record { word = word; remembered = remembered }
 
--- a client with the largest blocks and this limit, of a server that may have any address
-abbrev pub IsPaired : List (List ℕ) → List ℕ → WordChoice → (limit remembered : ℕ) → Status → Type 0
-IsPaired path body choice limit remembered s =
-    (server : Endpoint) × (word : ℕ) × IsWord choice word
-    × Pairs server (client_sizes max_szx limit) (paired_setup word remembered) path body s
+-- a client with the largest blocks and this limit, of a server at 127.0.0.1 (RFC 1122, section 3.2.1.3), at some port
+abbrev pub IsPaired : (old new : Option (List ℕ)) → List (List ℕ) → List ℕ → WordChoice → (limit remembered : ℕ)
+    → Status → Type 0
+IsPaired old new path body choice limit remembered s =
+    (server : Endpoint) × (server.ip ≡ 127 ∷ 0 ∷ 0 ∷ 1 ∷ []) × (word : ℕ) × IsWord choice word
+    × Pairs old new server (client_sizes max_szx limit) (paired_setup word remembered) path body s

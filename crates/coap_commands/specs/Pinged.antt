@@ -1,7 +1,9 @@
 -- How pings go over a link, and which answers they have (RFC 7252, sections 4.2 and 4.3).
 use Rattle.std.specs.Prelude.{◌≡◌, ◌<◌, ◌≤◌, ◌⊎◌, ◌↔◌, ◌+◌, ◌-◌, ◌%◌, ◌^◌, ℕ, Bool, true, false, List, Option, None}
 use Rattle.std.specs.Prelude.{Some, is_some}
+use Rattle.std.specs.Option.{unwrap_or}
 use Rattle.coap_types.specs.declared.endpoint.Endpoint.{Endpoint}
+use Rattle.coap_arguments.specs.declared.orders.PingOptions.{PingOptions}
 use Rattle.coap_layer.specs.Machine.State.{is_copy_due}
 use Rattle.coap_layer.specs.Words.{Open}
 use Rattle.coap_links.specs.Carried.{Packet}
@@ -84,3 +86,10 @@ module _ {L : Type 0} (sends : L → Endpoint → List ℕ → L → Type 0) (re
       ((s ≡ status.Done) × (count ≡ 0) × (m ≡ l))
       ⊎ (((s ≡ status.Done) × (n : ℕ) × (count ≡ n + 1) × IsLast give_up server word n l true m)
       ⊎ ((s ≡ status.Refused) × (n : ℕ) × (n < count) × IsLast give_up server word n l false m))
+
+  -- over such a link an endpoint that stands for the server is pinged as often as the options say, or once, with such a
+  -- word
+  abbrev pub PingsBy : (Stands : Endpoint → Type 0) → (IsWord : ℕ → Type 0) → PingOptions → Status → Type 0
+  PingsBy Stands IsWord options s =
+      (server : Endpoint) × Stands server × (word : ℕ) × IsWord word × (l : L) × (m : L)
+      × Pings options.give_up server word (unwrap_or options.times 1) l s m

@@ -1,6 +1,7 @@
 -- What becomes of a path that a client is called to GET again and again, one call after the other, and with which
 -- status a program ends that does so (RFC 7252, sections 5.2 and 5.8.1).
-use Rattle.std.specs.Prelude.{◌≡◌, ⊤, ℕ, Option, None, Some, List, [], ◌∷◌, ◌++◌, Ok, Err, Result, length}
+use Rattle.std.specs.Prelude.{◌≡◌, ⊤, ℕ, Bool, true, false, Option, None, Some, List, [], ◌∷◌, ◌++◌, Ok, Err, Result}
+use Rattle.std.specs.Prelude.{length}
 use Rattle.std.specs.List.{Contains}
 use Rattle.coap_types.specs.declared.endpoint.Endpoint.{Endpoint}
 use Rattle.coap_layer.specs.declared.setup.Setup.{Setup}
@@ -12,6 +13,8 @@ use Rattle.coap_client.specs.declared.client.report.CallId.{CallId}
 use Rattle.coap_client.specs.declared.refusals.CallRefusal.{CallRefusal}
 use Rattle.coap_arguments.specs.declared.orders.AskOptions.{AskOptions}
 use Rattle.coap_commands.specs.Asks.{AsksNothing, Chain, Each, got_status, takes_report}
+use Rattle.coap_commands.specs.JsonLines.{WritesOutcome}
+use Rattle.coap_commands.specs.Printed.{WritesReading}
 use Rattle.coap_commands.specs.Waiting.{HasPassed}
 use Rattle.coap_commands.specs.declared.calling.Outcome.{Outcome}
 use Rattle.coap_commands.specs.declared.calling.Outcome.TheVariants as outcome
@@ -67,13 +70,27 @@ abbrev pub read_status : List Reading → Status
 read_status [] = status.Done
 read_status (r ∷ earlier) = got_status r.outcome
 
+-- .. and of each is written, behind the one before, what became of it: as an object of JSON, or its body on a line
+abbrev pub WritesAs : Bool → Bool → (old new : Option (List ℕ)) → Outcome → Type 0
+WritesAs true hex old new came = WritesOutcome true old new came
+WritesAs false hex old new came = WritesReading hex old new came
+
+abbrev pub AreWritten : AskOptions → List Reading → (old new : Option (List ℕ)) → Type 0
+AreWritten options [] old new = new ≡ old
+AreWritten options (r ∷ earlier) old new =
+    (between : Option (List ℕ)) × AreWritten options earlier old between
+    × WritesAs options.json options.hex between new r.outcome
+
 -- A client of this server began with this setup and these sizes. All that it was called for is this request, as many
--- times as the options say, each so many seconds after the one before or later; the status is that of the last.
-abbrev pub Polls : Endpoint → (sizes : Sizes) → Setup → Request → ℕ → AskOptions → Status → Type 0
-Polls server sizes setup request every options status =
+-- times as the options say, each so many seconds after the one before or later; the status is that of the last;
+-- and each is written.
+abbrev pub Polls : (old new : Option (List ℕ)) → Endpoint → (sizes : Sizes) → Setup → Request → ℕ → AskOptions → Status
+    → Type 0
+Polls old new server sizes setup request every options status =
     (readings : List Reading) × AreReadings options.give_up every readings × (options.times ≡ Some (length readings))
     × (status ≡ read_status readings)
     × (s : State) × Led server sizes setup (calls_of request readings) s
+    × AreWritten options readings old new
 
 -- ---- a step of it
 
@@ -113,8 +130,8 @@ abbrev pub HasRead : Option ℕ → ℕ → Request → List Reading → State �
 HasRead give_up every request readings old new =
     AreReadings give_up every readings × Chain old (calls_of request readings) new
 
--- so many did, and the next may begin at this moment
-abbrev pub IsNext : Option ℕ → ℕ → Request → ℕ → ℕ → State → State → Type 0
-IsNext give_up every request count now old new =
+-- so many did, and are written, and the next may begin at this moment
+abbrev pub IsNext : AskOptions → ℕ → Request → ℕ → ℕ → State → State → (before after : Option (List ℕ)) → Type 0
+IsNext options every request count now old new before after =
     (readings : List Reading) × (length readings ≡ count) × Follows every readings now
-    × HasRead give_up every request readings old new
+    × HasRead options.give_up every request readings old new × AreWritten options readings before after

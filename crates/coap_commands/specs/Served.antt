@@ -1,12 +1,15 @@
 -- What a server comes to that serves as the words say: it is set up, and then turned until so many datagrams were fed.
 use Rattle.std.specs.Prelude.{◌≡◌, ◌≢◌, ◌⊎◌, ◌≤◌, ◌+◌, ⊤, ℕ, List, [], ◌∷◌, Option, IsSome}
 use Rattle.std.specs.Borrow.{Bor}
+use Rattle.std.specs.Io.KnownBytes.{Appends}
+use Rattle.coap_resource.specs.declared.refusal.StoreRefusal.{StoreRefusal}
 use Rattle.coap_server.specs.Led.{State, Step}
 use Rattle.coap_server.specs.Trace.{Call, Feeds, NextOut, Ticks}
 use Rattle.coap_arguments.specs.declared.orders.ServeOptions.{ServeOptions}
 use Rattle.coap_commands.specs.Asked.{IsOrigin}
+use Rattle.coap_commands.specs.Printed.{bad_line_text, refused_text, served_text}
 use Rattle.coap_commands.specs.ScriptSettings.{AreOfScript}
-use Rattle.coap_commands.specs.SettingUp.{IsServerAfter}
+use Rattle.coap_commands.specs.SettingUp.{IsRefusedAfter, IsServerAfter}
 use Rattle.coap_commands.specs.declared.setting_up.NotSetUp.{NotSetUp}
 use Rattle.coap_commands.specs.declared.setting_up.NotSetUp.TheVariants as notSetUp
 use Rattle.coap_commands.specs.declared.word.Origin.{Origin}
@@ -48,15 +51,26 @@ abbrev pub not_set_up_status : NotSetUp → Status
 not_set_up_status (notSetUp.Refused why) = status.Refused
 not_set_up_status (notSetUp.Line bad) = status.Words
 
--- a server that was set up as the words and these settings say is turned so, and that is done; or it doesn't hold what
--- the words name, or doesn't take what a line of the settings says
-abbrev pub IsServedBy : ℕ → ServeOptions → List Setting → Status → Type 0
-IsServedBy count options settings s = (s ≡ status.Refused)
-    ⊎ (((s ≡ status.Words) × (settings ≢ []))
+-- the store of a server that began as the words say refuses what they name, and that is written behind what a writer
+-- has
+abbrev pub IsRefusedBy : (old new : Option (List ℕ)) → ServeOptions → List Setting → Type 0
+IsRefusedBy old new options settings = (origin : Origin) × IsOrigin options.word origin × (why : StoreRefusal)
+    × IsRefusedAfter origin options settings (notSetUp.Refused why) × Appends old new (refused_text why)
+
+-- the number of a line is written
+abbrev pub SaysLine : (old new : Option (List ℕ)) → Type 0
+SaysLine old new = (number : ℕ) × Appends old new (bad_line_text number)
+
+-- a server that was set up as the words and these settings say is turned so, and that is done; or its store refuses
+-- what the words name, or it doesn't take what a line of the settings says; and that is written
+abbrev pub IsServedBy : (old new : Option (List ℕ)) → ℕ → ServeOptions → List Setting → Status → Type 0
+IsServedBy old new count options settings s = ((s ≡ status.Refused) × IsRefusedBy old new options settings)
+    ⊎ (((s ≡ status.Words) × (settings ≢ []) × SaysLine old new)
     ⊎ ((s ≡ status.Done) × (origin : Origin) × IsOrigin options.word origin × (first : State)
-    × IsServerAfter origin options settings first × (last : State) × FedFrom count first last))
+    × IsServerAfter origin options settings first × (last : State) × FedFrom count first last
+    × Appends old new (served_text count)))
 
 -- .. where the settings are those of the script that is named, if any; one of its lines may say none
-abbrev pub IsServed : ℕ → ServeOptions → Option (Bor (List ℕ)) → Status → Type 0
-IsServed count options script s = ((s ≡ status.Words) × IsSome script)
-    ⊎ ((settings : List Setting) × AreOfScript script settings × IsServedBy count options settings s)
+abbrev pub IsServed : (old new : Option (List ℕ)) → ℕ → ServeOptions → Option (Bor (List ℕ)) → Status → Type 0
+IsServed old new count options script s = ((s ≡ status.Words) × IsSome script × SaysLine old new)
+    ⊎ ((settings : List Setting) × AreOfScript script settings × IsServedBy old new count options settings s)

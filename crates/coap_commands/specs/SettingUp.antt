@@ -1,8 +1,9 @@
 -- How a server is set up before it serves: the calls that lead on, the newest first.
-use Rattle.std.specs.Prelude.{◌≡◌, ℕ, List, [], ◌∷◌, Some, Ok, true, codes, fold}
+use Rattle.std.specs.Prelude.{◌≡◌, ◌⊎◌, ⊤, ℕ, List, [], ◌∷◌, ◌++◌, Some, Ok, Err, true, codes, fold}
 use Rattle.coap_types.specs.declared.szx.TheConstants.{MAX_SZX as max_szx}
 use Rattle.coap_layer.specs.declared.setup.Setup.{Setup}
 use Rattle.coap_resource.specs.Content.{Content}
+use Rattle.coap_resource.specs.declared.refusal.StoreRefusal.{StoreRefusal}
 use Rattle.coap_server.specs.Led.{Led, State}
 use Rattle.coap_server.specs.Trace.{Call, Delays, Plains, Sets}
 use Rattle.coap_arguments.specs.PathText.{IsPathText}
@@ -11,6 +12,8 @@ use Rattle.coap_arguments.specs.declared.orders.Hold.{Hold}
 use Rattle.coap_arguments.specs.declared.orders.ServeOptions.{ServeOptions}
 use Rattle.coap_commands.specs.Ends.{server_limits_after}
 use Rattle.coap_commands.specs.ScriptSettings.{AreMade, limit_by}
+use Rattle.coap_commands.specs.declared.setting_up.NotSetUp.{NotSetUp}
+use Rattle.coap_commands.specs.declared.setting_up.NotSetUp.TheVariants as notSetUp
 use Rattle.coap_commands.specs.declared.word.Origin.{Origin}
 use Rattle.coap_scripts.specs.Settings.{Setting}
 use Rattle.coap_scripts.specs.declared.usual.TheConstants.{TEXT_PLAIN as text_plain}
@@ -30,6 +33,26 @@ abbrev pub Holds : List Hold → List Call → List Call → Type 0
 Holds [] before after = after ≡ before
 Holds (hold ∷ holds) before after =
     (between : List Call) × Holding hold.path hold.body.items before between × Holds holds between after
+
+-- .. or refused, for this reason
+abbrev pub Refusing : List (List ℕ) → List ℕ → StoreRefusal → List Call → List Call → Type 0
+Refusing path body why before after =
+    (store : Content) × (after ≡ Sets 0 path (Some text_plain) body (Err why) store ∷ before)
+
+abbrev pub RefusesResource : StoreRefusal → List Call → List Call → Type 0
+RefusesResource why before after =
+    (path : List (List ℕ)) × IsPathText (codes "temperature") path × Refusing path (codes "22.3 C") why before after
+
+-- one of these is, and those before it were set
+abbrev pub RefusesOne : List Hold → StoreRefusal → List Call → List Call → Type 0
+RefusesOne holds why before after =
+    (held : List Hold) × (hold : Hold) × (rest : List Hold) × (holds ≡ held ++ hold ∷ rest) × (between : List Call)
+    × Holds held before between × Refusing hold.path hold.body.items why between after
+
+-- the store doesn't take the resource, or something else that the words name
+abbrev pub IsNotHeld : ServeOptions → StoreRefusal → List Call → List Call → Type 0
+IsNotHeld options why before after = RefusesResource why before after
+    ⊎ ((own : List Call) × HoldsResource before own × RefusesOne options.holds.items why own after)
 
 -- the requests of a path wait
 abbrev pub with_delay : List Call → Delay → List Call
@@ -56,6 +79,19 @@ IsServerAfter origin options settings s =
     (set : List Call) × (after : List Call) × SetsUp options [] set × AreMade settings set after
     × Led (server_limits_after (limit_by options.limit settings) origin.base) max_szx
     (served_setup origin.word options) after s
+
+-- it isn't set up since its store refuses something: then this holds of the calls that led to it
+abbrev pub IsRefused : (List Call → Type 0) → ServeOptions → List Call → NotSetUp → Type 0
+IsRefused led options before (notSetUp.Refused why) =
+    (after : List Call) × IsNotHeld options why before after × led after
+IsRefused led options before (notSetUp.Line bad) = ⊤
+
+-- .. of a server that began so
+abbrev pub IsRefusedAfter : Origin → ServeOptions → List Setting → NotSetUp → Type 0
+IsRefusedAfter origin options settings why =
+    (s : State) × IsRefused
+    (λ after. Led (server_limits_after (limit_by options.limit settings) origin.base) max_szx
+    (served_setup origin.word options) after s) options [] why
 
 -- .. where the first version is 1
 abbrev pub IsServer : ℕ → ServeOptions → List Setting → State → Type 0

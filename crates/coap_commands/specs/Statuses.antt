@@ -1,5 +1,5 @@
 -- How a run of the program ends: its exit status, and which status answers what is wrong in the words.
-use Rattle.std.specs.Prelude.{◌≡◌, ◌⊎◌, ⊤, ℕ, List, Result, Ok, Err, IfOk, IsSome}
+use Rattle.std.specs.Prelude.{◌≡◌, ◌⊎◌, ⊤, ℕ, List, Option, Result, Ok, Err, IfOk, IsSome}
 use Rattle.clap.specs.Words.{Text}
 use Rattle.coap_arguments.specs.Words.{AsksFor, IsWrong}
 use Rattle.coap_record.specs.Events.{Event}
@@ -43,18 +43,20 @@ ReadsText (DumpCapture file chart) = ⊤
 ReadsText (Serve port count options script pcap journal) = IsSome script
 ReadsText _ = ⊥
 
--- what this order comes to, carried out to its end
-abbrev pub CarriesOut : Order → Status → Type 0
-CarriesOut (Sim file store plains remembered chart client server pcap) s = (events : List Event)
+-- what this order comes to, carried out to its end; what a pair and a server print is written behind what standard
+-- output has
+abbrev pub CarriesOut : (old new : Option (List ℕ)) → Order → Status → Type 0
+CarriesOut old new (Sim file store plains remembered chart client server pcap) s = (events : List Event)
     × IsSim (sim_config (record { client = client; server = server }) remembered plains.items) events s
-CarriesOut Dump s = IsOfScript s
-CarriesOut (DumpCapture file chart) s = (bytes : List ℕ) × IsCaptureStatus bytes s
-CarriesOut Version s = s ≡ status.Done
-CarriesOut (Pair path body word limit remembered) s = IsPaired path body.now word limit remembered s
-CarriesOut (Serve port count options script pcap journal) s = IsServedAsSaid count options script journal s
-CarriesOut (Ask server path what options pcap) s = IsAsked server path what options s
-CarriesOut (Discover server options pcap) s = IsDiscovered server options s
-CarriesOut _ s = IsCarriedOut s
+CarriesOut old new Dump s = IsOfScript s
+CarriesOut old new (DumpCapture file chart) s = (bytes : List ℕ) × IsCaptureStatus bytes s
+CarriesOut old new Version s = s ≡ status.Done
+CarriesOut old new (Pair path body word limit remembered) s = IsPaired old new path body.now word limit remembered s
+CarriesOut old new (Serve port count options script pcap journal) s =
+    IsServedAsSaid old new count options script journal s
+CarriesOut old new (Ask server path what options pcap) s = IsAsked server path what options s
+CarriesOut old new (Discover server options pcap) s = IsDiscovered server options s
+CarriesOut old new _ s = IsCarriedOut s
 
 -- what telling of a wrong comes to: bad hex is told on standard output, which may fail
 abbrev pub IsTold : Wrong → Result Status Stop → Type 0
@@ -100,10 +102,10 @@ IsAnswered Hex n = (n ≡ 2) ⊎ ((n ≡ 3) ⊎ (n ≡ 4))
 IsAnswered Memory n = ⊤
 
 -- an order is carried out, and this is the number of its status
-abbrev pub IsCarriedTo : Order → ℕ → Type 0
-IsCarriedTo order n = (s : Status) × (n ≡ status_number s) × CarriesOut order s
+abbrev pub IsCarriedTo : (old new : Option (List ℕ)) → Order → ℕ → Type 0
+IsCarriedTo old new order n = (s : Status) × (n ≡ status_number s) × CarriesOut old new order s
 
 -- a run: the words ask for an order, or something is wrong with them, and it ends so
-abbrev pub Ends : List Text → Result Status Stop → Type 0
-Ends words ended = ((order : Order) × AsksFor words order × IfOk ended (CarriesOut order))
+abbrev pub Ends : (old new : Option (List ℕ)) → List Text → Result Status Stop → Type 0
+Ends old new words ended = ((order : Order) × AsksFor words order × IfOk ended (CarriesOut old new order))
     ⊎ ((wrong : Wrong) × IsWrong words wrong × IsTold wrong ended)

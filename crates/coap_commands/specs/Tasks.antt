@@ -1,5 +1,5 @@
 -- What a client is handed for what the words ask for, and what it comes to.
-use Rattle.std.specs.Prelude.{◌≡◌, ℕ, true, false, List, [], None, Some}
+use Rattle.std.specs.Prelude.{◌≡◌, ℕ, true, false, List, [], Option, None, Some}
 use Rattle.coap_types.specs.declared.endpoint.Endpoint.{Endpoint}
 use Rattle.coap_client.specs.Object.CallShown.{shown_request}
 use Rattle.coap_arguments.specs.declared.hosts.Server.{Server}
@@ -7,9 +7,9 @@ use Rattle.coap_arguments.specs.declared.orders.AskOptions.{AskOptions}
 use Rattle.coap_arguments.specs.declared.orders.What.{What}
 use Rattle.coap_arguments.specs.declared.orders.What.TheVariants.{Get}
 use Rattle.coap_commands.specs.Asked.{IsBody, IsWord, asked_request, is_observe, period_of}
-use Rattle.coap_commands.specs.Asks.{Asks}
 use Rattle.coap_commands.specs.Discovers.{Discovers, IsCore}
 use Rattle.coap_commands.specs.Hosts.{IsServer}
+use Rattle.coap_commands.specs.JsonLines.{Tells}
 use Rattle.coap_commands.specs.Observes.{Observes}
 use Rattle.coap_commands.specs.Polls.{Polls}
 use Rattle.coap_commands.specs.Terms.{asked_terms, setup_of, sizes_of}
@@ -45,28 +45,37 @@ IsDiscovery options (Discovery made) =
 IsDiscovery options task = ⊥
 
 -- a client of this server, with this word and by these options, is handed the task, and this is the status of what
--- becomes of it; an observation that may be made anew is handed to several
-abbrev pub DoesAt : Endpoint → AskOptions → ℕ → Task → Status → Type 0
-DoesAt server options word (Request made) status =
-    Asks server (sizes_of (asked_terms word options)) (setup_of (asked_terms word options)) options.give_up
-    (shown_request made) status
-DoesAt server options word (Discovery made) status =
+-- becomes of it; an observation that may be made anew is handed to several; what became of a request, and of each
+-- reading, is written behind what a writer has
+abbrev pub DoesAt : (old new : Option (List ℕ)) → Endpoint → AskOptions → ℕ → Task → Status → Type 0
+DoesAt old new server options word (Request made) status =
+    Tells options.json old new server (sizes_of (asked_terms word options)) (setup_of (asked_terms word options))
+    options.give_up (shown_request made) status
+DoesAt old new server options word (Discovery made) status =
     Discovers server (sizes_of (asked_terms word options)) (setup_of (asked_terms word options)) options.give_up
     (shown_request made) status
-DoesAt server options word (Observation of) status =
+DoesAt old new server options word (Observation of) status =
     Observes server (sizes_of (asked_terms word options)) (setup_of (asked_terms word options)) of.now options status
-DoesAt server options word (Polling of every) status =
-    Polls server (sizes_of (asked_terms word options)) (setup_of (asked_terms word options))
+DoesAt old new server options word (Polling of every) status =
+    Polls old new server (sizes_of (asked_terms word options)) (setup_of (asked_terms word options))
     (asked_request Get of.now options []) every options status
-DoesAt server options word (Watch of again) status = ⊥
+DoesAt old new server options word (Watch of again) status = ⊥
+
+abbrev pub IsDoneTo : (old new : Option (List ℕ)) → Endpoint → Asked → Status → Type 0
+IsDoneTo old new server asked status = DoesAt old new server asked.options.now asked.word asked.task status
+
+-- .. whatever that writer is
+abbrev pub DoneAt : Endpoint → AskOptions → ℕ → Task → Status → Type 0
+DoneAt server options word task status =
+    (old new : Option (List ℕ)) × DoesAt old new server options word task status
 
 abbrev pub IsDoneAt : Endpoint → Asked → Status → Type 0
-IsDoneAt server asked status = DoesAt server asked.options.now asked.word asked.task status
+IsDoneAt server asked status = DoneAt server asked.options.now asked.word asked.task status
 
 -- the same, of a server for which these endpoints stand
 abbrev pub Does : (Endpoint → Type 0) → AskOptions → ℕ → Task → Status → Type 0
 Does Stands options word (Watch of again) status = Watches Stands word of.now options again status
-Does Stands options word task status = (server : Endpoint) × Stands server × DoesAt server options word task status
+Does Stands options word task status = (server : Endpoint) × Stands server × DoneAt server options word task status
 
 abbrev pub IsDone : (Endpoint → Type 0) → Asked → Status → Type 0
 IsDone Stands asked status = Does Stands asked.options.now asked.word asked.task status

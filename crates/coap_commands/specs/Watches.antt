@@ -1,23 +1,23 @@
 -- What becomes of a path that is observed, and observed anew where nothing comes for long or the server ended that
 -- (RFC 7641, sections 3.3.1 and 3.6). Each registration is made by a client of its own, which asks for nothing else.
-use Rattle.std.specs.Prelude.{◌≡◌, ◌⊎◌, ◌↔◌, ⊤, ℕ, ◌+◌, ◌%◌, ◌^◌, Bool, true, false, List, [], Option, None, Some}
+use Rattle.std.specs.Prelude.{◌≡◌, ◌↔◌, ⊤, ℕ, ◌+◌, ◌%◌, ◌^◌, Bool, true, false, List, [], Option, None, Some}
 use Rattle.std.specs.Prelude.{Ok, Err}
-use Rattle.std.specs.Prelude.{Result, if◌then◌else◌}
+use Rattle.std.specs.Prelude.{Result, ◌-◌, if◌then◌else◌, min}
 use Rattle.std.specs.declared.alloc.Global.{Global}
 use Rattle.coap_types.specs.declared.endpoint.Endpoint.{Endpoint}
 use Rattle.coap_layer.specs.declared.setup.Setup.{Setup}
 use Rattle.coap_block.specs.Sizes.{Sizes}
 use Rattle.coap_client.specs.Led.{Led, State, Step}
 use Rattle.coap_client.specs.Object.Shown.{shown_report}
-use Rattle.coap_client.specs.Trace.{Call, Cancels, Feeds, NextOut, NextReport, Report, Ticks, is_value}
+use Rattle.coap_client.specs.Trace.{Cancels, Report, is_value}
 use Rattle.coap_client.specs.Trace.{Observes as observes}
 use Rattle.coap_client.specs.declared.client.report.Report as R
 use Rattle.coap_client.specs.declared.client.report.Report.TheVariants as report
 use Rattle.coap_client.specs.declared.refusals.CallRefusal.{CallRefusal}
 use Rattle.coap_client.specs.declared.refusals.CancelRefusal.{CancelRefusal}
 use Rattle.coap_arguments.specs.declared.orders.AskOptions.{AskOptions}
-use Rattle.coap_commands.specs.Asks.{AsksNothing, Turned, takes_report}
-use Rattle.coap_commands.specs.Observes.{IsOver}
+use Rattle.coap_commands.specs.Asks.{AsksNothing, Turned, TurnsAt, takes_report}
+use Rattle.coap_commands.specs.Observes.{HasGivenUp, IsOver}
 use Rattle.coap_commands.specs.Terms.{asked_terms, setup_of, sizes_of}
 use Rattle.coap_commands.specs.Waiting.{HasPassed}
 use Rattle.coap_commands.specs.declared.calling.Outcome.{Outcome}
@@ -27,22 +27,11 @@ use Rattle.coap_commands.specs.declared.anew.Left.TheVariants as left
 use Rattle.coap_scripts.specs.declared.status.Status.{Status}
 use Rattle.coap_scripts.specs.declared.status.Status.TheVariants as status
 
--- a call that asks the client for nothing, in a turn at this moment
-abbrev pub TurnsAt : ℕ → Call → Type 0
-TurnsAt now (Feeds n from bytes word up settled event sent token kept) = n ≡ now
-TurnsAt now (Ticks n word below turn sent token kept answer) = n ≡ now
-TurnsAt now (NextOut answer) = ⊤
-TurnsAt now (NextReport answer) = ⊤
-TurnsAt now call = ⊥
-
--- a call by which a client leaves an observation: it is cancelled (RFC 7641, section 3.6), and what that sends goes out
-abbrev pub Leaves : ℕ → Call → Type 0
-Leaves number (Feeds n from bytes word up settled event sent token kept) = ⊤
-Leaves number (Ticks n word below turn sent token kept answer) = ⊤
-Leaves number (NextOut answer) = ⊤
-Leaves number (NextReport answer) = ⊤
-Leaves number (Cancels now of answer) = of ≡ number
-Leaves number call = ⊥
+-- a client leaves an observation at this moment: it is cancelled (RFC 7641, section 3.6), and what that sends goes out
+abbrev pub Leaves : ℕ → ℕ → State → State → Type 0
+Leaves number now s t =
+    (answer : Option CancelRefusal) × (m : State) × Step s (Cancels now number answer) m × Turned AsksNothing m t
+    × (t.layer.layer.queue ≡ [])
 
 -- what was taken is no last report: it is a value, or nothing was
 abbrev pub IsNoEnd : Option Report → Type 0
@@ -53,6 +42,11 @@ IsNoEnd (Some r) = is_value r ≡ true
 abbrev pub taken : Option Report → ℕ
 taken None = 0
 taken (Some r) = if is_value r then 1 else 0
+
+-- so many with it, up to the last number that there is
+abbrev pub counted_with : ℕ → Option Report → ℕ
+counted_with values None = values
+counted_with values (Some r) = min (values + taken (Some r)) (2 ^ 64 - 1)
 
 -- the moment since which no value came: this one where one came now
 abbrev pub heard_at : ℕ → Option Report → ℕ → ℕ
@@ -68,45 +62,54 @@ TakesReport number (Some r) s t = Step s (takes_report number r) t
 abbrev pub Takes : ℕ → ℕ → Option Report → State → State → Type 0
 Takes number now took s t = (m : State) × Turned (TurnsAt now) s m × TakesReport number took m t
 
--- at this moment, after so many values of all registrations, the observation is cancelled only where it is over
-abbrev pub MayCancel : AskOptions → ℕ → ℕ → ℕ → ℕ → State → State → Type 0
-MayCancel options since number now values s t =
-    (t ≡ s) ⊎ (IsOver options since values now × (answer : Option CancelRefusal) × Step s (Cancels now number answer) t)
+-- at this moment, after so many values of all registrations, the observation is cancelled exactly where it is over
+abbrev pub CancelsAtEnd : AskOptions → (since number now values : ℕ) → State → State → Type 0
+CancelsAtEnd options since number now values s t =
+    (IsOver options since values now → (answer : Option CancelRefusal) × Step s (Cancels now number answer) t)
+    × ((IsOver options since values now → ⊥) → t ≡ s)
 
--- Turns of an observation that was registered at this moment, after each of which it goes on. At the end so many values
--- were taken of all registrations, of which there were so many before, and the last of this one at that moment, or none
--- since it was registered.
-pub data Goes (options : AskOptions) (since number begin before : ℕ) (s : State) : ℕ → ℕ → State → Type 0 where
-  registered : Goes options since number begin before s before begin s
-  further : (values heard : ℕ) (m : State) (now : ℕ) (took : Option Report) (n : State) (more last : ℕ) (o : State)
-      → Goes options since number begin before s values heard m → Takes number now took m n → IsNoEnd took
-      → more ≡ values + taken took → last ≡ heard_at now took heard → MayCancel options since number now more n o
-      → Goes options since number begin before s more last o
+-- no value came for so long, and the observation is not over
+abbrev pub IsSilent : AskOptions → (again since values heard now : ℕ) → Type 0
+IsSilent options again since values heard now = HasPassed again heard now × (IsOver options since values now → ⊥)
 
--- such turns, and a last one at this moment, in which no last report is taken
-abbrev pub LastTurn : AskOptions → (since number begin before : ℕ) → State → (values heard now : ℕ) → State → Type 0
-LastTurn options since number begin before s values heard now n =
-    (earlier last : ℕ) × (m : State) × Goes options since number begin before s earlier last m
-    × (took : Option Report) × Takes number now took m n × IsNoEnd took
-    × (values ≡ earlier + taken took) × (heard ≡ heard_at now took last)
-
--- How an observation is left in such a turn: it goes on; no value came for so long, and the client leaves it; or it is
--- given up, as many seconds after the first registration as may pass without a value.
+-- How an observation is left in such a turn: it goes on, where it is neither given up nor silent; it is silent, and the
+-- client leaves it; or it is given up, as many seconds after the first registration as may pass without a value.
 abbrev pub LeavesAt : AskOptions → (again since number values heard now : ℕ) → State → Option Left → State → Type 0
-LeavesAt options again since number values heard now s None t = MayCancel options since number now values s t
+LeavesAt options again since number values heard now s None t =
+    (HasGivenUp options since values now → ⊥) × (IsSilent options again since values heard now → ⊥)
+    × CancelsAtEnd options since number now values s t
 LeavesAt options again since number values heard now s (Some left.Silent) t =
-    HasPassed again heard now × Turned (Leaves number) s t
+    IsSilent options again since values heard now × Leaves number now s t
 LeavesAt options again since number values heard now s (Some (left.Ended (outcome.GaveUp seconds))) t =
     (options.give_up ≡ Some seconds) × (values ≡ 0) × HasPassed seconds since now
 LeavesAt options again since number values heard now s (Some (left.Ended other)) t = ⊥
 
+-- Turns of an observation that was registered at this moment, after each of which it goes on. At the end so many values
+-- were taken of all registrations, of which there were so many before, and the last of this one at that moment, or none
+-- since it was registered.
+pub data Goes (options : AskOptions) (again since number begin before : ℕ) (s : State) : ℕ → ℕ → State → Type 0 where
+  registered : Goes options again since number begin before s before begin s
+  further : (values heard : ℕ) (m : State) (now : ℕ) (took : Option Report) (n : State) (more last : ℕ) (o : State)
+      → Goes options again since number begin before s values heard m → Takes number now took m n → IsNoEnd took
+      → more ≡ values + taken took → last ≡ heard_at now took heard
+      → LeavesAt options again since number more last now n None o
+      → Goes options again since number begin before s more last o
+
+-- such turns, and a last one at this moment, in which no last report is taken
+abbrev pub LastTurn : AskOptions → (again since number begin before : ℕ) → State → (values heard now : ℕ) → State
+    → Type 0
+LastTurn options again since number begin before s values heard now n =
+    (earlier last : ℕ) × (m : State) × Goes options again since number begin before s earlier last m
+    × (took : Option Report) × Takes number now took m n × IsNoEnd took
+    × (values ≡ earlier + taken took) × (heard ≡ heard_at now took last)
+
 -- It is left with its last report, or so; and so many values were taken then.
 abbrev pub IsLeft : AskOptions → (again since number begin before : ℕ) → State → Left → ℕ → Type 0
 IsLeft options again since number begin before s (left.Ended (outcome.Reported r)) values =
-    (heard : ℕ) × (m : State) × Goes options since number begin before s values heard m
+    (heard : ℕ) × (m : State) × Goes options again since number begin before s values heard m
     × (now : ℕ) × (n : State) × Takes number now (Some (shown_report r)) m n × (is_value (shown_report r) ≡ false)
 IsLeft options again since number begin before s ended values =
-    (heard now : ℕ) × (n : State) × LastTurn options since number begin before s values heard now n
+    (heard now : ℕ) × (n : State) × LastTurn options again since number begin before s values heard now n
     × (o : State) × LeavesAt options again since number values heard now n (Some ended) o
 
 -- by what the client answered

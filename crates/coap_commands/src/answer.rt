@@ -1,5 +1,7 @@
 //! `answer`: one datagram is fed to a server, and what that gives out is printed.
-ghost use Rattle.std.specs.Prelude.{◌≡◌, IfOk};
+ghost use Rattle.std.specs.Prelude.{◌≡◌, IfOk, OnOk};
+ghost use Rattle.coap_resource.specs.Entries.{content_of};
+ghost use Rattle.coap_server.specs.Object.Shown.{state_of};
 ghost use Rattle.coap_commands.specs.Statuses.{IsCarriedOut};
 
 use crate::ends::{fresh_server, hold, tell_refusal};
@@ -10,7 +12,7 @@ use coap_resource::MapStore;
 use coap_run::CLIENT_END;
 use coap_scripts::{Status, Stop};
 use coap_types::{BodyLimit, Moment, Path};
-use std::alloc::Global;
+use std::alloc::{AllocError, Global};
 use std::hash::{BuildHasherDefault, FoldHasher};
 use std::io::Write;
 
@@ -55,6 +57,14 @@ fn held_reply<W: Write>(
     }
 }
 
+// Hands the server the datagram.
+fn hand(server: &mut Server<MapStore, Global>, datagram: &[u8]) -> Result<(), AllocError>
+    ensures { OnOk result (⟦<Server<MapStore, Global> as End<Global>>⟧.feeds (state_of content_of server.old) ARRIVAL.0
+        CLIENT_END datagram.now WORD (state_of content_of server.new)) }
+{
+    server.feed(ARRIVAL, CLIENT_END, datagram, WORD)
+}
+
 // Hands the server the datagram, and prints what it sends.
 fn reply<W: Write>(
     alloc: Global,
@@ -64,7 +74,7 @@ fn reply<W: Write>(
 ) -> Result<Status, Stop>
     ensures { IfOk result IsCarriedOut }
 {
-    server.feed(ARRIVAL, CLIENT_END, datagram, WORD)?;
+    hand(server, datagram)?;
     print_sent(alloc, server, out)?;
     Ok(Status::Done)
 }

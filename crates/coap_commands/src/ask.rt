@@ -1,16 +1,20 @@
 //! Asking something of a server, and printing what came of it.
-ghost use Rattle.std.specs.Prelude.{◌≡◌, ℕ, [], Some, IfOk, IfNone, IfSome, OnOk};
+ghost use Rattle.std.specs.Prelude.{◌≡◌, ℕ, [], Ok, Option, Some, IfOk, IfNone, IfSome, OnOk};
+ghost use Rattle.std.specs.declared.alloc.Global.{Global};
 ghost use Rattle.coap_types.specs.declared.endpoint.Endpoint.{Endpoint as EndpointSpec};
 ghost use Rattle.coap_block.specs.Sizes.{Sizes};
 ghost use Rattle.coap_layer.specs.declared.setup.Setup.{Setup as SetupSpec};
 ghost use Rattle.coap_client.specs.Led.{Led, Step};
 ghost use Rattle.coap_client.specs.Object.CallShown.{shown_request};
 ghost use Rattle.coap_client.specs.Object.Shown.{shown_report};
-ghost use Rattle.coap_client.specs.Trace.{NextReport};
+ghost use Rattle.coap_client.specs.Trace.{NextReport, Reported};
+ghost use Rattle.coap_client.specs.declared.client.report.Report as R;
 ghost use Rattle.coap_commands.specs.Asks.{AsksNothing, Becomes, Comes, Turned, changed_status};
 ghost use Rattle.coap_commands.specs.Asks.{got_status, status_after};
-ghost use Rattle.coap_commands.specs.JsonLines.{Tells, WritesOutcome};
+ghost use Rattle.coap_commands.specs.JsonLines.{Tells, WritesRequest};
+ghost use Rattle.coap_commands.specs.Printed.{WritesGot, WritesInWords, WritesSaid};
 ghost use Rattle.coap_commands.specs.Terms.{setup_of, sizes_of};
+ghost use Rattle.coap_commands.specs.declared.calling.Outcome.TheVariants as outcomes;
 
 use crate::bearing::bear_in_all;
 use crate::calling::{Outcome, call, outcome_text};
@@ -36,6 +40,7 @@ pub(crate) fn next_report_of<H: BuildHasher>(
     ensures some { IfSome result (λ report. Step client.old
         (NextReport (Some (record { number = id.0; report = shown_report report }))) client.new) }
     ensures none { IfNone result (Turned AsksNothing client.old client.new) }
+    ensures other { IfNone result ((taken : Option Reported) × Step client.old (NextReport taken) client.new) }
 {
     match client.next_report() {
         Some((of, report)) if of.0 == id.0 => Some(report),
@@ -52,7 +57,9 @@ fn awaited<H: BuildHasher, L: Link, T: Timekeeper, E: Write>(
     begin: Moment,
     terms: &Terms,
 ) -> Result<Outcome, Stop>
-    ensures { IfOk result (Comes AsksNothing terms.now.give_up client.old id.0) }
+    ensures comes { IfOk result (Comes terms.now.give_up begin.0 client.old id.0) }
+    ensures sent { (report : R.Report Global) → result ≡ Ok (outcomes.Reported report)
+        → client.new.layer.layer.queue ≡ [] }
 {
     let mut tally = fresh_tally(terms.word);
     // More turns than a program lives.
@@ -94,7 +101,9 @@ fn say<O: Write, E: Write>(
     outcome: &Outcome,
     out: &mut O,
     err: &mut E,
-) -> Result<(), Stop> {
+) -> Result<(), Stop>
+    ensures { OnOk result (WritesSaid (O.contents out.old) (O.contents out.new) outcome.now) }
+{
     let text = outcome_text(alloc, outcome)?;
     match outcome {
         Outcome::Refused(_) | Outcome::Reported(_) => writeln!(out, "{text}")?,
@@ -112,7 +121,8 @@ fn tell_got<O: Write, E: Write>(
     out: &mut O,
     err: &mut E,
 ) -> Result<Status, Stop>
-    ensures { IfOk result (λ status. status ≡ got_status outcome.now) }
+    ensures status { IfOk result (λ status. status ≡ got_status outcome.now) }
+    ensures printed { OnOk result (WritesGot (O.contents out.old) (O.contents out.new) outcome.now) }
 {
     if let Outcome::Reported(Report::Body(fetched)) = outcome {
         out.write_all(fetched.body.as_slice())?;
@@ -129,7 +139,8 @@ fn tell_changed<O: Write, E: Write>(
     out: &mut O,
     err: &mut E,
 ) -> Result<Status, Stop>
-    ensures { IfOk result (λ status. status ≡ changed_status outcome.now) }
+    ensures status { IfOk result (λ status. status ≡ changed_status outcome.now) }
+    ensures printed { OnOk result (WritesSaid (O.contents out.old) (O.contents out.new) outcome.now) }
 {
     say(alloc, outcome, out, err)?;
     if let Outcome::Reported(Report::Done(_)) = outcome {
@@ -146,7 +157,8 @@ fn tell<O: Write, E: Write>(
     out: &mut O,
     err: &mut E,
 ) -> Result<Status, Stop>
-    ensures { IfOk result (λ status. status ≡ status_after method outcome.now) }
+    ensures status { IfOk result (λ status. status ≡ status_after method outcome.now) }
+    ensures printed { OnOk result (WritesInWords method (O.contents out.old) (O.contents out.new) outcome.now) }
 {
     match method {
         Method::Get => tell_got(alloc, outcome, out, err),
@@ -177,7 +189,7 @@ fn tell_as<T: Timekeeper, O: Write, E: Write>(
     err: &mut E,
 ) -> Result<Status, Stop>
     ensures status { IfOk result (λ status. status ≡ status_after method outcome.now) }
-    ensures written { OnOk result (WritesOutcome is_json (O.contents out.old) (O.contents out.new) outcome.now) }
+    ensures written { OnOk result (WritesRequest is_json method (O.contents out.old) (O.contents out.new) outcome.now) }
 {
     if !is_json {
         return tell(alloc, method, outcome, out, err);
@@ -225,9 +237,10 @@ pub fn ask_over<L: Link, T: Timekeeper, H: BuildHasher + Drop, O: Write, E: Writ
     terms: &Terms,
     out: &mut O,
 ) -> Result<Status, Stop>
-    // A client of this server, which began by the terms, was handed this request, and nothing else, and given up only
-    // where so many seconds may pass; the status is 0 where a body (of a GET) or success was reported of it, and else
-    // 1. Where that is told in JSON, what is written is the line of what became of the request, and nothing else.
+    // A client of this server, which began by the terms, was handed this request, and nothing else, and given up in the
+    // first turn after as many seconds as may pass; the status is 0 where a body (of a GET) or success was reported of
+    // it, and else 1. Where that is told in JSON, what is written is the line of what became of the request; else the
+    // body that a GET got, or, on a line, what else became of the request, unless it was given up; and nothing else.
     ensures { IfOk result (Tells terms.now.json (O.contents out.old) (O.contents out.new)
         server (sizes_of terms.now) (setup_of terms.now) terms.now.give_up (shown_request request)) }
 {

@@ -2,7 +2,8 @@
 ghost use Rattle.std.specs.Prelude.{◌≡◌, IfOk};
 ghost use Rattle.coap_commands.specs.Asked.{is_observe, period_of};
 ghost use Rattle.coap_commands.specs.Hosts.{IsServer, Knows};
-ghost use Rattle.coap_commands.specs.Tasks.{IsAsked, IsDiscovered, IsDone, IsDoneAt, IsObservation, IsTask};
+ghost use Rattle.coap_commands.specs.Tasks.{IsAsked, IsDiscovered, IsDone, IsDoneAt, IsDoneTo, IsObservation};
+ghost use Rattle.coap_commands.specs.Tasks.{IsTask};
 ghost use Rattle.coap_commands.specs.declared.hosts.Peer.TheVariants as peers;
 
 use crate::ask::ask_over;
@@ -134,7 +135,7 @@ fn do_once<L: Link, T: Timekeeper, H: BuildHasher + Drop, O: Write, E: Write>(
     asked: Asked<'_, '_>,
     out: &mut O,
 ) -> Result<Status, Stop>
-    ensures { IfOk result (IsDoneAt server asked.entry) }
+    ensures { IfOk result (IsDoneTo (O.contents out.old) (O.contents out.new) server asked.entry) }
 {
     let Asked {
         task,
@@ -343,7 +344,8 @@ pub(crate) fn ask<R: AllocGlobal + Files + Net + Clock + RandomSource, O: Write,
     out: &mut O,
     err: &mut E,
 ) -> Result<Status, Stop>
-    ensures { IfOk result (IsAsked server.entry path.now what.entry options.now) }
+    ensures { IfOk result (IsAsked server.entry path.now what.entry
+        options.now) }
 {
     let word = word_of(rt, options.word)?;
     let task = task_of(rt, path, what, options)?;

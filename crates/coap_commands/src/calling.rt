@@ -1,5 +1,5 @@
 //! A request of a client: how it is made, and what becomes of it.
-ghost use Rattle.std.specs.Prelude.{◌≡◌, ℕ, List, [], ◌∷◌, IfOk};
+ghost use Rattle.std.specs.Prelude.{◌≡◌, ℕ, List, [], ◌∷◌, IfOk, string_bytes};
 ghost use Rattle.coap_types.specs.declared.endpoint.Endpoint.{Endpoint};
 ghost use Rattle.coap_types.specs.declared.request.Method.TheVariants.{Get, Put};
 ghost use Rattle.coap_block.specs.Sizes.{Sizes};
@@ -8,6 +8,7 @@ ghost use Rattle.coap_client.specs.Led.{Led, Step};
 ghost use Rattle.coap_client.specs.Object.CallShown.{shown_request};
 ghost use Rattle.coap_client.specs.Object.Shown.{number_of};
 ghost use Rattle.coap_client.specs.Trace.{Call, Calls};
+ghost use Rattle.coap_commands.specs.Printed.{outcome_text};
 ghost use Rattle.coap_scripts.specs.Script.{plain_request};
 
 use bytes::Bytes;
@@ -68,7 +69,10 @@ pub fn call<H: BuildHasher>(
 }
 
 /// What became of a request, in print.
-pub fn outcome_text(alloc: Global, outcome: &Outcome) -> Result<String, AllocError> {
+pub fn outcome_text(alloc: Global, outcome: &Outcome) -> Result<String, AllocError>
+    // The text of what became of a request is the number of a refusal, the report, or after how long it was given up.
+    ensures { IfOk result (λ text. string_bytes text ≡ outcome_text outcome.now) }
+{
     match outcome {
         Outcome::Refused(refusal) => {
             let number = refusal.number();

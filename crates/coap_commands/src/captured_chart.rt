@@ -2,6 +2,7 @@
 //! receiver on the right.
 ghost use Rattle.std.specs.Prelude.{◌≡◌};
 ghost use Rattle.coap_commands.specs.Colours.{course_colour};
+ghost use Rattle.coap_commands.specs.Drawn.{IsCourse, receiver, sender, turned};
 
 use coap_pcap::{Addresses, Datagram, Packet, SixEndpoint};
 use coap_print::{Colour, DatagramWords, EndpointWords, Ink};
@@ -44,7 +45,10 @@ impl fmt::Display for Place {
 }
 
 // The sender and the receiver of a datagram.
-fn places_of(addresses: Addresses) -> (Place, Place) {
+fn places_of(addresses: Addresses) -> (Place, Place)
+    ensures from { result.0 ≡ sender addresses }
+    ensures to { result.1 ≡ receiver addresses }
+{
     match addresses {
         Addresses::V4 { from, to } => (
             Place::Four(EndpointWords(from)),
@@ -55,7 +59,9 @@ fn places_of(addresses: Addresses) -> (Place, Place) {
 }
 
 // The same addresses, the other way.
-fn turned(addresses: Addresses) -> Addresses {
+fn turned(addresses: Addresses) -> Addresses
+    ensures { result ≡ turned addresses }
+{
     match addresses {
         Addresses::V4 { from, to } => Addresses::V4 { from: to, to: from },
         Addresses::V6 { from, to } => Addresses::V6 { from: to, to: from },
@@ -74,7 +80,9 @@ enum Course {
 }
 
 // The course of a datagram, where the first one goes between these addresses.
-fn course_of(first: Addresses, addresses: Addresses) -> Course {
+fn course_of(first: Addresses, addresses: Addresses) -> Course
+    ensures { IsCourse result first addresses }
+{
     if addresses == first {
         Course::Right
     } else if addresses == turned(first) {

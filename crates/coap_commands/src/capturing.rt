@@ -1,5 +1,5 @@
 //! What `--pcap` writes: a capture of each datagram that is sent and received, as Wireshark and tshark read it.
-ghost use Rattle.std.specs.Prelude.{◌≡◌, ℕ, false, IfOk, IfSome, OnOk, is_some};
+ghost use Rattle.std.specs.Prelude.{◌≡◌, ℕ, false, IfNone, IfOk, IfSome, OnOk, is_some};
 ghost use Rattle.std.specs.Io.KnownBytes.{Appends};
 ghost use Rattle.coap_types.specs.declared.endpoint.Endpoint.{Endpoint as EndpointSpec};
 ghost use Rattle.coap_links.specs.declared.trace.Way.{Way as WaySpec};
@@ -23,11 +23,16 @@ pub trait Standing {
     /// Who it is, which way a datagram goes, its peer, and between which addresses it goes.
     ghost stands: { Self → WaySpec → EndpointSpec → AddressesSpec → Type 0 };
 
+    /// Who it is, and a peer that may be nobody's name.
+    ghost lacks: { Self → EndpointSpec → Type 0 };
+
     /// Between which addresses a datagram goes that is sent to this peer or came from it. None where the peer is
     /// nobody's name.
     fn addresses(&self, way: Way, peer: Endpoint) -> Option<Addresses>
         // A datagram of a capture goes between the two addresses that its own words have.
-        ensures { IfSome result (stands self.now way peer) };
+        ensures some { IfSome result (stands self.now way peer) }
+        // A datagram is left out of a capture only where its peer may be nobody's name.
+        ensures none { IfNone result (lacks self.now peer) };
 }
 
 /// One that is at an endpoint of IPv4.
@@ -39,6 +44,8 @@ pub struct FourStanding {
 
 impl Standing for FourStanding {
     ghost stands = { λ s way peer addresses. addresses ≡ four_addresses s.own way peer };
+
+    ghost lacks = { λ _ _. ⊥ };
 
     fn addresses(&self, way: Way, peer: Endpoint) -> Option<Addresses> {
         let (from, to) = match way {
@@ -75,17 +82,23 @@ fn mapped(four: Endpoint) -> SixEndpoint
 }
 
 // The endpoint of a peer over IPv6.
-fn endpoint_of(peer: SixPeer) -> SixEndpoint {
+fn endpoint_of(peer: SixPeer) -> SixEndpoint
+    ensures ip { result.ip ≡ peer.ip }
+    ensures port { result.port ≡ peer.port }
+{
     let (ip, port) = (peer.ip, peer.port);
     SixEndpoint { ip, port }
 }
 
 impl<'n, S: BuildHasher + Copy + Drop, A: Allocator + Copy> Standing for SixStanding<'n, S, A> {
-    ghost use Rattle.std.specs.Prelude.{◌⊎◌};
+    ghost use Rattle.std.specs.Prelude.{◌⊎◌, true};
+    ghost use Rattle.coap_links.specs.Sockets.{is_of_this_network};
     ghost use Rattle.coap_pcap.specs.declared.addresses.SixEndpoint.{SixEndpoint as SixEndpointSpec};
     ghost use Rattle.coap_commands.specs.Capturing.{IsOfSix};
 
     ghost stands = { λ s way peer addresses. IsOfSix s.own way peer addresses };
+
+    ghost lacks = { λ _ peer. is_of_this_network peer.ip ≡ true };
 
     fn addresses(&self, way: Way, peer: Endpoint) -> Option<Addresses> {
         let six = match peer.ip {

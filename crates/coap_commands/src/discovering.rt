@@ -1,5 +1,5 @@
 //! `discover`: which resources a server says that it has (RFC 6690).
-ghost use Rattle.std.specs.Prelude.{◌≡◌, ℕ, [], IfOk};
+ghost use Rattle.std.specs.Prelude.{◌≡◌, ℕ, [], IfOk, is_some};
 ghost use Rattle.coap_types.specs.declared.endpoint.Endpoint.{Endpoint as EndpointSpec};
 ghost use Rattle.coap_block.specs.Sizes.{Sizes};
 ghost use Rattle.coap_layer.specs.declared.setup.Setup.{Setup as SetupSpec};
@@ -107,7 +107,9 @@ fn tell<O: Write, E: Write>(
 }
 
 // The moment that lines of JSON tell, where they are wanted.
-fn told_at<T: Timekeeper>(is_json: bool, time: &mut T) -> Result<Option<Moment>, Stop> {
+fn told_at<T: Timekeeper>(is_json: bool, time: &mut T) -> Result<Option<Moment>, Stop>
+    ensures { IfOk result (λ at. is_some at ≡ is_json) }
+{
     if is_json {
         Ok(Some(time.now()?))
     } else {

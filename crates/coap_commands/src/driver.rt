@@ -1,5 +1,6 @@
 //! One run of the program, over the writers that it is handed.
-ghost use Rattle.std.specs.Prelude.{◌≡◌, ◌≢◌, ◌≤◌, ◌⊎◌, IfOk, map, string_bytes};
+ghost use Rattle.std.specs.Prelude.{◌≡◌, ◌≢◌, ◌≤◌, ◌⊎◌, ◌↔◌, IfOk, map, string_bytes};
+ghost use Rattle.std.specs.IoError.{error_kind};
 ghost use Rattle.coap_commands.specs.Statuses.{CarriesOut, Ends, IsAnswered, IsCarriedTo, IsTold, ReadsText};
 ghost use Rattle.coap_scripts.specs.StatusNumbers.{status_number};
 ghost use Rattle.coap_commands.specs.Statuses.{status_of};
@@ -38,7 +39,7 @@ fn perform<R: AllocGlobal + Files<File = File> + Net + Clock + RandomSource, O: 
     out: &mut O,
     err: &mut E,
 ) -> Result<Status, Stop>
-    ensures { IfOk result (CarriesOut order.now) }
+    ensures { IfOk result (CarriesOut (O.contents out.old) (O.contents out.new) order.now) }
 {
     let alloc = rt.alloc();
     match order {
@@ -171,7 +172,7 @@ fn run<R: AllocGlobal + Files<File = File> + Net + Clock + RandomSource, O: Writ
     out: &mut O,
     err: &mut E,
 ) -> Result<Status, Stop>
-    ensures { Ends (map string_bytes words.now) result }
+    ensures { Ends (O.contents out.old) (O.contents out.new) (map string_bytes words.now) result }
 {
     match order(rt.alloc(), words) {
         Ok(order) => {
@@ -215,9 +216,10 @@ pub fn command<
     // .. and nothing else is, but for a script that can't be read, or a line of standard input that is no hex.
     ensures words { result ≡ 2 → ((wrong : Wrong) × IsWrong (map string_bytes words.now) wrong
         × (wrong ≢ wrongs.Memory)) ⊎ ((order : Order) × AsksFor (map string_bytes words.now) order × ReadsText order) }
-    // An order is carried out only where the words ask for it, and to that end.
+    // An order is carried out only where the words ask for it, and to that end: what a pair and a server print is then
+    // on standard output, behind what was there, and nothing else of them is.
     ensures done { result ≤ 1 → (order : Order) × AsksFor (map string_bytes words.now) order
-        × IsCarriedTo order result }
+        × IsCarriedTo (O.contents out.old) (O.contents out.new) order result }
 {
     command_on(rt, words, NO_TERMINALS, out, err)
 }
@@ -240,7 +242,7 @@ pub fn command_on<
     // Whether an output is a terminal counts for no order: one is carried out only where the words ask for it, and to
     // that end.
     ensures done { result ≤ 1 → (order : Order) × AsksFor (map string_bytes words.now) order
-        × IsCarriedTo order result }
+        × IsCarriedTo (O.contents out.old) (O.contents out.new) order result }
 {
     let ended = run(rt, words, terminals, out, err);
     close(ended, err).number()
@@ -249,7 +251,9 @@ pub fn command_on<
 /// Says why the words of the command line can't be read, and answers the exit status.
 pub fn without_words<E: Write>(error: &io::Error, err: &mut E) -> u8
     // Where the words themselves can't be had, the status is 2 or 4.
-    ensures { (result ≡ 2) ⊎ (result ≡ 4) }
+    ensures answered { (result ≡ 2) ⊎ (result ≡ 4) }
+    // .. which is 4 exactly where memory was refused.
+    ensures memory { (result ≡ 4) ↔ (error_kind error.now ≡ ErrorKind.OutOfMemory) }
 {
     let status = if error.kind() == ErrorKind::OutOfMemory {
         let _ = writeln!(err, "no memory");

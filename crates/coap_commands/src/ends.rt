@@ -1,5 +1,6 @@
 //! The ends that the programs run.
-ghost use Rattle.std.specs.Prelude.{◌≡◌, ℕ, List, [], ◌∷◌, Ok, Some, IfOk, IfNone};
+ghost use Rattle.std.specs.Prelude.{◌≡◌, ◌≢◌, ℕ, List, [], ◌∷◌, Ok, Err, Some, IfOk, IfNone, IfSome, OnOk};
+ghost use Rattle.std.specs.Io.KnownBytes.{Appends};
 ghost use Rattle.coap_resource.specs.Content.{Content};
 ghost use Rattle.coap_resource.specs.Entries.{content_of};
 ghost use Rattle.coap_resource.specs.Limits.{Limits};
@@ -9,6 +10,8 @@ ghost use Rattle.coap_server.specs.Led.{Led};
 ghost use Rattle.coap_layer.specs.declared.setup.Setup.{Setup as SetupSpec};
 ghost use Rattle.coap_server.specs.Trace.{Call, Sets};
 ghost use Rattle.coap_commands.specs.Ends.{client_sizes, server_limits, server_limits_after};
+ghost use Rattle.coap_commands.specs.Printed.{refused_text};
+ghost use Rattle.coap_resource.specs.declared.refusal.StoreRefusal.TheVariants as store_refusals;
 ghost use Rattle.coap_scripts.specs.declared.status.Status.TheVariants.{Refused};
 
 use coap_ends::{Client, Server};
@@ -70,6 +73,20 @@ pub fn fresh_client<H: BuildHasher + Drop>(
     Client::with_setup(alloc, server, size, limit, setup, hasher)
 }
 
+/// Why a store refuses a change; want of memory stops the program.
+pub(crate) fn refusal_of(refusal: StoreRefusal) -> Result<StoreRefusal, Stop>
+    ensures same { IfOk result (λ why. why ≡ refusal) }
+    ensures other { IfOk result (λ why. why ≢ store_refusals.Memory) }
+{
+    match refusal {
+        StoreRefusal::Memory => Err(Stop::Memory),
+        StoreRefusal::TooLarge => Ok(StoreRefusal::TooLarge),
+        StoreRefusal::TooManyPaths => Ok(StoreRefusal::TooManyPaths),
+        StoreRefusal::RateExceeded => Ok(StoreRefusal::RateExceeded),
+        StoreRefusal::VersionsSpent => Ok(StoreRefusal::VersionsSpent),
+    }
+}
+
 /// Has a server hold this text at this path; the refusal of its store where it doesn't.
 pub fn hold<H: BuildHasher + Drop>(
     server: &mut Server<MapStore, Global, H>,
@@ -83,17 +100,26 @@ pub fn hold<H: BuildHasher + Drop>(
         → IfOk result (λ refusal. IfNone refusal ((version : ℕ) × (store : Content)
         × Led limits MAX_SZX setup (Sets 0 path.now (Some TEXT_PLAIN) body.now (Ok version) store ∷ t)
         (state_of content_of server.new))) }
+    // Where its store refuses that, the one call leads on that was answered so.
+    ensures refused { (limits : Limits) (setup : SetupSpec) (t : List Call)
+        → Led limits MAX_SZX setup t (state_of content_of server.old)
+        → IfOk result (λ refusal. IfSome refusal (λ why. (store : Content)
+        × Led limits MAX_SZX setup (Sets 0 path.now (Some TEXT_PLAIN) body.now (Err why) store ∷ t)
+        (state_of content_of server.new))) }
 {
     match server.set(Moment(0), path, Some(TEXT_PLAIN), body) {
         Ok(_) => Ok(None),
-        Err(StoreRefusal::Memory) => Err(Stop::Memory),
-        Err(refusal) => Ok(Some(refusal)),
+        Err(refusal) => {
+            let why = refusal_of(refusal)?;
+            Ok(Some(why))
+        }
     }
 }
 
 /// Prints why a server does not hold what it was to hold.
 pub(crate) fn tell_refusal<W: Write>(refusal: StoreRefusal, out: &mut W) -> Result<Status, Stop>
-    ensures { IfOk result (λ status. status ≡ Refused) }
+    ensures status { IfOk result (λ status. status ≡ Refused) }
+    ensures printed { OnOk result (Appends (W.contents out.old) (W.contents out.new) (refused_text refusal)) }
 {
     let number = refusal.number();
     writeln!(out, "refused {number}")?;

@@ -1,7 +1,7 @@
 //! Where a server is that is asked: by its address, or by its name, which the system looks up.
 ghost use Rattle.std.specs.Prelude.{◌≡◌, IfOk};
 ghost use Rattle.coap_arguments.specs.declared.hosts.Address.TheVariants as addresses;
-ghost use Rattle.coap_commands.specs.Hosts.{IsOfAddress, IsOfServer, chosen, is_four};
+ghost use Rattle.coap_commands.specs.Hosts.{IsOfAddress, IsOfServer, IsOfSocket, chosen, is_four};
 
 use coap_arguments::{Address, Host, Server};
 use coap_scripts::{Stop, stop_of};
@@ -53,7 +53,9 @@ pub(crate) fn peer_at(address: Address, port: u16) -> Peer
 }
 
 // The peer at a socket address.
-fn peer_at_socket(address: SocketAddr) -> Peer {
+fn peer_at_socket(address: SocketAddr) -> Peer
+    ensures { IsOfSocket address result }
+{
     match address {
         SocketAddr::V4(four) => four_at(*four.ip(), four.port()),
         SocketAddr::V6(six) => six_at(*six.ip(), six.port(), six.scope_id()),

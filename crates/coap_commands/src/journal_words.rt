@@ -1,9 +1,11 @@
 //! What the words say of a journal, and of the server that goes on from it.
 ghost use Rattle.std.specs.Prelude.{◌≡◌, IfOk, fold};
-ghost use Rattle.coap_commands.specs.KeptWords.{AreWishesBy, IsDrawnBy, IsSaidSetup, base_choice, choice_if, said};
+ghost use Rattle.coap_commands.specs.Asked.{IsRandom};
+ghost use Rattle.coap_commands.specs.KeptWords.{AreWishesBy, IsDrawnBy, IsDrawnFrom, IsSaidSetup, base_choice};
+ghost use Rattle.coap_commands.specs.KeptWords.{choice_if, said};
 ghost use Rattle.coap_commands.specs.KeptWords.{said_beside, setup_bytes, with_delay_bytes, with_plain_bytes, word_if};
 
-use crate::word::{base_of, word_of};
+use crate::word::{Draws, base_of, random_word, word_of};
 use coap_arguments::{Delay, Journal, ServeOptions, WordChoice};
 use coap_journal::{Beginning, Configuration, Seed, delay_bytes, plain_bytes};
 use coap_journal_file::Wishes;
@@ -12,7 +14,6 @@ use coap_resource::MAX_CHANGES_PER_WINDOW;
 use coap_scripts::{Stop, largest_szx};
 use coap_types::{BodyLimit, Path, Remembered};
 use std::alloc::Global;
-use std::random::RandomSource;
 
 // Adds the inputs of delays.
 fn add_delays(alloc: Global, inputs: &mut Vec<u8>, delays: &[Delay]) -> Result<(), Stop>
@@ -140,23 +141,23 @@ fn base_for(choice: WordChoice, says: Says) -> WordChoice
 }
 
 // What it is to have drawn, or to be given.
-fn seed_of<R: RandomSource>(rt: &R, word: u64) -> Result<Seed, Stop>
-    ensures { IfOk result (λ seed. seed.word ≡ word) }
+fn seed_of<R: Draws>(rt: &R, word: u64) -> Result<Seed, Stop>
+    ensures word { IfOk result (λ seed. seed.word ≡ word) }
+    ensures keys { IfOk result (λ seed. IsRandom (R.draws rt.now) seed.key0 × IsRandom (R.draws rt.now) seed.key1) }
 {
-    Ok(Seed {
-        word,
-        key0: word_of(rt, WordChoice::Random)?,
-        key1: word_of(rt, WordChoice::Random)?,
-    })
+    let key0 = random_word(rt)?;
+    let key1 = random_word(rt)?;
+    Ok(Seed { word, key0, key1 })
 }
 
 /// What a server begins with that has no journal yet, or that begins anew: what the words say, and else what is drawn.
-pub(crate) fn drawn_of<R: RandomSource>(
+pub(crate) fn drawn_of<R: Draws>(
     rt: &R,
     options: &ServeOptions,
     says: Says,
 ) -> Result<Beginning, Stop>
-    ensures { IfOk result (IsDrawnBy options.now says) }
+    ensures words { IfOk result (IsDrawnBy options.now says) }
+    ensures drawn { IfOk result (IsDrawnFrom (R.draws rt.now) options.now says) }
 {
     let choice = choice_of(options, says);
     let word = word_of(rt, choice)?;

@@ -1,7 +1,8 @@
 //! `serve --journal`: a server that goes on from a file.
-ghost use Rattle.std.specs.Prelude.{◌≡◌, IfOk};
+ghost use Rattle.std.specs.Prelude.{IfOk};
+ghost use Rattle.coap_commands.specs.Hosts.{IsBoundFor, IsOfAddress};
 ghost use Rattle.coap_commands.specs.Kept.{IsServedOn};
-ghost use Rattle.coap_scripts.specs.declared.status.Status.TheVariants.{Refused};
+ghost use Rattle.coap_commands.specs.declared.hosts.Peer.TheVariants as peers;
 
 use crate::capturing::{FourStanding, Standing, begin_of, capture_in, capture_on};
 use crate::changes::{ChangeTeller, changes_on};
@@ -28,7 +29,7 @@ use std::rt::{Clock, Files};
 
 // Says why a server doesn't go on from a journal.
 fn tell_why<E: Write>(name: &str, why: KeepError, err: &mut E) -> Result<Status, Stop>
-    ensures { IfOk result (λ status. status ≡ Refused) }
+    ensures { IfOk result (λ _. ⊥) }
 {
     match why {
         KeepError::Memory => Err(Stop::Memory),
@@ -56,7 +57,8 @@ where
     C: ChangeTeller<Global> + Drop,
     O: Write,
     E: Write,
-    ensures { IfOk result (IsServedOn serving.1 options.now journal.entry) }
+    ensures { IfOk result (IsServedOn (O.contents out.old) (O.contents out.new) serving.1 options.now
+        journal.entry) }
 {
     let alloc = rt.alloc();
     let mut time = ProgramTime::begin(rt)?;
@@ -97,7 +99,9 @@ where
     F: Write + Drop,
     O: Write,
     E: Write,
-    ensures { IfOk result (IsServedOn serving.1 options.now journal.entry) }
+    requires bound { IsBoundFor options.now.address serving.0 (L.own_address link) }
+    ensures { IfOk result (IsServedOn (O.contents out.old) (O.contents out.new) serving.1 options.now
+        journal.entry) }
 {
     let mut time = ProgramTime::begin(rt)?;
     let (standing, file) = capture;
@@ -115,7 +119,7 @@ where
 pub(crate) fn keep_four<R, O, E>(
     rt: &R,
     address: Endpoint,
-    count: u64,
+    serving: (u16, u64),
     options: &ServeOptions,
     journal: Journal<'_>,
     showing: Showing<'_>,
@@ -126,7 +130,9 @@ where
     R: AllocGlobal + Files<File = File> + Net + Clock + RandomSource,
     O: Write,
     E: Write,
-    ensures { IfOk result (IsServedOn count options.now journal.entry) }
+    requires said { IsOfAddress options.now.address serving.0 (peers.Four address) }
+    ensures { IfOk result (IsServedOn (O.contents out.old) (O.contents out.new) serving.1 options.now
+        journal.entry) }
 {
     let link = UdpLink::bind(rt, address)?;
     let file = capture_in(rt, showing.pcap)?;
@@ -134,7 +140,6 @@ where
         own: link.address(),
     };
     let tracing = Tracing::of(options.trace, showing.is_coloured);
-    let serving = (address.port, count);
     keep_on(
         rt,
         link,
@@ -150,7 +155,7 @@ where
 
 /// Says that no server at an address of IPv6 goes on from a journal: the names of its peers are in none.
 pub(crate) fn refuse_six<E: Write>(err: &mut E) -> Result<Status, Stop>
-    ensures { IfOk result (λ status. status ≡ Refused) }
+    ensures { IfOk result (λ _. ⊥) }
 {
     let _ = writeln!(err, "--journal goes with an address of IPv4 alone");
     Err(Stop::Failed)

@@ -1,11 +1,13 @@
 //! The turns of a server that goes on from a journal.
-ghost use Rattle.std.specs.Prelude.{◌≡◌, ◌⊎◌, IfNone, IfOk};
+ghost use Rattle.std.specs.Prelude.{◌≡◌, IfNone, IfOk, OnOk};
+ghost use Rattle.std.specs.Io.KnownBytes.{Appends};
 ghost use Rattle.coap_resource.specs.Entries.{content_of};
 ghost use Rattle.coap_server.specs.Led.{State};
 ghost use Rattle.coap_server.specs.Object.Shown.{state_of};
 ghost use Rattle.coap_commands.specs.Kept.{IsGoneOn};
+ghost use Rattle.coap_commands.specs.Printed.{served_text};
 ghost use Rattle.coap_commands.specs.Served.{FedFrom};
-ghost use Rattle.coap_scripts.specs.declared.status.Status.TheVariants.{Done, Refused};
+ghost use Rattle.coap_scripts.specs.declared.status.Status.TheVariants.{Done};
 
 use crate::changes::{ChangeTeller, TellingEnd};
 use crate::ends::tell_refusal;
@@ -57,7 +59,7 @@ where
 
 // Says why a server with a journal has ended.
 fn tell_failure<E: Write>(name: &str, why: CommitError, err: &mut E) -> Result<Status, Stop>
-    ensures { IfOk result (λ status. status ≡ Refused) }
+    ensures { IfOk result (λ _. ⊥) }
 {
     let _ = writeln!(err, "{name}: {why}: what came since counts as lost");
     Err(Stop::Failed)
@@ -81,8 +83,9 @@ where
     T: Timekeeper,
     W: Write,
     E: Write,
-    ensures { IfOk result (λ status. (status ≡ Refused) ⊎ ((status ≡ Done)
-        × (last : State) × FedFrom turns.0 (state_of content_of journaled.end) last)) }
+    ensures serves { IfOk result (λ status. (status ≡ Done)
+        × (last : State) × FedFrom turns.0 (state_of content_of journaled.end) last) }
+    ensures printed { OnOk result (Appends (W.contents out.old) (W.contents out.new) (served_text turns.0)) }
 {
     let (count, word) = turns;
     let mut server = TellingEnd::new(Kept::new(journaled), changes);
@@ -119,7 +122,8 @@ where
     T: Timekeeper,
     W: Write,
     E: Write,
-    ensures { IfOk result (IsGoneOn turns.0 options.now first.0 (state_of content_of journaled.end)) }
+    ensures { IfOk result (IsGoneOn (W.contents out.old) (W.contents out.new) turns.0
+        options.now first.0 (state_of content_of journaled.end)) }
 {
     let mut journaled = journaled;
     match set_up_missing(alloc, &mut journaled, first, options) {
@@ -157,7 +161,8 @@ where
     T: Timekeeper + Drop,
     W: Write,
     E: Write,
-    ensures { IfOk result (IsGoneOn serving.1 options.now kept.first.0 (state_of content_of kept.journaled.end)) }
+    ensures { IfOk result (IsGoneOn (W.contents out.old) (W.contents out.new) serving.1
+        options.now kept.first.0 (state_of content_of kept.journaled.end)) }
 {
     let (port, count) = serving;
     warn(options, port, err);

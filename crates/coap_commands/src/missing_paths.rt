@@ -1,12 +1,14 @@
 //! What a server that goes on is made to hold at paths that hold nothing.
-ghost use Rattle.std.specs.Prelude.{◌≡◌, None, Some, IfNone, IfOk, true, false};
+ghost use Rattle.std.specs.Prelude.{◌≡◌, None, Some, IfNone, IfOk, IfSome, true, false};
 ghost use Rattle.coap_resource.specs.Content.{Held};
 ghost use Rattle.coap_resource.specs.Entries.{content_of};
 ghost use Rattle.coap_server.specs.Led.{Step};
 ghost use Rattle.coap_server.specs.Object.Shown.{state_of};
 ghost use Rattle.coap_server.specs.Trace.{Gets};
-ghost use Rattle.coap_commands.specs.Kept.{HoldsEach, HoldsMissing, IsSetMissing};
+ghost use Rattle.coap_commands.specs.Kept.{HoldsEach, HoldsMissing, IsRefusedMissing, IsSetMissing, RefusesAmong};
+ghost use Rattle.coap_commands.specs.Kept.{RefusesMissing};
 
+use crate::ends::refusal_of;
 use crate::setting_up::{BODY, PATH};
 use coap_arguments::{Hold, ServeOptions, path_of_text};
 use coap_ends::Server;
@@ -37,7 +39,9 @@ fn hold_missing<H: BuildHasher + Drop, F: JournalFile>(
     path: &Path,
     body: &[u8],
 ) -> Result<Option<StoreRefusal>, Stop>
-    ensures { IfOk result (λ refusal. IfNone refusal (HoldsMissing at.0 path.now body.now
+    ensures holds { IfOk result (λ refusal. IfNone refusal (HoldsMissing at.0 path.now body.now
+        (state_of content_of journaled.old.end) (state_of content_of journaled.new.end))) }
+    ensures refused { IfOk result (λ refusal. IfSome refusal (λ why. RefusesMissing at.0 path.now body.now why
         (state_of content_of journaled.old.end) (state_of content_of journaled.new.end))) }
 {
     if is_held(journaled.end(), path) {
@@ -45,8 +49,10 @@ fn hold_missing<H: BuildHasher + Drop, F: JournalFile>(
     }
     match journaled.set(at, path, Some(TEXT_PLAIN), body) {
         Ok(_) => Ok(None),
-        Err(StoreRefusal::Memory) => Err(Stop::Memory),
-        Err(refusal) => Ok(Some(refusal)),
+        Err(refusal) => {
+            let why = refusal_of(refusal)?;
+            Ok(Some(why))
+        }
     }
 }
 
@@ -56,7 +62,9 @@ fn hold_each<H: BuildHasher + Drop, F: JournalFile>(
     at: Moment,
     holds: &[Hold],
 ) -> Result<Option<StoreRefusal>, Stop>
-    ensures { IfOk result (λ refusal. IfNone refusal (HoldsEach at.0 holds.now
+    ensures holds { IfOk result (λ refusal. IfNone refusal (HoldsEach at.0 holds.now
+        (state_of content_of journaled.old.end) (state_of content_of journaled.new.end))) }
+    ensures refused { IfOk result (λ refusal. IfSome refusal (λ why. RefusesAmong at.0 holds.now why
         (state_of content_of journaled.old.end) (state_of content_of journaled.new.end))) }
 {
     for held in holds {
@@ -74,7 +82,9 @@ pub(crate) fn set_up_missing<H: BuildHasher + Drop, F: JournalFile>(
     at: Moment,
     options: &ServeOptions,
 ) -> Result<Option<StoreRefusal>, Stop>
-    ensures { IfOk result (λ refusal. IfNone refusal (IsSetMissing at.0 options.now
+    ensures set { IfOk result (λ refusal. IfNone refusal (IsSetMissing at.0 options.now
+        (state_of content_of journaled.old.end) (state_of content_of journaled.new.end))) }
+    ensures refused { IfOk result (λ refusal. IfSome refusal (λ why. IsRefusedMissing at.0 options.now why
         (state_of content_of journaled.old.end) (state_of content_of journaled.new.end))) }
 {
     let Ok(path) = path_of_text(alloc, PATH) else {

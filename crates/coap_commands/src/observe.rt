@@ -1,21 +1,29 @@
 //! Observing a resource, and printing its values (RFC 7641).
 ghost use Rattle.std.specs.Prelude.{◌≡◌, ◌↔◌, ◌+◌, ◌≤◌, ◌∷◌, ℕ, List, [], true, false, Some, IfNone, IfOk, IfSome};
-ghost use Rattle.std.specs.Prelude.{OnOk};
+ghost use Rattle.std.specs.Prelude.{Ok, Option, OnOk};
+ghost use Rattle.std.specs.declared.alloc.Global.{Global};
+ghost use Rattle.std.specs.Io.KnownBytes.{Appends};
 ghost use Rattle.coap_types.specs.declared.endpoint.Endpoint.{Endpoint as EndpointSpec};
 ghost use Rattle.coap_block.specs.Sizes.{Sizes};
 ghost use Rattle.coap_layer.specs.declared.setup.Setup.{Setup as SetupSpec};
 ghost use Rattle.coap_client.specs.Led.{Led, State, Step};
 ghost use Rattle.coap_client.specs.Object.Shown.{number_of, shown_report};
-ghost use Rattle.coap_client.specs.Trace.{Call, is_value};
+ghost use Rattle.coap_client.specs.Trace.{Call, Cancels, Report as ReportSpec, is_value};
 ghost use Rattle.coap_client.specs.Trace.{Observes as observes};
+ghost use Rattle.coap_client.specs.declared.client.report.Report as R;
+ghost use Rattle.coap_client.specs.declared.refusals.CancelRefusal.{CancelRefusal as CancelRefusalSpec};
 ghost use Rattle.coap_arguments.specs.declared.orders.AskOptions.{AskOptions as OptionsSpec};
 ghost use Rattle.coap_commands.specs.Asks.{takes_report};
 ghost use Rattle.coap_commands.specs.JsonLines.{WritesOutcome};
 ghost use Rattle.coap_commands.specs.JsonValues.{WritesValue, form_of};
 ghost use Rattle.coap_commands.specs.Observes.{HasAll, IsLate, IsOver, ObserveBecomes, ObserveComes, Observed};
-ghost use Rattle.coap_commands.specs.Observes.{Observes};
+ghost use Rattle.coap_commands.specs.Observes.{HasGivenUp, Observes};
 ghost use Rattle.coap_commands.specs.Observes.{observed_status};
+ghost use Rattle.coap_commands.specs.Printed.{line_of};
 ghost use Rattle.coap_commands.specs.Terms.{asked_terms, setup_of, sizes_of};
+ghost use Rattle.coap_commands.specs.Waiting.{HasPassed};
+ghost use Rattle.coap_commands.specs.Watches.{IsNoEnd, TakesReport, counted_with};
+ghost use Rattle.coap_commands.specs.declared.calling.Outcome.TheVariants.{Reported};
 
 use crate::ask::next_report_of;
 use crate::bearing::bear_in_a_row;
@@ -122,7 +130,9 @@ pub(crate) fn print_line<W: Write>(
     bytes: &[u8],
     is_hex: bool,
     out: &mut W,
-) -> Result<(), Stop> {
+) -> Result<(), Stop>
+    ensures { OnOk result (Appends (W.contents out.old) (W.contents out.new) (line_of is_hex bytes.now)) }
+{
     if is_hex {
         let text = hex_or_dash(alloc, bytes)?;
         writeln!(out, "{text}")?;
@@ -146,7 +156,11 @@ fn last_report<H: BuildHasher, W: Write>(
     out: &mut W,
 ) -> Result<Option<Report>, Stop>
     ensures last { IfOk result (λ last. IfSome last (λ report. Step client.old
-        (takes_report id.0 (shown_report report)) client.new × (is_value (shown_report report) ≡ false))) }
+        (takes_report id.0 (shown_report report)) client.new × (is_value (shown_report report) ≡ false)
+        × (values.new ≡ values.old))) }
+    ensures counted { IfOk result (λ last. IfNone last ((took : Option ReportSpec)
+        × TakesReport id.0 took client.old client.new × IsNoEnd took
+        × (values.new ≡ counted_with values.old took))) }
     ensures more { (options : OptionsSpec) (begin : ℕ) (s : State) → Observed options begin id.0 s values.old client.old
         → IfOk result (λ last. IfNone last (Observed options begin id.0 s values.new client.new)) }
 {
@@ -170,8 +184,11 @@ fn cancel_at_end<H: BuildHasher>(
     values: u64,
     now: Moment,
 )
-    ensures { (s : State) → Observed options.now begin.0 id.0 s values client.old
+    ensures observed { (s : State) → Observed options.now begin.0 id.0 s values client.old
         → Observed options.now begin.0 id.0 s values client.new }
+    ensures cancels { IsOver options.now begin.0 values now.0 → (answer : Option CancelRefusalSpec)
+        × Step client.old (Cancels now.0 id.0 answer) client.new }
+    ensures goes_on { (IsOver options.now begin.0 values now.0 → ⊥) → client.new ≡ client.old }
 {
     if is_over(options, begin, values, now) {
         let _answer = client.cancel(now, id);
@@ -180,7 +197,9 @@ fn cancel_at_end<H: BuildHasher>(
 
 // After how many seconds it is given up, where they have passed and no value came.
 fn given_up(options: &AskOptions, begin: Moment, values: u64, now: Moment) -> Option<u64>
-    ensures { IfSome result (λ seconds. options.now.give_up ≡ Some seconds) }
+    ensures some { IfSome result (λ seconds. (options.now.give_up ≡ Some seconds) × (values ≡ 0)
+        × HasPassed seconds begin.0 now.0) }
+    ensures none { IfNone result (HasGivenUp options.now begin.0 values now.0 → ⊥) }
 {
     if values > 0 {
         return None;
@@ -200,7 +219,8 @@ fn awaited<H: BuildHasher, L: Link, T: Timekeeper, E: Write, W: Write>(
     word: u64,
     out: &mut W,
 ) -> Result<Outcome, Stop>
-    ensures { IfOk result (ObserveComes options.now begin.0 id.0 client.old) }
+    ensures comes { IfOk result (ObserveComes options.now begin.0 id.0 client.old) }
+    ensures sent { (report : R.Report Global) → result ≡ Ok (Reported report) → client.new.layer.layer.queue ≡ [] }
 {
     let mut tally = fresh_tally(word);
     let mut values = 0;

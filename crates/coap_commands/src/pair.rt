@@ -1,16 +1,20 @@
 //! `pair`: a client and a server in one process, a PUT and a GET.
-ghost use Rattle.std.specs.Prelude.{◌≡◌, List, [], true, false, IfOk};
+ghost use Rattle.std.specs.Prelude.{◌≡◌, ◌∷◌, List, [], true, false, IfOk, OnOk};
 ghost use Rattle.coap_types.specs.declared.endpoint.Endpoint.{Endpoint as EndpointSpec};
 ghost use Rattle.coap_types.specs.declared.szx.TheConstants.{MAX_SZX as max_szx};
 ghost use Rattle.coap_block.specs.Sizes.{Sizes};
 ghost use Rattle.coap_layer.specs.declared.setup.Setup.{Setup as SetupSpec};
+ghost use Rattle.coap_resource.specs.Entries.{content_of};
+ghost use Rattle.coap_server.specs.Led.{Led as ServerLed};
+ghost use Rattle.coap_server.specs.Object.Shown.{state_of};
 ghost use Rattle.coap_client.specs.Led.{Led, State, Step};
 ghost use Rattle.coap_client.specs.Object.CallShown.{shown_request};
 ghost use Rattle.coap_client.specs.Object.Shown.{shown_report};
 ghost use Rattle.coap_client.specs.Trace.{Call};
 ghost use Rattle.coap_commands.specs.Asks.{AsksNothing, Turned, changed_status, takes_report};
-ghost use Rattle.coap_commands.specs.Ends.{client_sizes};
+ghost use Rattle.coap_commands.specs.Ends.{client_sizes, server_limits};
 ghost use Rattle.coap_commands.specs.Pairs.{CameBack, IsHanded, IsPaired, Pairs, paired_setup};
+ghost use Rattle.coap_commands.specs.Printed.{WritesGet, WritesNamed, WritesPut};
 ghost use Rattle.coap_commands.specs.Statuses.{IsCarriedOut};
 ghost use Rattle.coap_scripts.specs.declared.status.Status.TheVariants as status;
 
@@ -23,13 +27,15 @@ use crate::side::Side;
 use crate::timekeeper::{ProgramTime, Timekeeper};
 use crate::word::word_of;
 use coap_arguments::WordChoice;
-use coap_ends::{CallId, Client, End, Report};
+use coap_ends::{CallId, Client, End, Report, Server};
 use coap_layer::Setup;
 use coap_links::{ANY_PORT, LOOPBACK, Link, Tally, UdpLink, fresh_tally, send_all, turn};
+use coap_resource::MapStore;
 use coap_scripts::{Status, Stop, largest_szx};
-use coap_types::{BodyLimit, Code, Endpoint, Moment, Path, Remembered, Request};
+use coap_types::{BodyLimit, Endpoint, Moment, Path, Remembered, Request};
 use std::alloc::Global;
 use std::hash::{BuildHasher, RandomState};
+use std::io;
 use std::io::Write;
 use std::net::Net;
 use std::random::RandomSource;
@@ -42,7 +48,8 @@ fn turn_client<H: BuildHasher, C: Link>(
     now: Moment,
     tally: &mut Tally,
 )
-    ensures { Turned AsksNothing client.old client.new }
+    ensures turned { Turned AsksNothing client.old client.new }
+    ensures sent { client.new.layer.layer.queue ≡ [] }
 {
     turn(client, link, now, tally);
     send_all(client, link);
@@ -108,7 +115,8 @@ fn put_and_get<H: BuildHasher, C: Link, E: End<Global>, S: Link, T: Timekeeper, 
     out: &mut W,
 ) -> Result<Status, Stop>
     ensures { IfOk result (λ status. (server : EndpointSpec) (sizes : Sizes) (w : SetupSpec)
-        → Led server sizes w [] client.old → Pairs server sizes w path.now body.now status) }
+        → Led server sizes w [] client.old → Pairs (W.contents out.old) (W.contents out.new) server sizes w path.now
+        body.now status) }
 {
     let request = put_request(alloc, path, body)?;
     let put = ask(client, link, tally, server, time, request)?;
@@ -124,17 +132,26 @@ fn put_and_get<H: BuildHasher, C: Link, E: End<Global>, S: Link, T: Timekeeper, 
     }
 }
 
+// Prints what became of a request behind a name.
+fn say<W: Write>(alloc: Global, name: &str, outcome: &Outcome, out: &mut W) -> Result<(), Stop>
+    ensures { OnOk result (WritesNamed name.now (W.contents out.old) (W.contents out.new) outcome.now) }
+{
+    let text = outcome_text(alloc, outcome)?;
+    writeln!(out, "{name} {text}")?;
+    Ok(())
+}
+
 // Prints what became of the PUT, and whether it succeeded.
 fn tell_put<W: Write>(alloc: Global, outcome: &Outcome, out: &mut W) -> Result<bool, Stop>
     ensures yes { IfOk result (λ is. is ≡ true → changed_status outcome.now ≡ status.Done) }
     ensures no { IfOk result (λ is. is ≡ false → changed_status outcome.now ≡ status.Refused) }
+    ensures printed { OnOk result (WritesPut (W.contents out.old) (W.contents out.new) outcome.now) }
 {
     if let Outcome::Reported(Report::Done(code)) = outcome {
         writeln!(out, "put {code}")?;
         return Ok(true);
     }
-    let text = outcome_text(alloc, outcome)?;
-    writeln!(out, "put {text}")?;
+    say(alloc, "put", outcome, out)?;
     Ok(false)
 }
 
@@ -147,16 +164,29 @@ fn tell_get<W: Write>(
 ) -> Result<bool, Stop>
     ensures yes { IfOk result (λ is. is ≡ true → CameBack body.now outcome.now) }
     ensures no { IfOk result (λ is. is ≡ false → CameBack body.now outcome.now → ⊥) }
+    ensures printed { OnOk result (WritesGet (W.contents out.old) (W.contents out.new) outcome.now) }
 {
     if let Outcome::Reported(Report::Body(fetched)) = outcome {
-        let code = Code::CONTENT;
         let len = fetched.body.len();
-        writeln!(out, "get {code} {len}")?;
+        writeln!(out, "get 2.05 {len}")?;
         return Ok(fetched.body.as_slice() == body);
     }
-    let text = outcome_text(alloc, outcome)?;
-    writeln!(out, "get {text}")?;
+    say(alloc, "get", outcome, out)?;
     Ok(false)
+}
+
+// The server of a pair, to which nothing has happened.
+fn paired_server<K: BuildHasher + Drop>(
+    alloc: Global,
+    word: u64,
+    remembered: Remembered,
+    limit: BodyLimit,
+    hasher: K,
+) -> Server<MapStore, Global, K>
+    ensures { ServerLed (server_limits limit) max_szx (paired_setup word remembered) [] (state_of content_of result) }
+{
+    let setup = Setup { word, remembered };
+    fresh_server(alloc, setup, limit, hasher)
 }
 
 /// Puts a body at a path and gets it back, between a client and a server that take turns, and
@@ -186,14 +216,14 @@ pub fn pair_over<
     ensures ends { IfOk result IsCarriedOut }
     // A client of the server at that link, with as many remembered messages as were chosen, was handed a PUT of the
     // body at the path, where success was reported of it a GET of the path, and nothing else; the status is 0 where the
-    // body came back, and else 1.
-    ensures pairs { IfOk result (Pairs (S.own_address server_link.old) (client_sizes max_szx limit)
+    // body came back, and else 1. What is printed is what became of the PUT and of the GET, a line of each.
+    ensures pairs { IfOk result (Pairs (W.contents out.old) (W.contents out.new)
+        (S.own_address server_link.old) (client_sizes max_szx limit)
         (paired_setup word remembered) path.now body.now) }
 {
     let (client_hasher, server_hasher) = hashers;
     let address = server_link.address();
     let client_setup = Setup { word, remembered };
-    let server_setup = Setup { word, remembered };
     let mut client = fresh_client(
         alloc,
         address,
@@ -202,7 +232,7 @@ pub fn pair_over<
         limit,
         client_hasher,
     );
-    let mut server = fresh_server(alloc, server_setup, limit, server_hasher);
+    let mut server = paired_server(alloc, word, remembered, limit, server_hasher);
     let mut side = Side::new(&mut server, server_link, word);
     let mut tally = fresh_tally(word);
     let ended = put_and_get(
@@ -221,6 +251,17 @@ pub fn pair_over<
     ended
 }
 
+// A link at 127.0.0.1, at a port that is free.
+fn loopback_link<R: Net>(net: &R) -> io::Result<UdpLink>
+    ensures { IfOk result (λ link. link.address.ip ≡ 127 ∷ 0 ∷ 0 ∷ 1 ∷ []) }
+{
+    let own = Endpoint {
+        ip: LOOPBACK,
+        port: ANY_PORT,
+    };
+    UdpLink::bind(net, own)
+}
+
 /// Puts a body at a path and gets it back, over two sockets of 127.0.0.1.
 pub fn pair<R: AllocGlobal + Net + Clock + RandomSource, W: Write>(
     rt: &R,
@@ -231,16 +272,12 @@ pub fn pair<R: AllocGlobal + Net + Clock + RandomSource, W: Write>(
     remembered: Remembered,
     out: &mut W,
 ) -> Result<Status, Stop>
-    ensures { IfOk result (IsPaired path.now body.now word limit remembered) }
+    ensures { IfOk result (IsPaired (W.contents out.old) (W.contents out.new) path.now body.now word limit remembered) }
 {
     let word = word_of(rt, word)?;
     let mut time = ProgramTime::begin(rt)?;
-    let own = Endpoint {
-        ip: LOOPBACK,
-        port: ANY_PORT,
-    };
-    let mut client_link = UdpLink::bind(rt, own)?;
-    let mut server_link = UdpLink::bind(rt, own)?;
+    let mut client_link = loopback_link(rt)?;
+    let mut server_link = loopback_link(rt)?;
     let hashers = (RandomState::new(rt)?, RandomState::new(rt)?);
     pair_over(
         rt.alloc(),

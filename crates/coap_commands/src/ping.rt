@@ -1,5 +1,7 @@
 //! `ping`: over a socket.
 ghost use Rattle.std.specs.Prelude.{IfOk};
+ghost use Rattle.coap_commands.specs.Asked.{IsRandom};
+ghost use Rattle.coap_commands.specs.Pinged.{PingsBy};
 ghost use Rattle.coap_commands.specs.Statuses.{IsCarriedOut};
 
 use crate::capturing::{begin_of, capture_in};
@@ -13,8 +15,9 @@ use crate::terminal::Showing;
 use crate::timekeeper::{ProgramTime, Timekeeper};
 use crate::told_source::{Telling, ToldSource};
 use crate::tracing::Tracing;
-use crate::word::word_of;
-use coap_arguments::{PingOptions, Server, WordChoice};
+use crate::word::{Draws, random_word};
+use coap_arguments::{PingOptions, Server};
+use coap_links::Link;
 use coap_scripts::{Status, Stop};
 use std::cell::RefCell;
 use std::io::Write;
@@ -25,17 +28,21 @@ use std::rt::{Clock, Files};
 // How many pings there are where the words don't say.
 const DEFAULT_COUNT: u64 = 1;
 
+const _: () = prove!(DEFAULT_COUNT == 1);
+
 // Sends pings over a link of this source.
-fn ping_from<R: AllocGlobal + Clock + RandomSource, S: LinkSource, O: Write>(
+fn ping_from<R: AllocGlobal + Clock + Draws, S: LinkSource, O: Write>(
     rt: &R,
     source: &S,
     time: &mut ProgramTime<'_, R>,
     options: &PingOptions,
     out: &mut O,
 ) -> Result<Status, Stop>
-    ensures { IfOk result IsCarriedOut }
+    ensures ends { IfOk result IsCarriedOut }
+    ensures pings { IfOk result (PingsBy ⟦<S::Link as Link>⟧.sends ⟦<S::Link as Link>⟧.receives (S.reaches source.now)
+        (IsRandom (R.draws rt.now)) options.now) }
 {
-    let word = word_of(rt, WordChoice::Random)?;
+    let word = random_word(rt)?;
     let (link, server) = source.open()?;
     let mut link = link;
     let pinging = Pinging {

@@ -1,5 +1,8 @@
 //! `ping`: whether somebody is at an endpoint, and how soon it answers (RFC 7252, section 4.3).
-ghost use Rattle.std.specs.Prelude.{◌≡◌, ◌≤◌, ◌+◌, true, IfOk};
+ghost use Rattle.std.specs.Prelude.{◌≡◌, ◌≤◌, ◌+◌, ◌↔◌, true, IfOk, OnOk};
+ghost use Rattle.std.specs.Io.KnownBytes.{Appends};
+ghost use Rattle.coap_commands.specs.JsonLines.{WritesObject, ping_end_object};
+ghost use Rattle.coap_commands.specs.Printed.{ping_text};
 ghost use Rattle.coap_commands.specs.Pinged.{Comes, Drops, Hears, IsGivenUp, IsNext, IsPing, MaySend, Pings};
 
 use crate::bearing::bear_in_all;
@@ -56,7 +59,7 @@ fn send_again<L: Link>(ping: &mut Ping, link: &mut L, now: Moment)
 
 // Whether no answer is awaited any more.
 fn is_given_up(ping: &Ping, give_up: Option<u64>, now: Moment) -> bool
-    ensures { result ≡ true → IsGivenUp give_up ping.now now.0 }
+    ensures { (result ≡ true) ↔ IsGivenUp give_up ping.now now.0 }
 {
     ping.is_over(now) || has_lasted(give_up, ping.elapsed(now))
 }
@@ -125,7 +128,9 @@ fn pause<L: Link, T: Timekeeper>(link: &mut L, time: &mut T, begin: Moment) -> R
 }
 
 // Says how a ping ended.
-fn tell<O: Write>(answer: Option<u64>, out: &mut O) -> Result<(), Stop> {
+fn tell<O: Write>(answer: Option<u64>, out: &mut O) -> Result<(), Stop>
+    ensures { OnOk result (Appends (O.contents out.old) (O.contents out.new) (ping_text answer)) }
+{
     match answer {
         Some(ms) => writeln!(out, "reset {ms} ms")?,
         None => writeln!(out, "timeout")?,
@@ -141,7 +146,10 @@ fn tell_in_json<O: Write>(
     begin: Moment,
     now: Moment,
     out: &mut O,
-) -> Result<(), Stop> {
+) -> Result<(), Stop>
+    ensures { OnOk result (WritesObject (O.contents out.old) (O.contents out.new)
+        (ping_end_object begin.0 now.0 answer)) }
+{
     let line = match answer {
         Some(ms) => ping_line(alloc, now, PingEnd::Reset, ms)?,
         None => ping_line(alloc, now, PingEnd::Timeout, now.since(begin))?,

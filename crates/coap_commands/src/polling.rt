@@ -1,6 +1,6 @@
 //! Getting what a server holds at a path again and again, by one client, and printing each reading (RFC 7252, section
 //! 5.8.1).
-ghost use Rattle.std.specs.Prelude.{◌≡◌, ◌∷◌, ℕ, List, [], length, true, Some, Ok, IfOk, OnOk};
+ghost use Rattle.std.specs.Prelude.{◌≡◌, ◌↔◌, ◌∷◌, ℕ, List, [], length, true, false, Some, Ok, IfOk, OnOk};
 ghost use Rattle.coap_types.specs.declared.endpoint.Endpoint.{Endpoint as EndpointSpec};
 ghost use Rattle.coap_block.specs.Sizes.{Sizes};
 ghost use Rattle.coap_layer.specs.declared.setup.Setup.{Setup as SetupSpec};
@@ -8,9 +8,9 @@ ghost use Rattle.coap_client.specs.Led.{Led, State};
 ghost use Rattle.coap_arguments.specs.declared.orders.What.TheVariants.{Get};
 ghost use Rattle.coap_commands.specs.Asked.{asked_request};
 ghost use Rattle.coap_commands.specs.Asks.{got_status};
-ghost use Rattle.coap_commands.specs.JsonLines.{WritesOutcome};
-ghost use Rattle.coap_commands.specs.Polls.{Closes, Goes, HasCome, HasRead, IsLeft, Polls, Reading, Reads};
-ghost use Rattle.coap_commands.specs.Polls.{pending_after, read_status};
+ghost use Rattle.coap_commands.specs.Printed.{WritesReading};
+ghost use Rattle.coap_commands.specs.Polls.{AreWritten, Closes, Goes, HasCome, HasRead, IsLeft, Polls, Reading, Reads};
+ghost use Rattle.coap_commands.specs.Polls.{WritesAs, pending_after, read_status};
 ghost use Rattle.coap_commands.specs.Terms.{asked_terms, setup_of, sizes_of};
 ghost use Rattle.coap_commands.specs.Waiting.{HasPassed};
 ghost use Rattle.coap_commands.specs.declared.calling.Outcome.{Outcome as OutcomeSpec};
@@ -143,7 +143,7 @@ fn tell_as<T: Timekeeper, O: Write, E: Write>(
     err: &mut E,
 ) -> Result<Status, Stop>
     ensures status { IfOk result (λ status. status ≡ got_status outcome.now) }
-    ensures written { OnOk result (WritesOutcome options.now.json (O.contents out.old) (O.contents out.new)
+    ensures written { OnOk result (WritesAs options.now.json options.now.hex (O.contents out.old) (O.contents out.new)
         outcome.now) }
 {
     if !options.json {
@@ -162,7 +162,8 @@ fn tell<O: Write, E: Write>(
     out: &mut O,
     err: &mut E,
 ) -> Result<Status, Stop>
-    ensures { IfOk result (λ status. status ≡ got_status outcome.now) }
+    ensures status { IfOk result (λ status. status ≡ got_status outcome.now) }
+    ensures printed { OnOk result (WritesReading is_hex (O.contents out.old) (O.contents out.new) outcome.now) }
 {
     if let Outcome::Reported(Report::Body(fetched)) = outcome {
         print_line(alloc, fetched.body.as_slice(), is_hex, out)?;
@@ -186,7 +187,9 @@ fn read_and_tell<H: BuildHasher, L: Link, T: Timekeeper, O: Write, E: Write>(
     ensures { IfOk result (λ made. (came : OutcomeSpec) × (made.status ≡ got_status came)
         × Reads polling.now.options.now.give_up
         (asked_request Get polling.now.path.now polling.now.options.now []) begin.0 came made.pending
-        client.old client.new) }
+        client.old client.new
+        × WritesAs polling.now.options.now.json polling.now.options.now.hex (O.contents out.old) (O.contents out.new)
+        came) }
 {
     let (outcome, pending) = read(client, connection, polling, begin, tally)?;
     let status = tell_as(
@@ -247,7 +250,7 @@ fn pause<H: BuildHasher, L: Link, T: Timekeeper, E: Write>(
 
 // Whether so many readings are as many as are wanted.
 fn is_last(times: Option<u64>, readings: u64) -> bool
-    ensures { result ≡ true → times ≡ Some readings }
+    ensures { (result ≡ true) ↔ (times ≡ Some readings) }
 {
     times == Some(readings)
 }
@@ -264,7 +267,8 @@ fn polled<H: BuildHasher, L: Link, T: Timekeeper, O: Write, E: Write>(
     ensures { IfOk result (λ status. (readings : List Reading)
         × (polling.now.options.now.times ≡ Some (length readings)) × (status ≡ read_status readings)
         × (s : State) × HasRead polling.now.options.now.give_up polling.now.every
-        (asked_request Get polling.now.path.now polling.now.options.now []) readings client.old s) }
+        (asked_request Get polling.now.path.now polling.now.options.now []) readings client.old s
+        × AreWritten polling.now.options.now readings (O.contents out.old) (O.contents out.new)) }
 {
     let times = polling.options.times;
     if is_last(times, 0) {
@@ -306,8 +310,10 @@ pub fn poll_over<L: Link, T: Timekeeper, H: BuildHasher + Drop, O: Write, E: Wri
 ) -> Result<Status, Stop>
     // A client of this server, which began by the options, was called to GET the path as many times as they say, and
     // for nothing else: each time once it was through with the call before, and not before so many seconds had passed.
-    // The status is 0 where a body was reported of the last, or none was called for, and else 1.
-    ensures { IfOk result (Polls server (sizes_of (asked_terms word polling.now.options.now))
+    // The status is 0 where a body was reported of the last, or none was called for, and else 1. What is written is,
+    // in order, an object of JSON of each time, or each body on a line, and nothing else.
+    ensures { IfOk result (Polls (O.contents out.old) (O.contents out.new) server
+        (sizes_of (asked_terms word polling.now.options.now))
         (setup_of (asked_terms word polling.now.options.now))
         (asked_request Get polling.now.path.now polling.now.options.now []) polling.now.every polling.now.options.now) }
 {

@@ -1,6 +1,8 @@
 //! How far a body is that goes or comes in blocks (RFC 7959).
-ghost use Rattle.std.specs.Prelude.{◌≡◌, ◌+◌, is_some, option_map, IfSome};
-ghost use Rattle.coap_commands.specs.Progress.{blocks_of, is_in_blocks};
+ghost use Rattle.std.specs.Prelude.{◌≡◌, ◌+◌, is_some, option_copied, option_map, IfSome};
+ghost use Rattle.coap_types.specs.OptionValues.{uint_at, value_of};
+ghost use Rattle.coap_commands.specs.Progress.{block_at, blocks_of, is_fresh, is_in_blocks, len_after, told_in};
+ghost use Rattle.coap_commands.specs.Progress.{told_of};
 
 use crate::screen::Screen;
 use crate::timekeeper::Timekeeper;
@@ -78,6 +80,8 @@ pub fn progress_of(way: Way, block: Block, len: Option<u64>) -> Option<Progress>
     ensures count { IfSome result (λ progress. progress.of ≡ option_map (λ n. blocks_of n block.szx) len) }
     // Whether the body goes or comes is told as it is.
     ensures way { IfSome result (λ progress. progress.way ≡ way) }
+    // What is told of a block of a body is just that.
+    ensures exact { result ≡ told_of way block len }
 {
     let Block { num, more, szx } = block;
     let of = blocks_in(len, szx);
@@ -93,7 +97,9 @@ pub fn progress_of(way: Way, block: Block, len: Option<u64>) -> Option<Progress>
 }
 
 // The value of the first option with this number.
-fn value_of<'a>(message: &View<'a>, number: u16) -> Option<&'a [u8]> {
+fn value_of<'a>(message: &View<'a>, number: u16) -> Option<&'a [u8]>
+    ensures { option_copied result ≡ value_of number message.now.options }
+{
     for option in message.options() {
         if option.number == number {
             return Some(option.value);
@@ -103,12 +109,16 @@ fn value_of<'a>(message: &View<'a>, number: u16) -> Option<&'a [u8]> {
 }
 
 // The block that a message says in the option with this number.
-fn block_of(message: &View<'_>, number: u16) -> Option<Block> {
+fn block_of(message: &View<'_>, number: u16) -> Option<Block>
+    ensures { result ≡ block_at number message.now.options }
+{
     Block::read(value_of(message, number)?)
 }
 
-// The number that it says there.
-fn number_of(message: &View<'_>, number: u16) -> Option<u64> {
+/// The number that it says there.
+pub(crate) fn number_of(message: &View<'_>, number: u16) -> Option<u64>
+    ensures { result ≡ uint_at number message.now.options }
+{
     Some(u64::from(uint_of(value_of(message, number)?)?))
 }
 
@@ -154,7 +164,10 @@ pub fn progress_on<'a, T: Timekeeper + Drop, W: Write>(
 
 impl<'a, T: Timekeeper, W: Write> ProgressTeller<'a, T, W> {
     // How far the body is of which a block goes or comes in this message.
-    fn progress(&mut self, way: Way, message: &View<'_>) -> Option<Progress> {
+    fn progress(&mut self, way: Way, message: &View<'_>) -> Option<Progress>
+        ensures told { result ≡ told_in way self.old.sent_len message.now.options self.old.got_len }
+        ensures len { self.new.got_len ≡ len_after way message.now.options self.old.got_len }
+    {
         match way {
             Way::Goes => progress_of(way, block_of(message, BLOCK1)?, Some(self.sent_len)),
             Way::Comes => {
@@ -168,7 +181,9 @@ impl<'a, T: Timekeeper, W: Write> ProgressTeller<'a, T, W> {
     }
 
     // Whether something was shown just now.
-    fn is_fresh(&self, now: Moment) -> bool {
+    fn is_fresh(&self, now: Moment) -> bool
+        ensures { result ≡ is_fresh self.now.shown now }
+    {
         match self.shown {
             Some(shown) => now.since(shown) < SHOWN_MS,
             None => false,

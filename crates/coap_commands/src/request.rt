@@ -1,5 +1,5 @@
 //! The request that the words ask for.
-ghost use Rattle.std.specs.Prelude.{◌≡◌, IfOk};
+ghost use Rattle.std.specs.Prelude.{◌≡◌, IfOk, IfSome, take};
 ghost use Rattle.coap_client.specs.Object.CallShown.{shown_request};
 ghost use Rattle.coap_commands.specs.Asked.{IsBody, IsContent, asked_method, asked_request};
 
@@ -113,7 +113,9 @@ fn file_bytes<R: AllocGlobal + Files>(rt: &R, name: &str, limit: BodyLimit) -> R
 }
 
 // What there is to read, up to so many bytes.
-fn read_up_to<R: Read + Drop>(alloc: Global, file: R, most: u64) -> Result<Bytes, Stop> {
+fn read_up_to<R: Read + Drop>(alloc: Global, file: R, most: u64) -> Result<Bytes, Stop>
+    ensures { IfOk result (λ bytes. IfSome (R.remaining file) (λ rest. bytes ≡ take most rest)) }
+{
     let mut bytes = Vec::new(alloc);
     match file.take(most).read_to_end(&mut bytes) {
         Ok(_) => Ok(Bytes::from_vec(bytes).map_err(|_| Stop::Memory)?),

@@ -79,6 +79,8 @@ impl<'a, 'b, O: Write, W: Write> BesideScreen<'a, 'b, O, W> {
 }
 
 impl<'a, 'b, O: Write, W: Write> Write for BesideScreen<'a, 'b, O, W> {
+    ghost contents = { λ beside. O.contents beside.out.now };
+
     fn write(&mut self, bytes: &[u8]) -> io::Result<usize> {
         erase(self.screen);
         self.out.write(bytes)

@@ -1,5 +1,6 @@
 //! `serve`: a server over a socket.
-ghost use Rattle.std.specs.Prelude.{◌≡◌, IfOk, OnOk, map};
+ghost use Rattle.std.specs.Prelude.{◌≡◌, ◌↔◌, IfOk, IsTrue, OnOk, map};
+ghost use Rattle.std.specs.Io.KnownBytes.{Appends};
 ghost use Rattle.coap_links.specs.Pumping.{SendsAll};
 ghost use Rattle.coap_links.specs.Turning.{Turns};
 ghost use Rattle.coap_resource.specs.Entries.{content_of};
@@ -8,8 +9,11 @@ ghost use Rattle.coap_server.specs.Object.Shown.{state_of};
 ghost use Rattle.coap_commands.specs.Serves.{Feeds, Serves};
 ghost use Rattle.coap_scripts.specs.Settings.{setting_of};
 ghost use Rattle.coap_commands.specs.Asked.{IsOrigin};
+ghost use Rattle.coap_commands.specs.Hosts.{IsBoundFor, IsLoopback, IsOfAddress};
+ghost use Rattle.coap_commands.specs.declared.hosts.Peer.TheVariants as peers;
 ghost use Rattle.coap_commands.specs.Kept.{IsServedAsSaid, IsServedOn};
 ghost use Rattle.coap_commands.specs.Served.{FedFrom, IsServed, IsServedBy, not_set_up_status};
+ghost use Rattle.coap_commands.specs.Printed.{not_set_up_text, served_text};
 ghost use Rattle.coap_scripts.specs.declared.status.Status.TheVariants.{Done};
 
 use crate::bearing::bear_serving;
@@ -98,10 +102,12 @@ pub fn serve_over<A: Allocator + Copy, E: End<A>, L: Link, T: Timekeeper, W: Wri
 ) -> Result<Status, Stop>
     // A `serve` over any link ends with status 0, or stops: it ends after turns alone, once so many datagrams were fed
     // and no later, and has sent what was out then.
-    ensures { IfOk result (λ status. (status ≡ Done) × Serves
+    ensures serves { IfOk result (λ status. (status ≡ Done) × Serves
         (Turns E.waiting E.gives L.sends L.receives L.fault_count E.quiet_feed E.feeds E.quiet_tick E.ticks)
         (λ g k f m. SendsAll E.gives L.sends g k (E.waiting g) f m) count word
         (E.state server.old) link.old (E.state server.new) link.new) }
+    // What it prints is how many datagrams were to be fed, and nothing else.
+    ensures printed { OnOk result (Appends (W.contents out.old) (W.contents out.new) (served_text count)) }
 {
     serve_until(server, link, time, count, word)?;
     send_all(server, link);
@@ -110,7 +116,9 @@ pub fn serve_over<A: Allocator + Copy, E: End<A>, L: Link, T: Timekeeper, W: Wri
 }
 
 // Whether only the machine itself reaches an address (RFC 1122, section 3.2.1.3; RFC 4291, section 2.5.3).
-fn is_loopback(address: Address) -> bool {
+fn is_loopback(address: Address) -> bool
+    ensures { IsTrue result ↔ IsLoopback address }
+{
     match address {
         Address::Four(ip) => ip.is_loopback(),
         Address::Six { ip, .. } => ip.is_loopback(),
@@ -143,8 +151,9 @@ fn serve_with<
     word: u64,
     out: &mut W,
 ) -> Result<Status, Stop>
-    ensures { IfOk result (λ status. (status ≡ Done)
+    ensures serves { IfOk result (λ status. (status ≡ Done)
         × (last : State) × FedFrom count (state_of content_of server) last) }
+    ensures printed { OnOk result (Appends (W.contents out.old) (W.contents out.new) (served_text count)) }
 {
     let mut server = TellingEnd::new(server, changes);
     let ended = serve_over(&mut server, link, time, count, word, out);
@@ -167,6 +176,7 @@ fn serve_on<
     link: L,
     capture: (P, Option<F>),
     telling: (N, Tracing),
+    port: u16,
     count: u64,
     origin: Origin,
     options: &ServeOptions,
@@ -174,9 +184,12 @@ fn serve_on<
     out: &mut O,
     err: &mut E,
 ) -> Result<Status, Stop>
+    requires bound { IsBoundFor options.now.address port (L.own_address link) }
     ensures { IfOk result (λ status. IsOrigin options.now.word origin
-        → IsServedBy count options.now (map setting_of settings.now) status) }
+        → IsServedBy (O.contents out.old) (O.contents out.new) count options.now
+        (map setting_of settings.now) status) }
 {
+    warn(options, port, err);
     let mut time = ProgramTime::begin(rt)?;
     let (standing, file) = capture;
     let begin = begin_of(rt, time.now()?)?;
@@ -199,7 +212,8 @@ fn serve_on<
 
 // Says why a server isn't set up.
 fn tell_not_set_up<W: Write>(why: NotSetUp, out: &mut W) -> Result<Status, Stop>
-    ensures { IfOk result (λ status. status ≡ not_set_up_status why) }
+    ensures status { IfOk result (λ status. status ≡ not_set_up_status why) }
+    ensures printed { OnOk result (Appends (W.contents out.old) (W.contents out.new) (not_set_up_text why)) }
 {
     match why {
         NotSetUp::Refused(refusal) => tell_refusal(refusal, out),
@@ -211,6 +225,7 @@ fn tell_not_set_up<W: Write>(why: NotSetUp, out: &mut W) -> Result<Status, Stop>
 fn serve_four<R: AllocGlobal + Files + Net + Clock + RandomSource, O: Write, E: Write>(
     rt: &R,
     address: Endpoint,
+    port: u16,
     count: u64,
     options: &ServeOptions,
     settings: &[Setting],
@@ -218,12 +233,13 @@ fn serve_four<R: AllocGlobal + Files + Net + Clock + RandomSource, O: Write, E: 
     out: &mut O,
     err: &mut E,
 ) -> Result<Status, Stop>
-    ensures { IfOk result (IsServedBy count options.now (map setting_of settings.now)) }
+    requires said { IsOfAddress options.now.address port (peers.Four address) }
+    ensures { IfOk result (IsServedBy (O.contents out.old) (O.contents out.new) count options.now
+        (map setting_of settings.now)) }
 {
     let origin = origin_of(rt, options.word)?;
     let link = UdpLink::bind(rt, address)?;
     let file = capture_in(rt, showing.pcap)?;
-    warn(options, address.port, err);
     let standing = FourStanding {
         own: link.address(),
     };
@@ -233,6 +249,7 @@ fn serve_four<R: AllocGlobal + Files + Net + Clock + RandomSource, O: Write, E: 
         link,
         (standing, file),
         (FourPeers, tracing),
+        port,
         count,
         origin,
         options,
@@ -246,6 +263,7 @@ fn serve_four<R: AllocGlobal + Files + Net + Clock + RandomSource, O: Write, E: 
 fn serve_six<R: AllocGlobal + Files + Net + Clock + RandomSource, O: Write, E: Write>(
     rt: &R,
     address: SocketAddrV6,
+    port: u16,
     count: u64,
     options: &ServeOptions,
     settings: &[Setting],
@@ -253,13 +271,14 @@ fn serve_six<R: AllocGlobal + Files + Net + Clock + RandomSource, O: Write, E: W
     out: &mut O,
     err: &mut E,
 ) -> Result<Status, Stop>
-    ensures { IfOk result (IsServedBy count options.now (map setting_of settings.now)) }
+    requires said { IsOfAddress options.now.address port (peers.Six address) }
+    ensures { IfOk result (IsServedBy (O.contents out.old) (O.contents out.new) count options.now
+        (map setting_of settings.now)) }
 {
     let origin = origin_of(rt, options.word)?;
     let names = names_for(rt, MAX_CLIENTS)?;
     let link = Udp6Link::bind(rt, address, &names, ProgramTime::begin(rt)?)?;
     let file = capture_in(rt, showing.pcap)?;
-    warn(options, address.port(), err);
     let standing = SixStanding::new(own_six(&names, link.address()), &names);
     let tracing = Tracing::of(options.trace, showing.is_coloured);
     serve_on(
@@ -267,6 +286,7 @@ fn serve_six<R: AllocGlobal + Files + Net + Clock + RandomSource, O: Write, E: W
         link,
         (standing, file),
         (SixPeers::new(&names), tracing),
+        port,
         count,
         origin,
         options,
@@ -291,13 +311,20 @@ fn serve_settings<
     out: &mut O,
     err: &mut E,
 ) -> Result<Status, Stop>
-    ensures { IfOk result (IsServedBy count options.now (map setting_of settings.now)) }
+    ensures { IfOk result (IsServedBy (O.contents out.old) (O.contents out.new) count options.now
+        (map setting_of settings.now)) }
 {
     match peer_at(options.address, port) {
         Peer::Four(address) => {
-            serve_four(rt, address, count, options, settings, showing, out, err)
+            serve_four(
+                rt, address, port, count, options, settings, showing, out, err,
+            )
         }
-        Peer::Six(address) => serve_six(rt, address, count, options, settings, showing, out, err),
+        Peer::Six(address) => {
+            serve_six(
+                rt, address, port, count, options, settings, showing, out, err,
+            )
+        }
     }
 }
 
@@ -316,11 +343,12 @@ fn serve_on_journal<
     out: &mut O,
     err: &mut E,
 ) -> Result<Status, Stop>
-    ensures { IfOk result (IsServedOn count options.now journal.entry) }
+    ensures { IfOk result (IsServedOn (O.contents out.old) (O.contents out.new) count options.now journal.entry) }
 {
     match peer_at(options.address, port) {
         Peer::Four(address) => {
-            keep_four(rt, address, count, options, journal, showing, out, err)
+            let serving = (port, count);
+            keep_four(rt, address, serving, options, journal, showing, out, err)
         }
         Peer::Six(_) => refuse_six(err),
     }
@@ -341,7 +369,7 @@ fn serve_script<
     out: &mut O,
     err: &mut E,
 ) -> Result<Status, Stop>
-    ensures { IfOk result (IsServed count options.now script.entry) }
+    ensures { IfOk result (IsServed (O.contents out.old) (O.contents out.new) count options.now script.entry) }
 {
     match script_of(rt, script)? {
         Ok(settings) => serve_settings(
@@ -371,7 +399,8 @@ pub fn serve<R: AllocGlobal + Files<File = File> + Net + Clock + RandomSource, O
     out: &mut O,
     err: &mut E,
 ) -> Result<Status, Stop>
-    ensures { IfOk result (IsServedAsSaid count options.now script.entry journal.entry) }
+    ensures { IfOk result (IsServedAsSaid (O.contents out.old) (O.contents out.new) count options.now script.entry
+        journal.entry) }
 {
     match journal {
         Some(journal) => serve_on_journal(rt, port, count, options, journal, showing, out, err),

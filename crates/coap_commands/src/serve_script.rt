@@ -1,5 +1,7 @@
 //! `serve --script`: what a script says of how a server is set up.
 ghost use Rattle.std.specs.Prelude.{◌≡◌, ◌≤◌, ◌∷◌, ℕ, List, true, map, length, IfErr, IfNone, IfOk, IfSome, IsSome};
+ghost use Rattle.std.specs.Prelude.{OnOk};
+ghost use Rattle.std.specs.Io.KnownBytes.{Appends};
 ghost use Rattle.coap_resource.specs.Entries.{content_of};
 ghost use Rattle.coap_resource.specs.Limits.{Limits};
 ghost use Rattle.coap_server.specs.Led.{Led};
@@ -9,6 +11,7 @@ ghost use Rattle.coap_server.specs.Trace.{Call, Delays, Plains};
 ghost use Rattle.coap_types.specs.declared.szx.TheConstants.{MAX_SZX as max_szx};
 ghost use Rattle.coap_scripts.specs.Script.{EachOf, IsFirstBad, lines_of};
 ghost use Rattle.coap_scripts.specs.Settings.{SaysSetting, setting_of};
+ghost use Rattle.coap_commands.specs.Printed.{bad_line_text};
 ghost use Rattle.coap_commands.specs.ScriptSettings.{AreMade, AreOfScript, HoldsBody, IsMade, limit_by, limit_with};
 ghost use Rattle.coap_scripts.specs.declared.status.Status.TheVariants.{Words};
 
@@ -189,7 +192,8 @@ fn text_of<R: AllocGlobal + Files>(rt: &R, name: &str) -> Result<Vec<u8>, Stop> 
 
 /// Says which line is wrong.
 pub(crate) fn tell_bad_line<W: Write>(bad: BadLine, out: &mut W) -> Result<Status, Stop>
-    ensures { IfOk result (λ status. status ≡ Words) }
+    ensures status { IfOk result (λ status. status ≡ Words) }
+    ensures printed { OnOk result (Appends (W.contents out.old) (W.contents out.new) (bad_line_text bad.0)) }
 {
     let number = bad.0;
     writeln!(out, "bad line {number}")?;

@@ -10,7 +10,8 @@ ghost use Rattle.coap_server.specs.Trace.{Call};
 ghost use Rattle.coap_types.specs.declared.szx.TheConstants.{MAX_SZX as max_szx};
 ghost use Rattle.coap_scripts.specs.Settings.{setting_of};
 ghost use Rattle.coap_commands.specs.ScriptSettings.{AreMade, IsOfSettings};
-ghost use Rattle.coap_commands.specs.SettingUp.{Holds, HoldsResource, IsServer, IsServerAfter, SetsUp};
+ghost use Rattle.coap_commands.specs.SettingUp.{Holds, HoldsResource, IsNotHeld, IsRefused, IsRefusedAfter, IsServer};
+ghost use Rattle.coap_commands.specs.SettingUp.{IsServerAfter, RefusesOne, RefusesResource, SetsUp};
 ghost use Rattle.coap_commands.specs.SettingUp.{with_delay, with_plain};
 
 use crate::ends::{fresh_server_after, hold};
@@ -39,9 +40,14 @@ pub fn hold_resource<H: BuildHasher + Drop>(
 ) -> Result<Option<StoreRefusal>, Stop>
     // What led to the server before it was to hold the temperature leads, with the one call that set it, to the server
     // that holds it.
-    ensures { (limits : Limits) (setup : SetupSpec) (t : List Call)
+    ensures holds { (limits : Limits) (setup : SetupSpec) (t : List Call)
         → Led limits max_szx setup t (state_of content_of server.old)
         → IfOk result (λ refusal. IfNone refusal ((after : List Call) × HoldsResource t after
+        × Led limits max_szx setup after (state_of content_of server.new))) }
+    // Where its store refuses the temperature, that one call leads on.
+    ensures refused { (limits : Limits) (setup : SetupSpec) (t : List Call)
+        → Led limits max_szx setup t (state_of content_of server.old)
+        → IfOk result (λ refusal. IfSome refusal (λ why. (after : List Call) × RefusesResource why t after
         × Led limits max_szx setup after (state_of content_of server.new))) }
 {
     let Ok(path) = path_of_text(alloc, PATH) else {
@@ -55,9 +61,13 @@ fn hold_all<H: BuildHasher + Drop>(
     server: &mut Server<MapStore, Global, H>,
     holds: &[Hold],
 ) -> Result<Option<StoreRefusal>, Stop>
-    ensures { (limits : Limits) (setup : SetupSpec) (t : List Call)
+    ensures holds { (limits : Limits) (setup : SetupSpec) (t : List Call)
         → Led limits max_szx setup t (state_of content_of server.old)
         → IfOk result (λ refusal. IfNone refusal ((after : List Call) × Holds holds.now t after
+        × Led limits max_szx setup after (state_of content_of server.new))) }
+    ensures refused { (limits : Limits) (setup : SetupSpec) (t : List Call)
+        → Led limits max_szx setup t (state_of content_of server.old)
+        → IfOk result (λ refusal. IfSome refusal (λ why. (after : List Call) × RefusesOne holds.now why t after
         × Led limits max_szx setup after (state_of content_of server.new))) }
 {
     for held in holds {
@@ -117,9 +127,14 @@ pub fn set_up<H: BuildHasher + Drop>(
 ) -> Result<Option<StoreRefusal>, Stop>
     // What led to the server before leads to the one that is set up, with these calls and no other: its resource and
     // what the words name is set, in order, and so are their delays and their plain paths.
-    ensures { (limits : Limits) (setup : SetupSpec) (t : List Call)
+    ensures set { (limits : Limits) (setup : SetupSpec) (t : List Call)
         → Led limits max_szx setup t (state_of content_of server.old)
         → IfOk result (λ refusal. IfNone refusal ((after : List Call) × SetsUp options.now t after
+        × Led limits max_szx setup after (state_of content_of server.new))) }
+    // It is refused only where its store refused to set one of these; the call that was answered so is the last one.
+    ensures refused { (limits : Limits) (setup : SetupSpec) (t : List Call)
+        → Led limits max_szx setup t (state_of content_of server.old)
+        → IfOk result (λ refusal. IfSome refusal (λ why. (after : List Call) × IsNotHeld options.now why t after
         × Led limits max_szx setup after (state_of content_of server.new))) }
 {
     if let Some(refusal) = hold_resource(alloc, server)? {
@@ -155,6 +170,10 @@ fn set_up_by<H: BuildHasher + Drop>(
         × AreMade (map setting_of settings.now) set after
         × Led limits max_szx setup after (state_of content_of server.new))) }
     ensures bad { IfOk result (λ why. IfSome why (IsOfSettings (map setting_of settings.now))) }
+    ensures refused { (limits : Limits) (setup : SetupSpec) (t : List Call)
+        → Led limits max_szx setup t (state_of content_of server.old)
+        → IfOk result (λ why. IfSome why (IsRefused (λ after. Led limits max_szx setup after
+        (state_of content_of server.new)) options.now t)) }
 {
     if let Some(refusal) = set_up(alloc, server, options)? {
         return Ok(Some(NotSetUp::Refused(refusal)));
@@ -180,6 +199,9 @@ pub fn server_by<H: BuildHasher + Drop>(
         (state_of content_of server))) }
     // A line of the script is named only where the script has one.
     ensures bad { IfOk result (λ made. IfErr made (IsOfSettings (map setting_of settings.now))) }
+    // A server is refused only where its store, which was empty, refused to set what the words name.
+    ensures refused { IfOk result (λ made. IfErr made (IsRefusedAfter (record { word = word; base = 0 }) options.now
+        (map setting_of settings.now))) }
 {
     let origin = Origin {
         word,
@@ -203,6 +225,9 @@ pub fn server_after<H: BuildHasher + Drop>(
         (map setting_of settings.now) (state_of content_of server))) }
     // A line is named only of a script that has one.
     ensures bad { IfOk result (λ made. IfErr made (IsOfSettings (map setting_of settings.now))) }
+    // `serve` refuses only where the store of its server, which was empty, refused to set what its words name.
+    ensures refused { IfOk result (λ made. IfErr made (IsRefusedAfter origin options.now
+        (map setting_of settings.now))) }
 {
     let setup = Setup {
         word: origin.word,

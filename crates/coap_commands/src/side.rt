@@ -1,4 +1,5 @@
 //! An end over a link.
+ghost use Rattle.std.specs.Prelude.{◌≡◌, []};
 
 use crate::bearing::bear_in_all;
 use coap_ends::End;
@@ -26,7 +27,10 @@ impl<'a, E: End<Global>, L: Link> Side<'a, E, L> {
     }
 
     /// One turn, after which what is out is sent at once, and the other end need not wait for it.
-    pub fn turn(&mut self, now: Moment) -> Result<(), Stop> {
+    pub fn turn(&mut self, now: Moment) -> Result<(), Stop>
+        // Behind a turn of an end nothing is out.
+        ensures { E.waiting (E.state self.new.end.now) ≡ [] }
+    {
         turn(self.end, self.link, now, &mut self.tally);
         send_all(self.end, self.link);
         bear_in_all(self.link, &self.tally)

@@ -1,22 +1,26 @@
 //! What is said where nothing is heard of an observation for long.
 ghost use Rattle.std.specs.Prelude.{ℕ, List, Option, ◌≡◌};
+ghost use Rattle.coap_codec.specs.Message.{Message, Spells};
 ghost use Rattle.coap_types.specs.declared.endpoint.Endpoint.{Endpoint as EndpointSpec};
 ghost use Rattle.coap_links.specs.Carried.{Packet};
+ghost use Rattle.coap_commands.specs.Captured.{Spelled};
+ghost use Rattle.coap_commands.specs.Freshness.{max_age};
 
+use crate::progress::number_of;
 use crate::timekeeper::Timekeeper;
 use crate::waiting::passed;
-use coap_codec::decode;
+use coap_codec::{View, decode};
 use coap_links::Link;
-use coap_types::{Endpoint, Moment, uint_of};
+use coap_types::{Endpoint, Moment};
 use std::io::Write;
 
 // The number of the option that says for how many seconds a response is fresh (RFC 7252, section 5.10.5).
-const MAX_AGE: u16 = 14;
+pub(crate) const MAX_AGE: u16 = 14;
 
 /// For how many seconds a representation may be taken for fresh that doesn't say (RFC 7252, section 5.10.5).
 pub const DEFAULT_MAX_AGE: u64 = 60;
 
-const _: () = prove!(DEFAULT_MAX_AGE == 60);
+const _: () = prove!(MAX_AGE == 14 && DEFAULT_MAX_AGE == 60);
 
 /// Says on a writer that nothing is heard of an observation, once for each time that what came last is no longer fresh.
 #[derive(Drop)]
@@ -27,19 +31,25 @@ pub struct Silence<T, W> {
     fresh: Option<(Moment, u64)>,
 }
 
-// For how many seconds a datagram says that it is fresh.
-fn max_age_of(bytes: &[u8]) -> u64 {
-    if let Ok(message) = decode(bytes) {
-        for option in message.options() {
-            if option.number == MAX_AGE {
-                return match uint_of(option.value) {
-                    Some(seconds) => u64::from(seconds),
-                    None => DEFAULT_MAX_AGE,
-                };
-            }
-        }
+// For how many seconds a message is fresh.
+fn max_age_in(message: &View<'_>) -> u64
+    ensures { result ≡ max_age message.now.options }
+{
+    match number_of(message, MAX_AGE) {
+        Some(seconds) => seconds,
+        None => DEFAULT_MAX_AGE,
     }
-    DEFAULT_MAX_AGE
+}
+
+// .. a datagram, which may spell none.
+fn max_age_of(bytes: &[u8]) -> u64
+    ensures said { (m : Message) → Spells bytes.now m → result ≡ max_age m.options }
+    ensures none { (Spelled bytes.now → ⊥) → result ≡ DEFAULT_MAX_AGE }
+{
+    match decode(bytes) {
+        Ok(message) => max_age_in(&message),
+        Err(_) => DEFAULT_MAX_AGE,
+    }
 }
 
 impl<T: Timekeeper, W: Write> Silence<T, W> {

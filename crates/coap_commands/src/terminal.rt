@@ -1,6 +1,7 @@
 //! What the program's output is, a terminal or not, and how it is shown there what is asked.
-ghost use Rattle.std.specs.Prelude.{◌≡◌};
+ghost use Rattle.std.specs.Prelude.{◌≡◌, ◌≢◌, ◌↔◌, true};
 ghost use Rattle.coap_commands.specs.Colours.{ink_on};
+ghost use Rattle.coap_commands.specs.declared.terminal.Terminal.TheVariants as terminals;
 
 use coap_print::Ink;
 
@@ -53,7 +54,11 @@ impl Terminal {
     }
 
     /// How it is shown there what is asked, and in this file what passes.
-    pub(crate) fn showing<'p>(self, pcap: Option<&'p str>) -> Showing<'p> {
+    pub(crate) fn showing<'p>(self, pcap: Option<&'p str>) -> Showing<'p>
+        ensures pcap { result.pcap ≡ pcap.entry }
+        ensures terminal { (result.is_terminal ≡ true) ↔ (self ≢ terminals.Absent) }
+        ensures coloured { (result.is_coloured ≡ true) ↔ (self ≡ terminals.Coloured) }
+    {
         Showing {
             pcap,
             is_terminal: self != Terminal::Absent,

@@ -1,10 +1,12 @@
 //! The clock that a program's turns read.
+ghost use Rattle.std.specs.Prelude.{◌≡◌, ◌/◌, ◌-◌, ◌^◌, min};
+ghost use Rattle.std.specs.Duration.{as_nanos};
 
 pub use coap_links::Timekeeper;
 use coap_types::Moment;
 use std::io;
 use std::rt::Clock;
-use std::time::Instant;
+use std::time::{Duration, Instant};
 
 /// The milliseconds since the program began.
 #[derive(Drop)]
@@ -33,9 +35,15 @@ impl<'a, R: Clock> ProgramTime<'a, R> {
     }
 }
 
+// The moment that it is once so long has passed, in milliseconds.
+fn moment_after(elapsed: Duration) -> Moment
+    ensures { result.0 ≡ min (as_nanos elapsed / 1_000_000) (2 ^ 64 - 1) }
+{
+    Moment(u64::try_from(elapsed.as_millis()).unwrap_or(u64::MAX))
+}
+
 impl<'a, R: Clock> Timekeeper for ProgramTime<'a, R> {
     fn now(&mut self) -> io::Result<Moment> {
-        let elapsed = self.begin.elapsed(self.rt)?.as_millis();
-        Ok(Moment(u64::try_from(elapsed).unwrap_or(u64::MAX)))
+        Ok(moment_after(self.begin.elapsed(self.rt)?))
     }
 }

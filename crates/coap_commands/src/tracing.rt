@@ -1,7 +1,7 @@
 //! What `--trace` prints: a line for each datagram.
-ghost use Rattle.std.specs.Prelude.{◌≡◌, is_some};
+ghost use Rattle.std.specs.Prelude.{◌≡◌, IfSome, is_some};
 ghost use Rattle.coap_commands.specs.Colours.{way_colour};
-ghost use Rattle.coap_commands.specs.Tracings.{is_traced};
+ghost use Rattle.coap_commands.specs.Tracings.{is_in_colour, is_traced, tracing_of, way_sign};
 
 use crate::peers::{PeerWords, Peers};
 use crate::timekeeper::Timekeeper;
@@ -27,7 +27,8 @@ pub enum Tracing {
 impl Tracing {
     /// Whether lines are wanted, and in colour.
     pub(crate) fn of(is_wanted: bool, is_coloured: bool) -> Tracing
-        ensures { is_traced result ≡ is_wanted }
+        ensures wanted { is_traced result ≡ is_wanted }
+        ensures exact { result ≡ tracing_of is_wanted is_coloured }
     {
         match (is_wanted, is_coloured) {
             (false, _) => Tracing::Off,
@@ -58,6 +59,16 @@ fn colour_of(way: Way, is_coloured: bool) -> Colour
     }
 }
 
+// What stands for the way of a datagram.
+fn way_sign(way: Way) -> &'static str
+    ensures { result.now ≡ way_sign way }
+{
+    match way {
+        Way::Goes => ">",
+        Way::Comes => "<",
+    }
+}
+
 // The line of a datagram that goes to this peer (`>`) or comes from it (`<`).
 fn line_text<A: Allocator + Copy>(
     alloc: A,
@@ -70,17 +81,17 @@ fn line_text<A: Allocator + Copy>(
     let at = at.0;
     let colour = colour_of(way, is_coloured);
     let (begin, end) = (colour.sign_before(), colour.sign_behind());
-    let way = match way {
-        Way::Goes => ">",
-        Way::Comes => "<",
-    };
+    let way = way_sign(way);
     let words = DatagramWords(bytes);
     format!(in alloc; "{begin}{at} {way} {peer} {words}{end}\n")
 }
 
 impl<A: Allocator + Copy, T: Timekeeper, W: Write, P: Peers> LineTeller<A, T, W, P> {
     /// Tells on this writer, by this clock, of these peers; in colour where that is wanted.
-    pub fn new(alloc: A, time: T, out: W, peers: P, is_coloured: bool) -> LineTeller<A, T, W, P> {
+    pub fn new(alloc: A, time: T, out: W, peers: P, is_coloured: bool) -> LineTeller<A, T, W, P>
+        // A teller of lines tells in colour exactly where that is wanted.
+        ensures { result.is_coloured ≡ is_coloured }
+    {
         LineTeller {
             alloc,
             time,
@@ -100,7 +111,9 @@ pub fn teller_on<'a, A: Allocator + Copy, T: Timekeeper + Drop, W: Write, P: Pee
     tracing: Tracing,
 ) -> Option<LineTeller<A, T, SharedWriter<'a, W>, P>>
     // There is a teller exactly where one is wanted.
-    ensures { is_some result ≡ is_traced tracing }
+    ensures wanted { is_some result ≡ is_traced tracing }
+    // It tells in colour where that is wanted.
+    ensures coloured { IfSome result (λ teller. teller.is_coloured ≡ is_in_colour tracing) }
 {
     let is_coloured = tracing == Tracing::Coloured;
     if tracing == Tracing::Off {

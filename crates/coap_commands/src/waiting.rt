@@ -1,5 +1,5 @@
 //! How long a program waits.
-ghost use Rattle.std.specs.Prelude.{◌≡◌, Some, IfSome, true};
+ghost use Rattle.std.specs.Prelude.{◌≡◌, ◌↔◌, ℕ, Some, IfNone, IfSome, true};
 ghost use Rattle.coap_commands.specs.Waiting.{HasLasted, HasPassed};
 
 use coap_types::Moment;
@@ -11,7 +11,8 @@ const _: () = prove!(MS_PER_SECOND == 1_000);
 
 /// So many seconds, where they have passed since this moment.
 pub(crate) fn passed(seconds: Option<u64>, begin: Moment, now: Moment) -> Option<u64>
-    ensures { IfSome result (λ n. (seconds ≡ Some n) × HasPassed n begin.0 now.0) }
+    ensures some { IfSome result (λ n. (seconds ≡ Some n) × HasPassed n begin.0 now.0) }
+    ensures none { IfNone result ((n : ℕ) → seconds ≡ Some n → HasPassed n begin.0 now.0 → ⊥) }
 {
     match seconds {
         Some(seconds) if seconds <= now.since(begin) / MS_PER_SECOND => Some(seconds),
@@ -21,7 +22,7 @@ pub(crate) fn passed(seconds: Option<u64>, begin: Moment, now: Moment) -> Option
 
 /// Whether something that has lasted for so many milliseconds has lasted for so many seconds.
 pub(crate) fn has_lasted(seconds: Option<u64>, elapsed: u64) -> bool
-    ensures { result ≡ true → HasLasted seconds elapsed }
+    ensures { (result ≡ true) ↔ HasLasted seconds elapsed }
 {
     match seconds {
         Some(seconds) => seconds <= elapsed / MS_PER_SECOND,

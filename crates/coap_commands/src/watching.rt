@@ -1,16 +1,21 @@
 //! Observing a path, and observing it anew where nothing comes for long or the server ended that (RFC 7641).
-ghost use Rattle.std.specs.Prelude.{◌≡◌, ◌+◌, ℕ, Option, Result, true, false, IfNone, IfOk, IfSome};
+ghost use Rattle.std.specs.Prelude.{◌≡◌, ◌↔◌, ◌+◌, ℕ, [], Option, Result, Ok, true, false, IfNone, IfOk, IfSome};
+ghost use Rattle.std.specs.declared.alloc.Global.{Global};
 ghost use Rattle.coap_client.specs.Led.{State, Step};
 ghost use Rattle.coap_client.specs.Object.Shown.{shown_report};
 ghost use Rattle.coap_client.specs.Trace.{Report as ReportSpec, is_value};
 ghost use Rattle.coap_client.specs.Trace.{Observes as observes};
+ghost use Rattle.coap_client.specs.declared.client.report.Report as R;
 ghost use Rattle.coap_commands.specs.Asks.{Turned, takes_report};
+ghost use Rattle.coap_commands.specs.Observes.{HasGivenUp};
 ghost use Rattle.coap_commands.specs.Terms.{asked_terms, setup_of, sizes_of};
 ghost use Rattle.coap_commands.specs.Waiting.{HasPassed};
 ghost use Rattle.coap_commands.specs.Watches.{Follows, IsFollowed, IsLeft, IsLeftBy, IsNext, IsNoEnd, IsRegistered};
 ghost use Rattle.coap_commands.specs.Watches.{Leaves};
-ghost use Rattle.coap_commands.specs.Watches.{LeavesAt, MayCancel, TakesReport, Watches, heard_at, taken};
+ghost use Rattle.coap_commands.specs.Watches.{CancelsAtEnd, IsSilent, LeavesAt, TakesReport, Watches, heard_at, taken};
 ghost use Rattle.coap_commands.specs.declared.anew.Left.{Left as LeftSpec};
+ghost use Rattle.coap_commands.specs.declared.anew.Left.TheVariants as lefts;
+ghost use Rattle.coap_commands.specs.declared.calling.Outcome.TheVariants.{Reported};
 ghost use Rattle.coap_client.specs.declared.refusals.CallRefusal.{CallRefusal as CallRefusalSpec};
 
 use crate::anew::{Left, pause, say_anew, tell_last, verdict};
@@ -103,7 +108,7 @@ fn cancel_at_end<H: BuildHasher>(
     heard: Heard,
     now: Moment,
 )
-    ensures { MayCancel options.now heard.since.0 id.0 now.0 heard.values client.old client.new }
+    ensures { CancelsAtEnd options.now heard.since.0 id.0 now.0 heard.values client.old client.new }
 {
     if is_over(options, heard.since, heard.values, now) {
         let _answer = client.cancel(now, id);
@@ -112,8 +117,9 @@ fn cancel_at_end<H: BuildHasher>(
 
 // After how many seconds it is given up, where they have passed and no value came.
 fn given_up(options: &AskOptions, heard: Heard, now: Moment) -> Option<u64>
-    ensures { IfSome result (λ seconds. (options.now.give_up ≡ Some seconds) × (heard.values ≡ 0)
+    ensures some { IfSome result (λ seconds. (options.now.give_up ≡ Some seconds) × (heard.values ≡ 0)
         × HasPassed seconds heard.since.0 now.0) }
+    ensures none { IfNone result (HasGivenUp options.now heard.since.0 heard.values now.0 → ⊥) }
 {
     if heard.values > 0 {
         return None;
@@ -123,7 +129,8 @@ fn given_up(options: &AskOptions, heard: Heard, now: Moment) -> Option<u64>
 
 // Whether no value came for so long, and the observation is not over.
 fn is_silent(watching: &Watching<'_, '_>, heard: Heard, now: Moment) -> bool
-    ensures { result ≡ true → HasPassed watching.now.again heard.last.0 now.0 }
+    ensures { (result ≡ true) ↔ IsSilent watching.now.options.now watching.now.again heard.since.0 heard.values
+        heard.last.0 now.0 }
 {
     passed(Some(watching.again), heard.last, now).is_some()
         && !is_over(watching.options, heard.since, heard.values, now)
@@ -137,7 +144,7 @@ fn leave<H: BuildHasher, L: Link>(
     now: Moment,
     tally: &mut Tally,
 )
-    ensures { Turned (Leaves id.0) client.old client.new }
+    ensures { Leaves id.0 now.0 client.old client.new }
 {
     let _answer = client.cancel(now, id);
     get_turn(client, link, now, tally);
@@ -182,6 +189,8 @@ fn awaited<H: BuildHasher, L: Link, T: Timekeeper, E: Write, W: Write>(
     ensures left { IfOk result (λ ended. IsLeft watching.now.options.now watching.now.again heard.old.since.0 id.0
         heard.old.last.0 heard.old.values client.old ended heard.new.values) }
     ensures since { IfOk result (λ _. heard.new.since ≡ heard.old.since) }
+    ensures sent { (report : R.Report Global) → result ≡ Ok (lefts.Ended (Reported report))
+        → client.new.layer.layer.queue ≡ [] }
 {
     let mut tally = fresh_tally(word);
     // More turns than a program lives.

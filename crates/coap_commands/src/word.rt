@@ -1,11 +1,18 @@
 //! The word that an end begins with, and the version after which a server's versions begin.
-ghost use Rattle.std.specs.Prelude.{IfOk};
-ghost use Rattle.coap_commands.specs.Asked.{IsBaseOf, IsOrigin, IsWord};
+ghost use Rattle.std.specs.Prelude.{◌≡◌, ⊤, ℕ, List, IfOk};
+ghost use Rattle.std.specs.Int.{from_le_bytes, w64};
+ghost use Rattle.coap_commands.specs.Asked.{IsBaseOf, IsDrawnBase, IsDrawnWord, IsOrigin, IsRandom, IsWord};
 
 use coap_arguments::WordChoice;
 use coap_resource::VersionBase;
 use coap_scripts::Stop;
+use std::io;
 use std::random::RandomSource;
+
+// The bytes of a word.
+const WORD_LEN: usize = size_of::<u64>();
+
+const _: () = prove!(WORD_LEN == 8);
 
 /// What a server begins with that is drawn where nobody gives it.
 #[derive(Clone, Copy, Debug, PartialEq, Eq)]
@@ -16,30 +23,65 @@ pub struct Origin {
     pub base: VersionBase,
 }
 
+/// Where the bytes of a word are drawn from.
+pub(crate) trait Draws {
+    /// Which bytes it may give.
+    ghost draws: { Self → List ℕ → Type 0 };
+
+    /// The bytes of a word.
+    fn draw(&self) -> io::Result<[u8; WORD_LEN]>
+        ensures { IfOk result (draws self.now) };
+}
+
+/// Nothing is known of the bytes that the system gives.
+impl<R: RandomSource> Draws for R {
+    ghost draws = { λ _ _. ⊤ };
+
+    fn draw(&self) -> io::Result<[u8; WORD_LEN]> {
+        let mut bytes = [0; WORD_LEN];
+        self.fill_bytes(&mut bytes)?;
+        Ok(bytes)
+    }
+}
+
+// The word that has these bytes, the least first.
+fn word_in(bytes: [u8; WORD_LEN]) -> u64
+    ensures { result ≡ from_le_bytes w64 bytes }
+{
+    u64::from_le_bytes(bytes)
+}
+
+/// A word that is drawn.
+pub(crate) fn random_word<R: Draws>(rt: &R) -> Result<u64, Stop>
+    ensures { IfOk result (IsRandom (R.draws rt.now)) }
+{
+    let bytes = rt.draw()?;
+    Ok(word_in(bytes))
+}
+
 /// The word that is chosen; a random one is drawn.
-pub(crate) fn word_of<R: RandomSource>(rt: &R, choice: WordChoice) -> Result<u64, Stop>
-    ensures { IfOk result (IsWord choice) }
+pub(crate) fn word_of<R: Draws>(rt: &R, choice: WordChoice) -> Result<u64, Stop>
+    ensures word { IfOk result (IsWord choice) }
+    ensures drawn { IfOk result (IsDrawnWord (R.draws rt.now) choice) }
 {
     match choice {
         WordChoice::Given(word) => Ok(word),
-        WordChoice::Random => {
-            let mut bytes = [0; size_of::<u64>()];
-            rt.fill_bytes(&mut bytes)?;
-            Ok(u64::from_le_bytes(bytes))
-        }
+        WordChoice::Random => random_word(rt),
     }
 }
 
 /// The version after which a server's versions begin: a random one, so that no entity-tag of a former life names
 /// another body (RFC 7252, section 5.10.6). With a word that is given it is 0: the server begins as it did with that
 /// word before.
-pub(crate) fn base_of<R: RandomSource>(rt: &R, choice: WordChoice) -> Result<VersionBase, Stop>
-    ensures { IfOk result (IsBaseOf choice) }
+pub(crate) fn base_of<R: Draws>(rt: &R, choice: WordChoice) -> Result<VersionBase, Stop>
+    ensures base { IfOk result (IsBaseOf choice) }
+    ensures drawn { IfOk result (IsDrawnBase (R.draws rt.now) choice) }
 {
     match choice {
         WordChoice::Given(_) => Ok(VersionBase::default()),
         WordChoice::Random => {
-            let base = VersionBase::drawn(word_of(rt, choice)?);
+            let word = random_word(rt)?;
+            let base = VersionBase::drawn(word);
             let _version = base.get();
             Ok(base)
         }
@@ -47,8 +89,10 @@ pub(crate) fn base_of<R: RandomSource>(rt: &R, choice: WordChoice) -> Result<Ver
 }
 
 /// What a server begins with.
-pub(crate) fn origin_of<R: RandomSource>(rt: &R, choice: WordChoice) -> Result<Origin, Stop>
-    ensures { IfOk result (IsOrigin choice) }
+pub(crate) fn origin_of<R: Draws>(rt: &R, choice: WordChoice) -> Result<Origin, Stop>
+    ensures origin { IfOk result (IsOrigin choice) }
+    ensures drawn { IfOk result (λ origin. IsDrawnWord (R.draws rt.now) choice origin.word
+        × IsDrawnBase (R.draws rt.now) choice origin.base) }
 {
     let word = word_of(rt, choice)?;
     let base = base_of(rt, choice)?;

@@ -4,3 +4,6 @@ use Rattle.coap_commands.proofs.ask.next_report_of.Goals as goal
 
 pub returns-in_default-clause-none : goal.returns-in_default-clause-none
 returns-in_default-clause-none g c = turned_by AsksNothing _ _ _ tt c.next_report.ensures.step
+
+pub returns-in_default-clause-other : goal.returns-in_default-clause-other
+returns-in_default-clause-other g c = (_, c.next_report.ensures.step)

@@ -8,7 +8,7 @@ pub returns-in-Ok : goal.returns-in-Ok
 returns-in-Ok g c =
     taken_becomes (λ server sizes w. Led server sizes w [] c.args.client.now) c.in_ok-begin.begin.0
     (shown_request c.args.request) c.args.terms.now.give_up _ c.in-Ok.id _ c.awaited.result c.in-Ok.is
-    (λ server sizes w led. c.in_ok-id.ensures.led server sizes w [] led) c.awaited.ensures
+    (λ server sizes w led. c.in_ok-id.ensures.led server sizes w [] led) c.awaited.ensures.comes
 
 pub returns-in-Err : goal.returns-in-Err
 returns-in-Err g c = λ server sizes w led.

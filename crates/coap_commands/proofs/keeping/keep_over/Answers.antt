@@ -1,4 +1,4 @@
-use Rattle.std.proofs.Common.{◌∙◌, ℕ, List, inl, inr, subst, sym}
+use Rattle.std.proofs.Common.{◌∙◌, ℕ, List, subst, sym}
 use Rattle.coap_commands.specs.KeptWords.{AreWishesBy, IsDrawnBy, IsKeepingBy}
 use Rattle.coap_commands.specs.declared.journal_words.Says.{Says}
 use Rattle.coap_commands.proofs.KeptCalls.{if_ok}
@@ -13,11 +13,11 @@ returns-in-Ok g c =
     let inputs = c.as_slice.ensures.value ∙ c.in_ok-setup.ensures in
     let of = c.keeping_of-keeping.ensures in
     if_ok c.go_on_kept.result
-    (λ s gone. inr (
+    (λ s gone. (
       keeping,
       subst (λ (says : Says). IsKeepingBy options says keeping) c.says_of-says.ensures record {
         wishes = subst (λ (inputs : List ℕ). AreWishesBy options says inputs keeping.wishes) inputs of.wishes;
-        drawn = subst (λ (b : Beginning). IsDrawnBy options says b) (sym of.drawn) c.in_ok-drawn.ensures;
+        drawn = subst (λ (b : Beginning). IsDrawnBy options says b) (sym of.drawn) c.in_ok-drawn.ensures.words;
         setup = of.setup ∙ inputs;
         renews = of.renews;
       },
@@ -31,4 +31,4 @@ returns-in-Ok g c =
     c.go_on_kept.ensures
 
 pub returns-in-Err : goal.returns-in-Err
-returns-in-Err g c = if_ok c.tell_why.result (λ s is. inl is) c.tell_why.ensures
+returns-in-Err g c = if_ok c.tell_why.result (λ s no. absurd no) c.tell_why.ensures

@@ -16,15 +16,15 @@ loop-turn-init g c = observed_here c.args.options.now c.args.begin.0 c.args.id.0
 
 pub loop-turn-preserved : goal.loop-turn-preserved
 loop-turn-preserved g c =
-    c.cancel_at_end.ensures c.args.client.now
+    c.cancel_at_end.ensures.observed c.args.client.now
     (none_is _ _
     (c.in_ok-report.ensures.more c.args.options.now c.args.begin.0 c.args.client.now
     (observed_on c.args.options.now c.args.begin.0 c.args.id.0 _ _ _ _ c.loop-turn.invariant
     (client_turned AsksNothing (λ call is. is) _ _ _ _ _ _ _ _ _ _ _ _ _ c.get_turn.ensures)))
     c.in_default.is)
 
-pub returns-in-Some : goal.returns-in-Some
-returns-in-Some g c =
+pub returns-in-Some-clause-comes : goal.returns-in-Some-clause-comes
+returns-in-Some-clause-comes g c =
     let last = some_is _ _ c.in-Some.report c.in_ok-report.ensures.last c.in-Some.is in (
       _,
       _,
@@ -35,9 +35,9 @@ returns-in-Some g c =
       last.1,
     )
 
-pub returns-in-Some-given_up : goal.returns-in-Some-given_up
-returns-in-Some-given_up g c = (
-  some_is _ _ _ c.given_up.ensures c.in-Some-given_up.is,
+pub returns-in-Some-given_up-clause-comes : goal.returns-in-Some-given_up-clause-comes
+returns-in-Some-given_up-clause-comes g c = (
+  (some_is _ _ _ c.given_up.ensures.some c.in-Some-given_up.is).0,
   _,
   _,
   none_is _ _

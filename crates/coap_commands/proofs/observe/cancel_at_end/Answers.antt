@@ -1,7 +1,10 @@
 use Rattle.coap_commands.proofs.ObservedCalls.{observed_cancel}
 use Rattle.coap_commands.proofs.observe.cancel_at_end.Goals as goal
 
-pub returns-then-is_over : goal.returns-then-is_over
-returns-then-is_over g c = λ s h.
+pub returns-then-is_over-clause-observed : goal.returns-then-is_over-clause-observed
+returns-then-is_over-clause-observed g c = λ s h.
     observed_cancel c.args.options.now c.args.begin.0 c.args.id.0 c.args.values c.args.now.0 _ s _ _ h
     (c.is_over.ensures.0 c.if-is_over.true) c.cancel-answer.ensures.step
+
+pub returns-then-is_over-clause-cancels : goal.returns-then-is_over-clause-cancels
+returns-then-is_over-clause-cancels g c = λ over. (_, c.cancel-answer.ensures.step)

@@ -9,7 +9,7 @@ returns-in-Ok g c =
     c.args.path.now _ c.in-Ok.id _ c.awaited.result c.in-Ok.is
     (λ server sizes w led. c.in_ok-id.ensures.led server sizes w
     [] led)
-    c.awaited.ensures
+    c.awaited.ensures.comes
 
 pub returns-in-Err : goal.returns-in-Err
 returns-in-Err g c = λ server sizes w led.

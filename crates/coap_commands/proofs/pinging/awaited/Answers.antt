@@ -34,6 +34,6 @@ returns-then-is_given_up g c = (
     _,
     subst (λ (b : Bool). Hears g.L.Link.sends g.L.Link.receives c.loop-turn.ping c.loop-turn.link b
         c.is_answered-is_answered.new.link) c.if-is_answered.false c.is_answered-is_answered.ensures,
-    c.is_given_up.ensures c.if-is_given_up.true,
+    c.is_given_up.ensures.0 c.if-is_given_up.true,
   ),
 )

@@ -30,7 +30,7 @@ returns-in-Some g c =
 
 pub returns-in-Some-passed : goal.returns-in-Some-passed
 returns-in-Some-passed g c =
-    come_given_up c.args.give_up c.args.id _ _ _ c.in-Some-passed.ensures.0
+    come_given_up c.args.give_up c.args.id _ _ _ c.in-Some-passed.ensures.some.0
     (turned_on AsksNothing _ _ _
     (turned_on AsksNothing _ _ _ c.loop-turn.invariant
     (client_turned AsksNothing (λ call is. is) _ _ _ _ _ _ _ _ _ _ _ _ _ c.get_turn.ensures))

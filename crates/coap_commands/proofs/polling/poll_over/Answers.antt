@@ -13,7 +13,7 @@ returns g c =
     let options = c.args.polling.now.options.now in
     let terms = asked_terms c.args.word options in
     let client = c.fresh_client-client.result in
-    polled_by c.args.server (sizes_of terms) (setup_of terms)
+    polled_by _ _ c.args.server (sizes_of terms) (setup_of terms)
     (asked_request Get c.args.polling.now.path.now options []) c.args.polling.now.every options client
     c.polled-ended.result
     (subst (λ (t : Terms). Led c.args.server (sizes_of t) (setup_of t) [] client) c.of-terms.ensures

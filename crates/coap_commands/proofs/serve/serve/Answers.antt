@@ -5,10 +5,15 @@ use Rattle.coap_commands.proofs.serve.serve.Goals as goal
 
 pub returns-in-Some : goal.returns-in-Some
 returns-in-Some g c =
+    let old = g.O.Write.contents c.args.out.now in
+    let new = g.O.Write.contents c.serve_on_journal.new.out in
     subst (λ (j : Option Journal). IfOk c.serve_on_journal.result
-    (IsServedAsSaid c.args.count c.args.options.now c.args.script j)) (sym c.in-Some.is) c.serve_on_journal.ensures
+    (IsServedAsSaid old new c.args.count c.args.options.now c.args.script j)) (sym c.in-Some.is)
+    c.serve_on_journal.ensures
 
 pub returns-in-None : goal.returns-in-None
 returns-in-None g c =
+    let old = g.O.Write.contents c.args.out.now in
+    let new = g.O.Write.contents c.serve_script.new.out in
     subst (λ (j : Option Journal). IfOk c.serve_script.result
-    (IsServedAsSaid c.args.count c.args.options.now c.args.script j)) (sym c.in-None.is) c.serve_script.ensures
+    (IsServedAsSaid old new c.args.count c.args.options.now c.args.script j)) (sym c.in-None.is) c.serve_script.ensures

@@ -3,7 +3,7 @@ use Rattle.coap_resource.specs.Entries.{content_of}
 use Rattle.coap_server.specs.Object.Shown.{state_of}
 use Rattle.coap_scripts.specs.Settings.{setting_of}
 use Rattle.coap_commands.specs.ScriptSettings.{IsOfSettings}
-use Rattle.coap_commands.specs.SettingUp.{IsServerAfter}
+use Rattle.coap_commands.specs.SettingUp.{IsRefusedAfter, IsServerAfter}
 use Rattle.coap_commands.proofs.ServedCalls.{made_is, not_set_by, refused_is, served_by}
 use Rattle.coap_commands.proofs.serve.serve_on.Goals as goal
 
@@ -12,6 +12,6 @@ returns-in-Ok g c =
     let options = c.args.options.now in
     let settings = map setting_of c.args.settings.now in
     let origin = c.args.origin in
-    served_by c.args.count options settings origin (state_of content_of c.in-Ok.server) _
+    served_by _ _ c.args.count options settings origin (state_of content_of c.in-Ok.server) _
     (made_is (λ server. IsServerAfter origin options settings (state_of content_of server)) c.in_ok-made.made
-    c.in-Ok.server c.in-Ok.is c.in_ok-made.ensures.made) c.serve_with.ensures
+    c.in-Ok.server c.in-Ok.is c.in_ok-made.ensures.made) c.serve_with.ensures.serves c.serve_with.ensures.printed

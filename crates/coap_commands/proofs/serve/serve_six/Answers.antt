@@ -5,5 +5,5 @@ use Rattle.coap_commands.proofs.serve.serve_six.Goals as goal
 
 pub returns : goal.returns
 returns g c =
-    worded c.args.count c.args.options.now (map setting_of c.args.settings.now) c.in_ok-origin.origin c.serve_on.result
-    c.in_ok-origin.ensures c.serve_on.ensures
+    worded _ _ c.args.count c.args.options.now (map setting_of c.args.settings.now) c.in_ok-origin.origin
+    c.serve_on.result c.in_ok-origin.ensures.origin c.serve_on.ensures
