@@ -1,6 +1,6 @@
 -- Whose partial bodies are there.
-use Rattle.std.proofs.Common.{◌≡◌, ◌≤◌, ◌+◌, ℕ, Bool, true, false, List, [], ◌∷◌, ◌&&◌, ◌||◌, ◌∙◌, refl, ap, cond, length}
-use Rattle.std.proofs.Common.{arith, not, subst, sym}
+use Rattle.std.proofs.Common.{◌≡◌, ◌≤◌, ◌+◌, ℕ, Bool, true, false, List, [], ◌∷◌, ◌&&◌, ◌||◌, ◌∙◌, refl, ap, cond}
+use Rattle.std.proofs.Common.{arith, length, not, subst, sym}
 use Rattle.std.specs.List.{list_any}
 use Rattle.coap_types.specs.declared.endpoint.Endpoint.{Endpoint}
 use Rattle.coap_types.specs.SameEndpoint.{same_endpoint}
