@@ -92,12 +92,14 @@ module _ (peer : Endpoint) (id : Id) where
   some_goes [] is = absurd (cc is)
   some_goes (x ∷ xs) is = goes_by x xs (same_endpoint x.to peer) refl (some_goes xs) is
 
--- what is left of the peer
-pub record Freed (peer : Endpoint) (old new : State) : Type 0 where
+-- no request is handed up, and what is left of the peer
+pub record Freed (peer : Endpoint) (old new : State) (answer : Option (Asked × Message)) : Type 0 where
+  pub none : answer ≡ None
   pub waited : is_waited_for peer new.own.separate ≡ false
   pub pending : new.own.pending ≡ None
   pub awaits : new.layer.awaits ≡ None
   pub queue : new.layer.queue ≡ old.layer.queue
+  pub deferred : new.own.deferred ≡ old.own.deferred
 
 none_replied : (from : Endpoint) (o : Bool) (id : ℕ)
     → replying from (id_in (T.Becomes (ends_by o id))) (reject_by (T.Becomes (ends_by o id))) ≡ []
@@ -145,13 +147,13 @@ module _ (setup : Setup) (t : List Call) (peer : Endpoint) (old new : State) (le
       sym (waits_for setup t old.layer led.layer peer i.0) ∙ goes in
       ap (λ f. is_outstanding peer (id_or_zero f) old.layer.open_cons) is ∙ there
 
-  pub reset_frees : (up : T.Answer) (answer : Option (Asked × Message)) → id < 65536
-      → Step old (Incoming 0 peer (reset_bytes id) up answer) new → Freed peer old new
-  reset_frees up answer small step =
+  pub reset_frees : (now : ℕ) (up : T.Answer) (answer : Option (Asked × Message)) → id < 65536
+      → Step old (Incoming now peer (reset_bytes id) up answer) new → Freed peer old new answer
+  reset_frees now up answer small step =
       let call : T.Call = T.Receive peer (reset_bytes id) in
-      let parts = steps_split old.layer new.layer (replying peer (id_in up) (reject_by up)) (asked 0 call up ∷ [])
+      let parts = steps_split old.layer new.layer (replying peer (id_in up) (reject_by up)) (asked now call up ∷ [])
       step.under in
-      let at : ℕ = max parts.1.0.clock 0 in
+      let at : ℕ = max parts.1.0.clock now in
       let up_is : up ≡ T.Becomes (ends_by o id) = parts.1.2.right
       ∙ (ap (λ d. T.Becomes d) (answer_is parts.1.0 at peer id small)
       ∙ ap (λ (s : L.State). T.Becomes (ends_by (is_outstanding peer id s.open_cons) id)) parts.1.1) in
@@ -160,13 +162,15 @@ module _ (setup : Setup) (t : List Call) (peer : Endpoint) (old new : State) (le
       let layer_is : new.layer ≡ parts.0 = subst (λ calls. Steps parts.0 calls new.layer) quiet parts.2 in
       let left : is_waited_for peer (separate_after peer (T.Becomes (ends_by o id)) xs) ≡ false =
       left_by peer xs one (outstanding_to peer xs) o refl (λ i is. open_then i is) in
+      let none : answer ≡ None = step.right ∙ (ap (handed_up peer) up_is ∙ not_handed peer o id) in
       record {
         waited = ap (λ (s : Own). is_waited_for peer s.separate) step.own_is
             ∙ (ap (λ u. is_waited_for peer (separate_after peer u xs)) up_is ∙ left);
-        pending = ap (λ (s : Own). s.pending) step.own_is
-            ∙ ap asked_in (step.right ∙ (ap (handed_up peer) up_is ∙ not_handed peer o id));
+        none = none;
+        pending = ap (λ (s : Own). s.pending) step.own_is ∙ ap asked_in none;
         awaits = ap (λ (s : L.State). s.awaits) layer_is ∙ (ap (λ (s : L.State). s.awaits) parts.1.2.new_is
             ∙ ap awaited_of (handed_is parts.1.0 at peer id small));
+        deferred = ap (λ (s : Own). s.deferred) step.own_is;
         queue = ap (λ (s : L.State). s.queue) layer_is ∙ (ap (λ (s : L.State). s.queue) parts.1.2.new_is
             ∙ (ap (λ ps. parts.1.0.queue ++ ps) (out_is parts.1.0 at peer id small) ∙ (append-nil parts.1.0.queue
             ∙ ap (λ (s : L.State). s.queue) parts.1.1)));
