@@ -10,5 +10,6 @@ returns-clause-step g c =
     let p = c.args.parts.now in
     let peer = c.args.peer in
     lets_go _ _ peer c.forget.ensures.step
-    (own_left (seen g.S.Store.content p).own _ _ _ _ _ _ _ c.forget-2.ensures.state (ap (λ (o : Roll). o.list) c.forget-3.ensures)
+    (own_left (seen g.S.Store.content p).own _ _ _ _ _ _ _ c.forget-2.ensures.state
+    (ap (λ (o : Roll). o.list) c.forget-3.ensures)
     (ap (λ ws. map (waiting_as p.szx) ws) c.retain_others.ensures ∙ kept_waiting p.szx peer p.waiting.items))
