@@ -16,9 +16,9 @@ ghost use Rattle.coap_replay.specs.Replaying.{Does, GivesOut, Replays, Takes, Ta
 ghost use Rattle.coap_replay.specs.Replaying.{last_life, latest_moment};
 
 use coap_journal::{
-    DELAY, FEED, Life, PLAIN, REFUSE, REMOVE, ReadError, SET, TICK, TURN, WOKE, read_feed,
-    read_frame, read_numbered_path, read_path, read_refuse, read_set, read_tick, read_turn,
-    read_woke,
+    DELAY, FEED, FORGET, Life, PLAIN, REFUSE, REMOVE, ReadError, SET, TICK, TURN, WOKE, read_feed,
+    read_forget, read_frame, read_numbered_path, read_path, read_refuse, read_set, read_tick,
+    read_turn, read_woke,
 };
 use coap_resource::{Store, StoreRefusal};
 use coap_server::{DelayRefusal, ErrorCode, PlainRefusal, Server};
@@ -115,6 +115,24 @@ fn replay_refuse<'a, S: Store<A>, A: Allocator + Copy, H: BuildHasher>(
         Ok(rest)
     } else {
         Err(ReplayError::Unreadable)
+    }
+}
+
+// What is of a peer that was forgotten: its Reset stands before it, as a datagram that was fed.
+fn replay_forget<'a, S: Store<A>, A: Allocator + Copy, H: BuildHasher>(
+    server: &mut Server<S, A, H>,
+    bytes: &'a [u8],
+) -> Result<&'a [u8], ReplayError>
+    ensures done { IfOk result (λ rest. (input : Input) × (FORGET ∷ bytes.now ≡ spelled input ++ rest.now)
+        × Takes (state_of S.content server.old) input (state_of S.content server.new)) }
+    ensures same { IfErr result (λ why. why ≢ OtherServer) }
+{
+    match read_forget(bytes) {
+        Some((peer, rest)) => {
+            server.let_go(peer);
+            Ok(rest)
+        }
+        None => Err(ReplayError::Unreadable),
     }
 }
 
@@ -259,6 +277,7 @@ fn replay_input<'a, S: Store<A>, A: Allocator + Copy, H: BuildHasher>(
         [DELAY, rest @ ..] => replay_delay(server, alloc, rest),
         [PLAIN, rest @ ..] => replay_plain(server, alloc, rest),
         [REFUSE, rest @ ..] => replay_refuse(server, rest),
+        [FORGET, rest @ ..] => replay_forget(server, rest),
         _ => Err(ReplayError::Unreadable),
     }
 }

@@ -8,6 +8,7 @@ pub mod ChangesMark
 pub mod ConsAreAcknowledged
 pub mod CurrentLists
 pub mod DatedMarks
+pub mod Elsewhere
 pub mod EndsObservation
 pub mod EntriesKeepLast
 pub mod EntrySteps

@@ -428,4 +428,12 @@ module _ (limits : Limits) (szx : ℕ) (setup : Setup) (t : List Call) (law : Se
     next_out = let k = takes setup under law.exchanges in (k.0, record { rows = (tt, law.rows); exchanges = k.1 });
     gets = λ path. (mine.store.holds path, record { rows = (refl, law.rows); exchanges = law.exchanges });
     tells_applied = (mine.applied, record { rows = (refl, law.rows); exchanges = law.exchanges });
+    forgets = λ peer. record {
+      rows = (tt, law.rows);
+      exchanges = record {
+        rows = (tt, law.exchanges.rows);
+        left = law.exchanges.left;
+        layer = law.exchanges.layer;
+      };
+    };
   }

@@ -64,6 +64,7 @@ module _ (peer : Endpoint) where
   lower_apart s (E.Notifies now to token r word id) e = (e, tt)
   lower_apart s (E.NotifiesPlain now to token r id) e = (e, tt)
   lower_apart s (E.Take answer) e = (tt, tt)
+  lower_apart s (E.Forgets other) e = tt
 
   pub asks_apart : (past later : List E.Call) → Each AboutElse later → Each Asks (asked_by_server past later)
   asks_apart past [] h = tt

@@ -44,6 +44,7 @@ use Rattle.coap_server_laws.proofs.Telling.LayerCalls.{asked_next}
 use Rattle.coap_server_laws.proofs.Silence.LayerApart.{Else}
 use Rattle.coap_server_laws.proofs.Silence.LayerForgets.{AreBehind, AreLive, AreOld, HeardElse, none_left, old_then}
 use Rattle.coap_server_laws.proofs.Silence.LayerForgets.{steps_behind, steps_live, steps_old}
+use Rattle.coap_server.specs.Trace.{Forgets}
 
 module _ (peer : Endpoint) (since : ℕ) where
   -- nothing comes from the peer
@@ -86,6 +87,7 @@ module _ (peer : Endpoint) (since : ℕ) where
   lower_heard s (E.Notifies now to token r word id) e = (tt, tt)
   lower_heard s (E.NotifiesPlain now to token r id) e = (tt, tt)
   lower_heard s (E.Take answer) e = (tt, tt)
+  lower_heard s (E.Forgets other) e = tt
 
   asks_heard : (past later : List E.Call) → Each BringsElse later → Each Asks (asked_by_server past later)
   asks_heard past [] h = tt
@@ -144,6 +146,7 @@ module _ (peer : Endpoint) (since : ℕ) where
       each_join BringsElse (responding (heard s now first) d passed h w id) (first ∷ [])
       (responding_heard (heard s now first) d passed h w id) (tt, tt)
   call_heard s (NextOut answer) e = (tt, tt)
+  call_heard s (Forgets other) e = (tt, tt)
   call_heard s _ e = tt
 
   module _ (limits : Limits) (szx : ℕ) (setup : Setup) where

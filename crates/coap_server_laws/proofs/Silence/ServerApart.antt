@@ -47,6 +47,8 @@ use Rattle.coap_server_laws.specs.Follows.Silent.{HearsElse}
 use Rattle.coap_server_laws.proofs.Replying.Replies.{came_by}
 use Rattle.coap_server_laws.proofs.Silence.LayerApart.{Else}
 use Rattle.coap_server_laws.proofs.Silence.ExchangesApart.{AboutElse}
+use Rattle.coap_server.specs.Trace.{Forgets}
+use Rattle.coap_types.specs.SameEndpoint.{same_endpoint}
 
 module _ (peer : Endpoint) where
   abbrev ElseTo : Observer → Type 0
@@ -287,6 +289,13 @@ module _ (peer : Endpoint) where
     call_apart (Gets path answer) law e k = (k, tt)
     call_apart (TellsApplied answer) law e k = (k, tt)
     call_apart (NextOut answer) law e k = (record { observers = k.observers; waiting = k.waiting }, (tt, tt))
+    call_apart (Forgets other) law e k = (
+      record {
+        observers = each_kept ElseTo (λ o. not (same_endpoint o.to other)) own.observers k.observers;
+        waiting = each_kept ElseWaits (λ w. not (same_endpoint w.asked.from other)) own.waiting k.waiting;
+      },
+      (tt, tt),
+    )
     call_apart (Feeds now from bytes w up c h below) law e k =
         let s : Own = heard own now (incoming own now from bytes up c) in
         let row = first_row setup (answering s c h below) (incoming own now from bytes up c) (lower_of limits szx t)
