@@ -1,5 +1,5 @@
 -- What a client is handed for what the words ask for comes to what they ask for.
-use Rattle.std.proofs.Common.{◌≡◌, ℕ, List, Result, Ok, Err, IfOk, Option, None}
+use Rattle.std.proofs.Common.{ℕ, List, Result, Ok, Err, IfOk}
 use Rattle.coap_types.specs.declared.endpoint.Endpoint.{Endpoint}
 use Rattle.coap_arguments.specs.declared.hosts.Server.{Server}
 use Rattle.coap_arguments.specs.declared.orders.AskOptions.{AskOptions}
@@ -7,7 +7,7 @@ use Rattle.coap_arguments.specs.declared.orders.What.{What}
 use Rattle.coap_commands.specs.Asked.{IsWord}
 use Rattle.coap_commands.specs.Hosts.{IsServer}
 use Rattle.coap_commands.specs.Tasks.{Does, DoneAt, IsAsked, IsDiscovered, IsDiscovery, IsTask}
-use Rattle.coap_commands.specs.Watches.{Again, IsNext, Watches, anew, first}
+use Rattle.coap_commands.specs.Watches.{Again, IsNext, anew, first}
 use Rattle.coap_commands.specs.declared.asking.Task.{Task}
 use Rattle.coap_commands.specs.declared.asking.Task.TheVariants.{Discovery, Observation, Polling, Request, Watch}
 use Rattle.coap_commands.specs.declared.anew.Left.{Left}

@@ -1,5 +1,5 @@
 -- A server that commits each input to its journal is turned as one without: by what it is handed, and what is taken.
-use Rattle.std.proofs.Common.{◌≡◌, ◌≢◌, ◌⊎◌, ◌≤◌, ◌+◌, ◌^◌, ℕ, Bool, false, true, List, [], ◌∷◌, Some, arith}
+use Rattle.std.proofs.Common.{◌≡◌, ◌⊎◌, ◌≤◌, ◌+◌, ℕ, Bool, false, List, [], ◌∷◌, Some, arith}
 use Rattle.std.proofs.Common.{if◌then◌else◌}
 use Rattle.std.proofs.Common.{ap, inl, inr, refl, subst, sym, ◌∙◌, ◌++◌, ◌<◌, Err, IfOk, Ok, OnOk}
 use Rattle.std.proofs.Common.{Option, Result, get_or, length}
@@ -17,7 +17,7 @@ use Rattle.coap_kept.proofs.Facts.{same_end}
 use Rattle.coap_links.specs.Carried.{Packet}
 use Rattle.coap_links.specs.Turning.{Turns}
 use Rattle.coap_links.specs.declared.tally.Tally.{Tally}
-use Rattle.coap_server.specs.Led.{State, Step}
+use Rattle.coap_server.specs.Led.{State}
 use Rattle.coap_server.specs.Trace.{NextOut, Ticks}
 use Rattle.coap_server.specs.Trace.{Feeds as FedIn}
 use Rattle.coap_arguments.specs.declared.orders.Hold.{Hold}
@@ -29,7 +29,7 @@ use Rattle.coap_commands.specs.Served.{FedFrom}
 use Rattle.coap_scripts.specs.declared.status.Status.{Status}
 use Rattle.coap_scripts.specs.declared.status.Status.TheVariants as status
 use Rattle.coap_scripts.specs.declared.status.Stop.{Stop}
-use Rattle.coap_commands.proofs.ServedCalls.{FedMost, fed_call, fed_here, fed_less, most_on, most_same, server_feeds}
+use Rattle.coap_commands.proofs.ServedCalls.{FedMost, fed_call, fed_here, fed_less, server_feeds}
 use Rattle.coap_commands.proofs.ServedCalls.{server_gives, server_ticks, turn_fed}
 
 abbrev queue : State → List layer.Packet

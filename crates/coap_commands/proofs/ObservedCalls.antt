@@ -15,11 +15,10 @@ use Rattle.coap_client.specs.declared.refusals.CancelRefusal.{CancelRefusal}
 use Rattle.coap_client.proofs.Facts.EachCall.{led_client}
 use Rattle.coap_arguments.specs.declared.orders.AskOptions.{AskOptions}
 use Rattle.coap_commands.specs.Asks.{AsksNothing, Each, Turned, takes_report}
-use Rattle.coap_commands.specs.Observes.{AllObserving, HasAll, IsOver, ObserveBecomes, ObserveComes, Observed, Observes}
+use Rattle.coap_commands.specs.Observes.{AllObserving, HasAll, IsOver, ObserveBecomes, ObserveComes, Observed}
 use Rattle.coap_commands.specs.Observes.{Observing, value_in, values_in}
 use Rattle.coap_commands.specs.declared.calling.Outcome.{Outcome}
 use Rattle.coap_commands.specs.declared.calling.Outcome.TheVariants.{GaveUp, Refused, Reported}
-use Rattle.coap_scripts.specs.declared.status.Status.{Status}
 use Rattle.coap_scripts.specs.declared.status.Stop.{Stop}
 use Rattle.coap_commands.proofs.TurnCalls.{chain_join}
 use Rattle.coap_commands.proofs.WhatBecomes.{led_on}

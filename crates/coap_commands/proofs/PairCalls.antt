@@ -1,6 +1,5 @@
 -- What a pair comes to, from the calls of its client to its status.
-use Rattle.std.proofs.Common.{◌≡◌, ◌++◌, ◌∷◌, ◌⊎◌, [], ℕ, List, Option, Result, Ok, Err, IfOk, inl, inr, refl, subst}
-use Rattle.std.proofs.Common.{sym}
+use Rattle.std.proofs.Common.{◌≡◌, ◌++◌, ◌∷◌, [], ℕ, List, Option, Result, Ok, Err, IfOk, inl, inr, refl, subst}
 use Rattle.coap_types.specs.declared.endpoint.Endpoint.{Endpoint}
 use Rattle.coap_types.specs.declared.request.Method.TheVariants.{Get, Put}
 use Rattle.coap_types.specs.declared.szx.TheConstants.{MAX_SZX as max_szx}

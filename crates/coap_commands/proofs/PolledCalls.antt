@@ -15,8 +15,8 @@ use Rattle.coap_client.specs.declared.client.report.Report as R
 use Rattle.coap_client.specs.declared.refusals.CallRefusal.{CallRefusal}
 use Rattle.std.specs.declared.alloc.Global.{Global}
 use Rattle.coap_arguments.specs.declared.orders.AskOptions.{AskOptions}
-use Rattle.coap_commands.specs.Asks.{AsksNothing, Chain, Each, Turned, got_status, takes_report}
-use Rattle.coap_commands.specs.Polls.{AreReadings, Closes, Follows, Goes, HasCome, HasRead, IsLeft, IsNext, IsPending}
+use Rattle.coap_commands.specs.Asks.{AsksNothing, Chain, Turned, got_status, takes_report}
+use Rattle.coap_commands.specs.Polls.{Closes, Follows, Goes, HasCome, HasRead, IsLeft, IsNext, IsPending}
 use Rattle.coap_commands.specs.Polls.{AreWritten, IsThrough, Polls, Reading, Reads, WritesAs, calls_of, pending_after}
 use Rattle.coap_commands.specs.Polls.{read_status}
 use Rattle.coap_commands.specs.Waiting.{HasPassed}

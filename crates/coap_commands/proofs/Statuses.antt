@@ -1,9 +1,9 @@
 -- With which status words are answered that ask for an order, or have something wrong.
 use Rattle.std.proofs.Common.{◌≡◌, ◌≢◌, ◌∙◌, inl, inr, ap, sym, subst, ℕ, ◌≤◌, List, [], ◌∷◌, Option, None, Some}
-use Rattle.std.proofs.Common.{codes, refl, ◌⊎◌, arith, Result, Ok, Err, IfOk, Bool, true, false, if◌then◌else◌}
+use Rattle.std.proofs.Common.{refl, ◌⊎◌, arith, Result, Ok, Err, IfOk, Bool, true, false, if◌then◌else◌}
 use Rattle.std.specs.Borrow.{Bor}
 use Rattle.std.specs.Option.{IsSome}
-use Rattle.clap.specs.Words.{Row, Text}
+use Rattle.clap.specs.Words.{Text}
 use Rattle.std.specs.declared.alloc.Global.{Global}
 use Rattle.coap_types.specs.declared.request.Method.{Method}
 use Rattle.coap_types.specs.declared.request.Method.TheVariants as method
@@ -47,7 +47,6 @@ use Rattle.coap_arguments.specs.declared.orders.AskOptions.{AskOptions}
 use Rattle.coap_arguments.specs.declared.orders.ServeOptions.{ServeOptions}
 use Rattle.coap_arguments.specs.declared.orders.WordChoice.{WordChoice}
 use Rattle.coap_arguments.specs.declared.orders.What.{What}
-use Rattle.coap_arguments.specs.declared.orders.What.TheVariants.{Get, Put, Post, Delete, Observe}
 use Rattle.coap_arguments.specs.declared.orders.Wrong.{Wrong}
 use Rattle.coap_arguments.specs.declared.orders.Wrong.TheVariants.{Words, Path, Number, Word, Address, Size, Tags}
 use Rattle.coap_arguments.specs.declared.orders.Wrong.TheVariants.{Setting, Body, Store, Plains, Ends as NoEnds}

@@ -1,5 +1,5 @@
 -- What becomes of a path that is observed anew, from the calls of its clients to the status of the program.
-use Rattle.std.proofs.Common.{◌≡◌, ◌+◌, ◌∙◌, ◌↔◌, ℕ, Bool, List, Option, Some, None, ap, refl, sym, subst, true, false}
+use Rattle.std.proofs.Common.{◌≡◌, ◌+◌, ◌∙◌, ◌↔◌, ℕ, Bool, List, Option, Some, None, ap, sym, subst, true, false}
 use Rattle.std.proofs.Common.{Result, Ok, Err, IfOk}
 use Rattle.std.specs.declared.alloc.Global.{Global}
 use Rattle.coap_types.specs.declared.endpoint.Endpoint.{Endpoint}
@@ -11,7 +11,6 @@ use Rattle.coap_client.specs.declared.client.report.Report as R
 use Rattle.coap_arguments.specs.declared.orders.AskOptions.{AskOptions}
 use Rattle.coap_commands.specs.Asks.{Turned, TurnsAt, takes_report}
 use Rattle.coap_commands.specs.Observes.{IsOver}
-use Rattle.coap_commands.specs.Waiting.{HasPassed}
 use Rattle.coap_commands.specs.Watches.{Again, Follows, Goes, IsFollowed, IsLeft, IsNext, IsNoEnd, LastTurn, LeavesAt}
 use Rattle.coap_commands.specs.Watches.{TakesReport, Watches, anew, further, heard_at, taken}
 use Rattle.coap_commands.specs.Watches.{verdict}

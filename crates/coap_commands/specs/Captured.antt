@@ -1,5 +1,5 @@
 -- With which status a capture is shown (RFC 7252, section 3; draft-ietf-opsawg-pcap).
-use Rattle.std.specs.Prelude.{◌≡◌, ⊤, ℕ, List, All, Any, Result, Ok, Err}
+use Rattle.std.specs.Prelude.{⊤, ℕ, List, All, Any, Result, Ok, Err}
 use Rattle.coap_codec.specs.Message.{Message, Spells}
 use Rattle.coap_pcap.specs.Files.{IsFaulty, Seen, Tells}
 use Rattle.coap_pcap.specs.declared.addresses.Addresses.{Addresses}

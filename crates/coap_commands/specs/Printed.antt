@@ -1,6 +1,6 @@
 -- What is printed in words: a body as it is, or on a line; what else became of a request; and what a server, a pair and
 -- a ping say (docs/PROTOCOL.md).
-use Rattle.std.specs.Prelude.{◌≡◌, ⊤, ℕ, Bool, true, false, List, Option, Some, None, codes, decimal, length}
+use Rattle.std.specs.Prelude.{◌≡◌, ℕ, Bool, true, false, List, Option, Some, None, codes, decimal, length}
 use Rattle.std.specs.Prelude.{◌++◌}
 use Rattle.std.specs.declared.alloc.Global.{Global}
 use Rattle.std.specs.Io.KnownBytes.{Appends}

@@ -1,4 +1,4 @@
-use Rattle.std.proofs.Common.{ap, arith, refl, subst, sym}
+use Rattle.std.proofs.Common.{ap, arith, refl}
 use Rattle.coap_links.specs.declared.tally.Tally.{Tally}
 use Rattle.coap_resource.specs.Entries.{content_of}
 use Rattle.coap_server.specs.Object.Shown.{state_of}

@@ -1,7 +1,4 @@
-use Rattle.std.proofs.Common.{◌≡◌, Option, Some, None, true, is_none, subst}
-use Rattle.coap_client.specs.declared.client.report.CallId.{CallId}
 use Rattle.coap_commands.specs.Asks.{AsksNothing}
-use Rattle.coap_commands.specs.Polls.{Goes, IsLeft}
 use Rattle.coap_commands.proofs.PolledCalls.{left_here, left_on}
 use Rattle.coap_commands.proofs.TurnCalls.{client_turned}
 use Rattle.coap_commands.proofs.polling.pause.Goals as goal

@@ -2,9 +2,8 @@ use Rattle.std.proofs.Common.{map}
 use Rattle.coap_resource.specs.Entries.{content_of}
 use Rattle.coap_server.specs.Object.Shown.{state_of}
 use Rattle.coap_scripts.specs.Settings.{setting_of}
-use Rattle.coap_commands.specs.ScriptSettings.{IsOfSettings}
-use Rattle.coap_commands.specs.SettingUp.{IsRefusedAfter, IsServerAfter}
-use Rattle.coap_commands.proofs.ServedCalls.{made_is, not_set_by, refused_is, served_by}
+use Rattle.coap_commands.specs.SettingUp.{IsServerAfter}
+use Rattle.coap_commands.proofs.ServedCalls.{made_is, served_by}
 use Rattle.coap_commands.proofs.serve.serve_on.Goals as goal
 
 pub returns-in-Ok : goal.returns-in-Ok

@@ -1,4 +1,4 @@
-use Rattle.std.proofs.Common.{◌≡◌, Option, Some, None, IfNone, true, false}
+use Rattle.std.proofs.Common.{◌≡◌, Option, Some, None, IfNone}
 use Rattle.coap_commands.proofs.watching.left_at.Goals as goal
 
 none_is : {X : Type 0} (P : Type 0) (o : Option X) → IfNone o P → o ≡ None → P
