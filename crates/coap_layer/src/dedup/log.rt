@@ -112,7 +112,10 @@ fn make_few<A: Allocator + Copy>(few: &mut Vec<u32, A>) -> Result<(), AllocError
 }
 
 // How many heads one message makes, of so many.
-fn step_of(most: usize) -> usize {
+fn step_of(most: usize) -> usize
+    ensures some { 1 ≤ result }
+    ensures few { result ≤ STEP }
+{
     STEP.min(most / PARTS + 1)
 }
 
