@@ -4,13 +4,14 @@ ghost use Rattle.std.specs.List.{list_any};
 ghost use Rattle.coap_types.specs.SameEndpoint.{same_endpoint};
 ghost use Rattle.std.specs.Option.{option_map};
 ghost use Rattle.coap_observe.specs.Notices.{but_noted, told_at, told_due};
-ghost use Rattle.coap_observe.specs.Observers.{AreRegistrations, Observer, changed_at, is_registered, is_due_at};
+ghost use Rattle.coap_observe.specs.Observers.{AreRegistrations, Observer, changed_at, elsewhere, is_registered};
+ghost use Rattle.coap_observe.specs.Observers.{is_due_at};
 ghost use Rattle.coap_observe.specs.Observers.{is_due_of, marked_in, noted_to, registered, rejected, removed};
 ghost use Rattle.coap_observe.specs.Observers.{reset_at, sent_to};
 
 use crate::entries::{
     due_behind, first_due, first_noted, has, has_endpoint, is_due, make_room, mark_all, note_all,
-    others, push_within, take_out, unmark_all,
+    others, push_within, take_all, take_out, unmark_all,
 };
 use crate::entry::Entry;
 use crate::notice::Notice;
@@ -137,6 +138,14 @@ impl<A: Allocator + Copy> Observers<A> {
         let was_there = has(&self.list, from, token);
         take_out(&mut self.list, from, token);
         was_there
+    }
+
+    /// Removes each registration of this endpoint, which never comes again.
+    pub fn forget(&mut self, to: Endpoint)
+        // After it that endpoint observes nothing, and the registrations of others are as they were.
+        ensures { self.new ≡ record { clock = self.old.clock; list = elsewhere to self.old.list } }
+    {
+        take_all(&mut self.list, to);
     }
 
     /// The representation of the resource at this path changed: a notification is due to each of its

@@ -7,12 +7,13 @@ use Rattle.std.specs.Cmp.Lexicographic.{bytes_decides}
 use Rattle.std.proofs.lemmas.Bool.Decides.{Decides-and}
 use Rattle.std.proofs.lemmas.List.{length-append, length-map}
 use Rattle.coap_types.specs.declared.endpoint.Endpoint.{Endpoint}
+use Rattle.coap_types.specs.SameEndpoint.{same_endpoint}
 use Rattle.coap_types.proofs.Facts.Endpoints.{same_endpoint-decides}
 use Rattle.coap_observe.specs.Observers.{HasPlaces, Noted, Observer, AreDistinct, AreRegistrations, begun, changed_at}
-use Rattle.coap_observe.specs.Observers.{is_noted_at, is_registered}
+use Rattle.coap_observe.specs.Observers.{elsewhere, is_noted_at, is_registered}
 use Rattle.coap_observe.specs.Observers.{is_of, marked_by, noted_by, noted_to, registered, registration, rejected}
 use Rattle.coap_observe.specs.Observers.{removed, reset_at, sent_to, unmarked_by, without}
-use Rattle.coap_observe.specs.Registrations.{IsOther, OthersStay, ResetTakes, told_by}
+use Rattle.coap_observe.specs.Registrations.{ForgetLeaves, ForgetTakes, IsOther, OthersStay, ResetTakes, told_by}
 use Rattle.coap_observe.proofs.ListLemmas.{find_before, find_behind, find_gone, find_kept, find_none, find_of_map}
 use Rattle.coap_observe.proofs.ListLemmas.{length_filter}
 
@@ -44,6 +45,20 @@ pub registration-removed : (to : Endpoint) (token : List ℕ) (os : List Observe
     → registration to token (removed to token os) ≡ None
 registration-removed to token os = find_gone (is_of to token) (λ o. not (is_of to token o))
     (λ o h. not_true (is_of to token o) h) os
+
+-- what is of an endpoint goes with it, and what is of another stays
+pub forget_takes : ForgetTakes
+forget_takes to token os = find_gone (is_of to token) (λ o. not (same_endpoint o.to to))
+    (λ o h.
+    let mine = (is_of-decides to token o).0 h in
+    not_true (same_endpoint o.to to) ((same_endpoint-decides o.to to).1 mine.0)) os
+
+pub forget_leaves : ForgetLeaves
+forget_leaves to by token os other = find_kept (is_of by token) (λ o. not (same_endpoint o.to to))
+    (λ o h.
+    let mine = (is_of-decides by token o).0 h in
+    not_false (same_endpoint o.to to) (false_by (same_endpoint o.to to)
+    (λ k. let its = (same_endpoint-decides o.to to).0 k in other (sym its ∙ mine.0)))) os
 
 pub registration-registered : (at : ℕ) (to : Endpoint) (token : List ℕ) (path : List (List ℕ)) (szx : ℕ)
     (os : List Observer)
@@ -239,6 +254,13 @@ registrations-removed to token os r =
     let fewer = length_filter keep os in
     record { few = omega (arith, fewer, r.few); distinct = distinct_filter keep os r.distinct }
 
+pub registrations-elsewhere : (to : Endpoint) (os : List Observer) → AreRegistrations os
+    → AreRegistrations (elsewhere to os)
+registrations-elsewhere to os r =
+    let keep : Observer → Bool = λ o. not (same_endpoint o.to to) in
+    let fewer = length_filter keep os in
+    record { few = omega (arith, fewer, r.few); distinct = distinct_filter keep os r.distinct }
+
 pub registrations-registered : (at : ℕ) (to : Endpoint) (token : List ℕ) (path : List (List ℕ)) (szx : ℕ)
     (os : List Observer) → AreRegistrations os → length (removed to token os) < 64
     → AreRegistrations (registered at to token path szx os)
@@ -293,6 +315,13 @@ pub places-removed : (to : Endpoint) (token : List ℕ) (os ps : List Observer) 
 places-removed to token os ps m n is same places =
     let long = ap (λ (l : List Observer). length l) is in
     let fewer = length_filter (λ (o : Observer). not (is_of to token o)) os in
+    places-fewer os ps m n (omega (arith, long, fewer)) same places
+
+pub places-elsewhere : (to : Endpoint) (os ps : List Observer) (m n : ℕ) → ps ≡ elsewhere to os → n ≡ m
+    → HasPlaces os m → HasPlaces ps n
+places-elsewhere to os ps m n is same places =
+    let long = ap (λ (l : List Observer). length l) is in
+    let fewer = length_filter (λ (o : Observer). not (same_endpoint o.to to)) os in
     places-fewer os ps m n (omega (arith, long, fewer)) same places
 
 -- where a pair is registered, there is a registration
