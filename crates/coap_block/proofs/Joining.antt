@@ -3,4 +3,5 @@ pub mod BlocksOfHistory
 pub mod JoinedBehind
 pub mod OneBody
 pub mod OneForAKey
+pub mod OthersOfAPeer
 pub mod ThereExactly

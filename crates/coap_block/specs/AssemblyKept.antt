@@ -1,9 +1,11 @@
 -- The state that an assembly's fields stand for, and what `undo` puts back.
 use Rattle.std.specs.Prelude.{ℕ, zero, suc, if◌then◌else◌, ◌<◌, ◌≤◌, ◌+◌, ◌-◌, ◌++◌, ◌&&◌, Bool, List, [], ◌∷◌, length}
-use Rattle.std.specs.Prelude.{map, take, set, Option, Some, None, vec_len, vec_capacity}
+use Rattle.std.specs.Prelude.{filter, map, not, take, set, Option, Some, None, vec_len, vec_capacity}
 use Rattle.std.specs.List.{insert}
 use Rattle.std.specs.Option.{option_map}
 use Rattle.std.specs.declared.vec.Vec.{Vec}
+use Rattle.coap_types.specs.declared.endpoint.Endpoint.{Endpoint}
+use Rattle.coap_types.specs.SameEndpoint.{same_endpoint}
 use Rattle.coap_block.specs.declared.upload_key.UploadKey.{UploadKey}
 use Rattle.coap_block.specs.declared.partial.Partial.{Partial}
 use Rattle.coap_block.specs.declared.assembly_undo.Change.{Change}
@@ -25,6 +27,10 @@ partials_of {A} ps = map (λ (p : Partial A). body_of p) ps
 -- those that are there at a moment
 abbrev pub there_of : {A : Type 0} → ℕ → List (Partial A) → List PartialBody
 there_of now ps = forgotten now (partials_of ps)
+
+-- those of uploads from other endpoints
+abbrev pub others_of : {A : Type 0} → Endpoint → List (Partial A) → List (Partial A)
+others_of {A} from ps = filter (λ (p : Partial A). not (same_endpoint p.key.from from)) ps
 
 -- it is the partial body of that key, and there
 abbrev pub is_there : Key → ℕ → PartialBody → Bool

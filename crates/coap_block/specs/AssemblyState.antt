@@ -1,6 +1,6 @@
 -- What a server keeps of uploads in blocks (RFC 7959, section 2.5).
-use Rattle.std.specs.Prelude.{ℕ, Bool, ◌&&◌, ◌-◌, ◌==◌, nat_le, List, [], ◌∷◌, ◌++◌, length, filter, find, Option, Some}
-use Rattle.std.specs.Prelude.{None, if◌then◌else◌}
+use Rattle.std.specs.Prelude.{ℕ, Bool, not, ◌&&◌, ◌-◌, ◌==◌, nat_le, List, [], ◌∷◌, ◌++◌, length, filter, find, Option}
+use Rattle.std.specs.Prelude.{Some, None, if◌then◌else◌}
 use Rattle.coap_types.specs.declared.endpoint.Endpoint.{Endpoint}
 use Rattle.coap_types.specs.declared.request.Method.{Method}
 use Rattle.coap_types.specs.MethodCode.{method_code}
@@ -84,3 +84,11 @@ reached_of (Some p) = Some (length p.bytes)
 
 abbrev pub reached : Key → List PartialBody → Option ℕ
 reached key ps = reached_of (partial_of key ps)
+
+-- those of uploads from other endpoints, in order
+abbrev pub elsewhere : Endpoint → List PartialBody → List PartialBody
+elsewhere from ps = filter (λ p. not (same_endpoint p.key.from from)) ps
+
+-- an endpoint that never comes again: its partial bodies go
+abbrev pub without_peer : Endpoint → AssemblyState → AssemblyState
+without_peer from s = record s { partials = elsewhere from s.partials }

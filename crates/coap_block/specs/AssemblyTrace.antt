@@ -1,6 +1,10 @@
--- An assembly's history: the blocks that came since it was made, the newest outermost (RFC 7959, section 2.5).
-use Rattle.std.specs.Prelude.{◌≡◌, ◌≢◌, ℕ, ◌≤◌, ◌==◌, List, [], ◌∷◌, ◌++◌, length, Some, None, if◌then◌else◌}
+-- An assembly's history: the blocks that came since it was made, and the endpoints that were forgotten, the newest
+-- outermost (RFC 7959, section 2.5).
+use Rattle.std.specs.Prelude.{◌≡◌, ◌≢◌, ℕ, ◌≤◌, ◌==◌, false, List, [], ◌∷◌, ◌++◌, length, Some, None, if◌then◌else◌}
+use Rattle.std.specs.List.{list_any}
 use Rattle.coap_types.specs.declared.block.Block.{Block}
+use Rattle.coap_types.specs.declared.endpoint.Endpoint.{Endpoint}
+use Rattle.coap_types.specs.SameEndpoint.{same_endpoint}
 use Rattle.coap_block.specs.declared.block_verdict.BlockVerdict.{BlockVerdict}
 use Rattle.coap_block.specs.declared.block_verdict.BlockVerdict.TheVariants.{Refuse, Join, Done}
 use Rattle.coap_block.specs.declared.assembly_judging.TheConstants.{MAX_PARTIALS as max_partials}
@@ -8,15 +12,18 @@ use Rattle.coap_block.specs.Sizes.{Sizes}
 use Rattle.coap_block.specs.Whole.{Part, Each, joined, Chained, WholeAtServer}
 use Rattle.coap_block.specs.Gathered.{part, IsFull}
 use Rattle.coap_block.specs.AssemblyState.{Key, PartialBody, AssemblyState, same_key, nothing_yet, partial_of}
+use Rattle.coap_block.specs.AssemblyState.{elsewhere, without_peer}
 use Rattle.coap_block.specs.AssemblyStep.{there_at, verdict_at, with_block, after_block}
 
 pub data AssemblyTrace : Type 0 where
   Made : (sizes : Sizes) → AssemblyTrace
   Arrived : (earlier : AssemblyTrace) (now : ℕ) (key : Key) (b : Block) (payload : List ℕ) → AssemblyTrace
+  Forgot : (earlier : AssemblyTrace) (from : Endpoint) → AssemblyTrace
 
 abbrev pub state_after : AssemblyTrace → AssemblyState
 state_after (Made sizes) = nothing_yet sizes
 state_after (Arrived earlier now key b payload) = after_block (state_after earlier) now key b payload
+state_after (Forgot earlier from) = without_peer from (state_after earlier)
 
 -- this history leaves the assembly so
 abbrev pub Led : AssemblyTrace → AssemblyState → Type 0
@@ -39,6 +46,7 @@ blocks_since key (Arrived earlier now k b payload) =
     if same_key k key then blocks_by (verdict_at (state_after earlier) now k b (length payload)) b payload
     (blocks_since key earlier)
     else blocks_since key earlier
+blocks_since key (Forgot earlier from) = blocks_since key earlier
 
 -- a partial body is these blocks, in order and each of its full size, and is not longer than the limit
 pub record JoinedFrom (limit : ℕ) (parts : List Part) (p : PartialBody) : Type 0 where
@@ -87,3 +95,13 @@ NoneLeft = (t : AssemblyTrace) (now : ℕ) (key : Key) (b : Block) (payload : Li
 abbrev pub OthersStay : Type 0
 OthersStay = (s : AssemblyState) (now : ℕ) (key other : Key) (b : Block) (payload : List ℕ) → other ≢ key
     → partial_of other (after_block s now key b payload).partials ≡ partial_of other (there_at s now)
+
+-- an endpoint that is forgotten has no partial body, whatever its key
+abbrev pub ForgottenHasNone : Type 0
+ForgottenHasNone = (from : Endpoint) (ps : List PartialBody)
+    → list_any (λ p. same_endpoint p.key.from from) (elsewhere from ps) ≡ false
+
+-- .. and each partial body of another endpoint stays
+abbrev pub ForgettingLeaves : Type 0
+ForgettingLeaves = (from : Endpoint) (other : Key) (ps : List PartialBody) → other.from ≢ from
+    → partial_of other (elsewhere from ps) ≡ partial_of other ps

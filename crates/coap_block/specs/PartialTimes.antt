@@ -3,6 +3,7 @@ use Rattle.std.specs.Prelude.{◌≡◌, ◌↔◌, ◌≤◌, ◌+◌, ◌==◌
 use Rattle.std.specs.Prelude.{if◌then◌else◌}
 use Rattle.std.specs.Option.{option_map}
 use Rattle.coap_types.specs.declared.block.Block.{Block}
+use Rattle.coap_types.specs.SameEndpoint.{same_endpoint}
 use Rattle.coap_block.specs.declared.block_verdict.BlockVerdict.{BlockVerdict}
 use Rattle.coap_block.specs.declared.block_verdict.BlockVerdict.TheVariants.{Refuse, Join, Done}
 use Rattle.coap_block.specs.declared.assembly_step.AssemblyRefusal.TheVariants.{BadRequest, EntityIncomplete}
@@ -10,7 +11,7 @@ use Rattle.coap_block.specs.declared.assembly_step.AssemblyRefusal.TheVariants.{
 use Rattle.coap_block.specs.declared.partial.TheConstants.{PARTIAL_LIFETIME_MS as partial_lifetime}
 use Rattle.coap_block.specs.AssemblyState.{Key, PartialBody, same_key, partial_of}
 use Rattle.coap_block.specs.AssemblyStep.{moment_at, there_at, verdict_at}
-use Rattle.coap_block.specs.AssemblyTrace.{AssemblyTrace, Made, Arrived, state_after}
+use Rattle.coap_block.specs.AssemblyTrace.{AssemblyTrace, Made, Arrived, Forgot, state_after}
 
 -- When the last block was taken, if a block 0 was. A body that is whole ends that, and so does one that is
 -- too long (4.13); what else is refused leaves it.
@@ -22,13 +23,15 @@ last_by (Refuse Unavailable) b at last = last
 last_by (Join szx) b at last = if b.num == 0 then Some at else option_map (λ earlier. at) last
 last_by Done b at last = None
 
--- when the last block of a key was taken, if a block 0 with more behind it was since its last whole body or 4.13
+-- when the last block of a key was taken, if a block 0 with more behind it was since its last whole body or 4.13, and
+-- since its endpoint was forgotten
 abbrev pub last_taken : Key → AssemblyTrace → Option ℕ
 last_taken key (Made sizes) = None
 last_taken key (Arrived earlier now k b payload) =
     if same_key k key then last_by (verdict_at (state_after earlier) now k b (length payload)) b
     (moment_at (state_after earlier) now) (last_taken key earlier)
     else last_taken key earlier
+last_taken key (Forgot earlier from) = if same_endpoint key.from from then None else last_taken key earlier
 
 -- it was no longer ago than a partial body is kept
 abbrev pub IsRecent : Option ℕ → ℕ → Type 0

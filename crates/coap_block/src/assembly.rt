@@ -4,10 +4,10 @@ ghost use Rattle.std.specs.Prelude.{max, vec_len, vec_capacity};
 ghost use Rattle.std.specs.List.{list_any};
 ghost use Rattle.coap_types.specs.SameEndpoint.{same_endpoint};
 ghost use Rattle.coap_block.specs.Sizes.{usual_sizes};
-ghost use Rattle.coap_block.specs.AssemblyState.{body_with, forgotten, nothing_yet, with_payload};
+ghost use Rattle.coap_block.specs.AssemblyState.{body_with, forgotten, nothing_yet, with_payload, without_peer};
 ghost use Rattle.coap_block.specs.AssemblyStep.{partials_by, verdict_at};
 ghost use Rattle.coap_block.specs.AssemblyAnswer.{IsRefused, TakesBlock, took};
-ghost use Rattle.coap_block.specs.AssemblyTrace.{Arrived, AssemblyTrace, Led, Made};
+ghost use Rattle.coap_block.specs.AssemblyTrace.{Arrived, AssemblyTrace, Forgot, Led, Made};
 ghost use Rattle.coap_block.specs.AssemblyKept.{partials_of, key_of, there_of, undone, AreFew, IsUndoable};
 
 use crate::arrival::Arrival;
@@ -16,7 +16,7 @@ use crate::assembly_step::{AssemblyRefusal, Took};
 use crate::assembly_undo::{Before, Change};
 use crate::block_verdict::BlockVerdict;
 use crate::partial::Partial;
-use crate::partials::{any_from, counts, join, live, restore, take_out, whole};
+use crate::partials::{any_from, counts, join, live, restore, take_all_from, take_out, whole};
 use crate::upload_key::UploadKey;
 use coap_types::{Block, BodyLimit, Endpoint, Moment, Szx};
 use std::alloc::{AllocError, Allocator, Global};
@@ -139,6 +139,20 @@ impl<A: Allocator + Copy> Assembly<A> {
             (forgotten (max self.now.state.clock now.0) self.now.state.partials) }
     {
         any_from(&self.partials, from, self.clock.later(now))
+    }
+
+    /// Takes away each partial body of an upload from there: of an endpoint that never comes again. After it, no block
+    /// can be taken back. It takes no memory.
+    pub fn forget(&mut self, from: Endpoint)
+        // After it that endpoint has no partial body, and those of others are as they were.
+        ensures state { self.new.state ≡ without_peer from self.old.state }
+        // Every history that led to the assembly leads on with an endpoint that is forgotten.
+        ensures led { (t : AssemblyTrace) → Led t self.old.state → Led (Forgot t from) self.new.state }
+        // After an endpoint is forgotten there is no block to take back.
+        ensures before { self.new.before ≡ None }
+    {
+        self.before = None;
+        take_all_from(&mut self.partials, from);
     }
 
     /// Takes the last block back, so that the assembly is as before it. There is to have been one that

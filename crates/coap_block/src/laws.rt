@@ -3,7 +3,7 @@ ghost use Rattle.coap_block.specs.Whole.{OneBody, OneBodyAtServer};
 ghost use Rattle.coap_block.specs.Gathered.{GatheredAtStart, GatheredByPart, WholeByParts};
 ghost use Rattle.coap_block.specs.FetchTrace.{BodyIsShort, GatheredIsShort, WholeByHistory};
 ghost use Rattle.coap_block.specs.AssemblyTrace.{FewPartials, NoneLeft, OneForAKey, OthersStay, PartialsByHistory};
-ghost use Rattle.coap_block.specs.AssemblyTrace.{WholeByBlocks};
+ghost use Rattle.coap_block.specs.AssemblyTrace.{ForgettingLeaves, ForgottenHasNone, WholeByBlocks};
 ghost use Rattle.coap_block.specs.PartialTimes.{JoinsWhereMore, ThereAtMoment, ThereByHistory};
 ghost use Rattle.coap_block.specs.UploadStep.{ContinuesIsTested};
 ghost use Rattle.coap_block.specs.Sent.{SentAtStart, SentByPart, WholeBySent};
@@ -65,4 +65,8 @@ pub fn assembly_law()
     ensures later { ThereAtMoment }
     // A block behind which more follow is joined, and makes no body whole.
     ensures joins { JoinsWhereMore }
+    // An endpoint that is forgotten has no partial body.
+    ensures forgets { ForgottenHasNone }
+    // To forget an endpoint leaves the partial bodies of others.
+    ensures leaves { ForgettingLeaves }
 {}

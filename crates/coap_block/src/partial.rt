@@ -64,6 +64,13 @@ impl<A: Allocator + Copy> Partial<A> {
         self.is_live(now) && self.key.from == from
     }
 
+    /// Whether it is of an upload from there.
+    pub(crate) fn is_of(&self, from: Endpoint) -> bool
+        ensures { result ≡ same_endpoint self.now.key.from from }
+    {
+        self.key.from == from
+    }
+
     /// Whether it is that of the key, and there.
     pub(crate) fn is_there(&self, key: &UploadKey<A>, now: Moment) -> bool
         ensures { result ≡ is_there (key_of key.now) now.0 (body_of self.now) }

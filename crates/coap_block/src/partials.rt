@@ -6,7 +6,7 @@ ghost use Rattle.coap_types.specs.SameEndpoint.{same_endpoint};
 ghost use Rattle.coap_block.specs.AssemblyState.{body_with, forgotten, is_live, put, reached, with_payload};
 ghost use Rattle.coap_block.specs.AssemblyState.{without_key};
 ghost use Rattle.coap_block.specs.AssemblyKept.{begun, body_of, changed_at, grown, partials_of, key_of, place_of};
-ghost use Rattle.coap_block.specs.AssemblyKept.{there_of, undone, AreFew, IsUndoable};
+ghost use Rattle.coap_block.specs.AssemblyKept.{others_of, there_of, undone, AreFew, IsUndoable};
 
 use crate::arrival::Arrival;
 use crate::assembly_judging::MAX_PARTIALS;
@@ -96,6 +96,13 @@ fn forget<A: Allocator + Copy>(partials: &mut Vec<Partial<A>, A>, now: Moment)
     ensures room { vec_capacity partials.new ≡ vec_capacity partials.old }
 {
     partials.retain(|partial| partial.is_live(now));
+}
+
+/// Takes each that is of an upload from there out.
+pub(crate) fn take_all_from<A: Allocator + Copy>(partials: &mut Vec<Partial<A>, A>, from: Endpoint)
+    ensures { partials.new.items ≡ others_of from partials.old.items }
+{
+    partials.retain(|partial| !partial.is_of(from));
 }
 
 // Puts one last, where there is room.

@@ -5,7 +5,7 @@ use Rattle.coap_block.specs.FetchTrace.{BodyIsShort, GatheredIsShort, PartsAreGa
 use Rattle.coap_block.specs.UploadStep.{ContinuesIsTested}
 use Rattle.coap_block.specs.Sent.{SentByPart, WholeBySent}
 use Rattle.coap_block.specs.AssemblyTrace.{FewPartials, NoneLeft, OneForAKey, OthersStay, PartialsByHistory}
-use Rattle.coap_block.specs.AssemblyTrace.{WholeByBlocks}
+use Rattle.coap_block.specs.AssemblyTrace.{ForgettingLeaves, ForgottenHasNone, WholeByBlocks}
 use Rattle.coap_block.specs.PartialTimes.{ThereAtMoment, ThereByHistory}
 use Rattle.coap_block.proofs.Joining.OneBody as wholes
 use Rattle.coap_block.proofs.Fetching.WholeByParts as fetches
@@ -13,6 +13,7 @@ use Rattle.coap_block.proofs.Fetching.PartsOfHistory as histories
 use Rattle.coap_block.proofs.Fetching.BodiesAreShort as shorts
 use Rattle.coap_block.proofs.Sending.SentInOrder as uploads
 use Rattle.coap_block.proofs.Joining.BlocksOfHistory as assemblies
+use Rattle.coap_block.proofs.Joining.OthersOfAPeer as peers
 use Rattle.coap_block.proofs.Joining.ThereExactly as times
 
 pub one_body : OneBody
@@ -73,3 +74,10 @@ there_by_history = times.there_by_history
 
 pub there_at_moment : ThereAtMoment
 there_at_moment = times.there_at_moment
+
+-- what is left where an endpoint is forgotten
+pub forgotten_has_none : ForgottenHasNone
+forgotten_has_none = peers.forgotten_has_none
+
+pub forgetting_leaves : ForgettingLeaves
+forgetting_leaves = peers.forgetting_leaves

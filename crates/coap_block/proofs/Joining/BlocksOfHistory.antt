@@ -15,13 +15,15 @@ use Rattle.coap_block.specs.AssemblyState.{Key, PartialBody, AssemblyState, same
 use Rattle.coap_block.specs.AssemblyState.{bytes_of, reached_of}
 use Rattle.coap_block.specs.AssemblyStep.{fills, ends_at, goes_on, answered_szx, verdict_at, there_at, moment_at}
 use Rattle.coap_block.specs.AssemblyStep.{with_block, partials_by, after_block}
-use Rattle.coap_block.specs.AssemblyTrace.{AssemblyTrace, Made, Arrived, state_after, behind, blocks_by, blocks_since}
+use Rattle.coap_block.specs.AssemblyTrace.{AssemblyTrace, Made, Arrived, Forgot, state_after, behind, blocks_by}
+use Rattle.coap_block.specs.AssemblyTrace.{blocks_since}
 use Rattle.coap_block.specs.AssemblyTrace.{JoinedFrom, IsWholeBody, PartialsByHistory, FewPartials, AreDistinct}
 use Rattle.coap_block.specs.AssemblyTrace.{OneForAKey, WholeByBlocks, NoneLeft, OthersStay}
 use Rattle.coap_block.proofs.Facts.Keys.{same_key-decides}
 use Rattle.coap_block.proofs.Joining.OneForAKey.{out_other, out_none, distinct_out, put_there, put_other, distinct_put}
 use Rattle.coap_block.proofs.Joining.OneForAKey.{distinct_there, was_there, fewer_there, fewer_out, one_more, as_many}
 use Rattle.coap_block.proofs.Fetching.WholeByParts.{same_number}
+use Rattle.coap_block.proofs.Joining.OthersOfAPeer.{distinct_elsewhere, fewer_elsewhere, was_elsewhere}
 use Rattle.coap_block.proofs.Joining.JoinedBehind.{join_first, join_next, whole_first, whole_next}
 
 -- what the tests say of a block that is joined, and of a last one
@@ -218,6 +220,14 @@ holds (Arrived earlier now k b payload) =
           (distinct_there (moment_at s now) s.partials h.distinct);
       few = few_after s now k b payload h.few;
       joined = λ key p e. joined_of parts s now k b payload h (same_key k key) key refl p e;
+    }
+holds (Forgot earlier from) =
+    let h = holds earlier in
+    let ps = (state_after earlier).partials in
+    record {
+      distinct = distinct_elsewhere from ps h.distinct;
+      few = omega (arith, h.few, fewer_elsewhere from ps);
+      joined = λ key p e. h.joined key p (was_elsewhere from key ps p e);
     }
 
 pub partials_by_history : PartialsByHistory

@@ -14,12 +14,14 @@ use Rattle.coap_block.specs.AssemblyState.{Key, PartialBody, AssemblyState, same
 use Rattle.coap_block.specs.AssemblyState.{without_key, reached_of}
 use Rattle.coap_block.specs.AssemblyStep.{fills, ends_at, goes_on, answered_szx, verdict_at, there_at, moment_at}
 use Rattle.coap_block.specs.AssemblyStep.{partials_by, after_block}
-use Rattle.coap_block.specs.AssemblyTrace.{AssemblyTrace, Made, Arrived, state_after, AreDistinct}
+use Rattle.coap_block.specs.AssemblyTrace.{AssemblyTrace, Made, Arrived, Forgot, state_after, AreDistinct}
 use Rattle.coap_block.specs.PartialTimes.{last_by, last_taken, IsThereExactly, ThereByHistory, ThereAtMoment}
 use Rattle.coap_block.specs.PartialTimes.{JoinsWhereMore}
 use Rattle.coap_block.proofs.Facts.Keys.{same_key-decides}
+use Rattle.coap_types.specs.SameEndpoint.{same_endpoint}
 use Rattle.coap_block.proofs.Fields.PartialsSeen.{was_live}
 use Rattle.coap_block.proofs.Joining.OneForAKey.{none_forgotten, out_none, put_there, distinct_there}
+use Rattle.coap_block.proofs.Joining.OthersOfAPeer.{elsewhere_of}
 use Rattle.coap_block.proofs.Joining.BlocksOfHistory.{join_says, new_of, others_stay, holds}
 
 abbrev last_of : Option PartialBody → Option ℕ
@@ -130,6 +132,12 @@ after_any false s now key other b payload last d same was =
     ≡ true = (same_key-decides key other).1 (sym e) in absurd cc in
     after_other s now key other b payload last ne was
 
+-- of an endpoint that is forgotten nothing is there
+forgets : (b : Bool) (o : Option PartialBody) (at : ℕ) (last : Option ℕ) → last_of o ≡ if_recent at last
+    → last_of (if b then None else o) ≡ if_recent at (if b then None else last)
+forgets true o at last h = refl
+forgets false o at last h = h
+
 at_clock : (t : AssemblyTrace) (key : Key) → last_of (partial_of key (state_after t).partials)
     ≡ if_recent (state_after t).clock (last_taken key t)
 at_clock (Made sizes) key = refl
@@ -137,6 +145,10 @@ at_clock (Arrived earlier now k b payload) key =
     let d = (holds earlier).distinct in
     after_any (same_key k key) (state_after earlier) now k key b payload (last_taken key earlier) d refl
     (there_later (state_after earlier) now key (last_taken key earlier) d (at_clock earlier key))
+at_clock (Forgot earlier from) key =
+    ap last_of (elsewhere_of from key (state_after earlier).partials)
+    ∙ forgets (same_endpoint key.from from) (partial_of key (state_after earlier).partials) (state_after earlier).clock
+    (last_taken key earlier) (at_clock earlier key)
 
 within : (at last : ℕ) → nat_le (at - last) partial_lifetime ≡ true → at ≤ last + partial_lifetime
 within at last h = grind (arith, nat_tests)

@@ -1,6 +1,7 @@
 use Rattle.coap_block.proofs.Joining.BlocksOfHistory.{partials_by_history, few_partials, one_for_a_key, whole_by_blocks}
 use Rattle.coap_block.proofs.Joining.BlocksOfHistory.{none_left, others_stay}
 use Rattle.coap_block.proofs.Joining.ThereExactly.{joins_where_more, there_at_moment, there_by_history}
+use Rattle.coap_block.proofs.Joining.OthersOfAPeer.{forgetting_leaves, forgotten_has_none}
 use Rattle.coap_block.proofs.laws.assembly_law.Goals as goal
 
 pub returns-clause-partials : goal.returns-clause-partials
@@ -29,3 +30,9 @@ returns-clause-later c = there_at_moment
 
 pub returns-clause-joins : goal.returns-clause-joins
 returns-clause-joins c = joins_where_more
+
+pub returns-clause-forgets : goal.returns-clause-forgets
+returns-clause-forgets c = forgotten_has_none
+
+pub returns-clause-leaves : goal.returns-clause-leaves
+returns-clause-leaves c = forgetting_leaves
