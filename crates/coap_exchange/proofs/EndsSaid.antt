@@ -3,3 +3,5 @@ pub mod SaidOnce
 pub mod Unmatched
 pub mod SaidWhereItEnds
 pub mod HandsOrEnds
+pub mod OneForAPeer
+pub mod ResetFrees

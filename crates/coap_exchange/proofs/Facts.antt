@@ -16,3 +16,4 @@ pub mod Ending
 pub mod FirstOut
 pub mod LastStep
 pub mod StepsDue
+pub mod Peers

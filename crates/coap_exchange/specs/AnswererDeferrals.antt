@@ -1,11 +1,12 @@
 -- When a deferred request may have its response (RFC 7252, section 5.2.2).
 use Rattle.std.specs.Prelude.{◌≡◌, ◌≢◌, ◌≤◌, ◌⊎◌, ℕ, ◌+◌, max, true, false, Option, Some, None, List, [], ◌∷◌, length}
 use Rattle.coap_types.specs.Past.{Sometime, Always}
+use Rattle.coap_types.specs.declared.endpoint.Endpoint.{Endpoint}
 use Rattle.coap_layer.specs.Trace as L
 use Rattle.coap_exchange.specs.declared.answerer.Asked.{Asked}
 use Rattle.coap_exchange.specs.declared.answerer.Due.{Due}
 use Rattle.coap_exchange.specs.declared.answerer.Due.TheVariants as due
-use Rattle.coap_exchange.specs.AnswererTrace.{Response, Call, Defers, Ticks, Responds}
+use Rattle.coap_exchange.specs.AnswererTrace.{Response, Call, Defers, Ticks, Responds, Forgets}
 use Rattle.coap_exchange.specs.AnswererSteps.{is_waited_for}
 use Rattle.coap_exchange.specs.AnswererLaw.{own_of}
 
@@ -35,10 +36,20 @@ abbrev pub responds_later : Call → Option Asked
 responds_later (Responds now a r word id) = Some a
 responds_later _ = None
 
--- the request was deferred, had no separate response since, and its delay has passed at this moment
+-- the peer that is forgotten
+abbrev pub forgets : Call → Option Endpoint
+forgets (Forgets peer) = Some peer
+forgets _ = None
+
+-- it had no separate response in this call, and its endpoint was not forgotten
+abbrev pub StillWaits : Asked → Call → Type 0
+StillWaits a c = (responds_later c ≢ Some a) × (forgets c ≢ Some a.from)
+
+-- the request was deferred, had no separate response and was not forgotten since, and its delay has passed at this
+-- moment
 abbrev pub IsDue : Asked → ℕ → List Call → Type 0
 IsDue a at [] = ⊥
-IsDue a at (c ∷ past) = DefersUntil a at past c ⊎ ((responds_later c ≢ Some a) × IsDue a at past)
+IsDue a at (c ∷ past) = DefersUntil a at past c ⊎ (StillWaits a c × IsDue a at past)
 
 -- Where a request is due and no CON to its endpoint is outstanding, an idle tick that finds room says that one is
 -- ready.
@@ -55,7 +66,7 @@ ReadyWhenDue trace = Always IsReadied trace
 abbrev pub IsDueFrom : ℕ → Asked → ℕ → List Call → Type 0
 IsDueFrom n a at [] = ⊥
 IsDueFrom n a at (c ∷ past) =
-    (DefersUntil a at past c × (n ≡ length past)) ⊎ ((responds_later c ≢ Some a) × IsDueFrom n a at past)
+    (DefersUntil a at past c × (n ≡ length past)) ⊎ (StillWaits a c × IsDueFrom n a at past)
 
 -- The one that is ready was deferred no later than any that is due and to whose endpoint no CON is outstanding.
 pub record IsEarliest (past : List Call) (c : Call) : Type 0 where

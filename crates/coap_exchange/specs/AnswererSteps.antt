@@ -26,7 +26,7 @@ use Rattle.coap_exchange.specs.declared.deferrals.TheConstants.{MAX_DEFERRED as 
 use Rattle.coap_exchange.specs.declared.separate.Deferred.{Deferred}
 use Rattle.coap_exchange.specs.declared.separate.Separate.{Separate}
 use Rattle.coap_exchange.specs.AnswererTrace.{Response, Own, Call, Incoming, Answers, Defers, Ticks, Responds, Ready}
-use Rattle.coap_exchange.specs.AnswererTrace.{Notifies, NotifiesPlain, Take, Sending}
+use Rattle.coap_exchange.specs.AnswererTrace.{Notifies, NotifiesPlain, Take, Forgets, Sending}
 use Rattle.coap_exchange.specs.AskerRequests.{asked}
 use Rattle.coap_exchange.specs.AskerArrivals.{observe, id_in, replying}
 use Rattle.coap_exchange.specs.EmptyMessages.{ack_bytes, reset_bytes}
@@ -157,6 +157,10 @@ abbrev pub without_ready : ℕ → List Separate → List Deferred → List Defe
 without_ready at xs [] = []
 without_ready at xs (d ∷ ds) = if is_ready at xs d then ds else d ∷ without_ready at xs ds
 
+-- those of other peers, in order
+abbrev pub deferred_elsewhere : Endpoint → List Deferred → List Deferred
+deferred_elsewhere peer ds = filter (λ d. not (same_endpoint d.asked.from peer)) ds
+
 -- where the layer was idle
 abbrev pub ready_if : L.Answer → Option Deferred → Option Deferred
 ready_if L.Idle ready = ready
@@ -193,6 +197,7 @@ lower s (Ready now to answer) = asked now (L.Room to) (L.Is answer) ∷ []
 lower s (Notifies now to token r word id) = asked now (L.Confirm to (content_with token r) word) (L.Sent id) ∷ []
 lower s (NotifiesPlain now to token r id) = asked now (L.Plain to (content_with token r)) (L.Sent id) ∷ []
 lower s (Take answer) = asked 0 L.Take (L.Gives answer) ∷ []
+lower s (Forgets peer) = []
 
 -- what is answered; of an answer, a deferral and a response also the caller's condition: it is to the request that
 -- the last input handed up, or to the one that is ready; and of these and a notification: it is a response that can
@@ -208,6 +213,7 @@ IsRight s (Ready now to answer) = Unit {0}
 IsRight s (Notifies now to token r word id) = IsResponseWith token r
 IsRight s (NotifiesPlain now to token r id) = IsResponseWith token r
 IsRight s (Take answer) = Unit {0}
+IsRight s (Forgets peer) = Unit {0}
 
 abbrev pub after : Own → Call → Own
 after s (Incoming now from bytes up answer) =
@@ -245,3 +251,4 @@ after s (Notifies now to token r word id) =
     record s { clock = max s.clock now; pending = None; separate = s.separate ++ separate_of to id token r ∷ [] }
 after s (NotifiesPlain now to token r id) = record s { clock = max s.clock now; pending = None }
 after s (Take answer) = s
+after s (Forgets peer) = record s { deferred = deferred_elsewhere peer s.deferred }

@@ -38,7 +38,8 @@ start = record { clock = 0; pending = None; deferred = []; separate = []; ended 
 
 -- Each call has its arguments, what the message layer answered beneath it, and its answer. A datagram that arrives; the
 -- response to the request that came with it, and its deferral; time passes; the response to a deferred request; could a
--- notification be sent there; a notification, in a CON and in a NON; a datagram is taken to be sent.
+-- notification be sent there; a notification, in a CON and in a NON; a datagram is taken to be sent; the deferred
+-- requests of a peer that never comes again are let go.
 pub data Call : Type 0 where
   Incoming : (now : ℕ) (from : Endpoint) (bytes : List ℕ) (up : L.Answer) (answer : Option (Asked × Message)) → Call
   Answers : (asked : Asked) (response : Response) (below : L.Answer) → Call
@@ -49,3 +50,4 @@ pub data Call : Type 0 where
   Notifies : (now : ℕ) (to : Endpoint) (token : List ℕ) (response : Response) (word : ℕ) (answer : ℕ) → Call
   NotifiesPlain : (now : ℕ) (to : Endpoint) (token : List ℕ) (response : Response) (answer : ℕ) → Call
   Take : (answer : Option L.Packet) → Call
+  Forgets : (peer : Endpoint) → Call

@@ -1,4 +1,5 @@
 //! The server's side of the exchanges (RFC 7252, section 5).
+mod forgetting;
 mod load;
 mod moments;
 mod notifications;

@@ -5,7 +5,8 @@ ghost use Rattle.std.specs.Option.{option_map};
 ghost use Rattle.coap_types.specs.SameEndpoint.{same_endpoint};
 ghost use Rattle.coap_types.specs.declared.token.TheConstants.{MAX_TOKEN_LEN as max_token_len};
 ghost use Rattle.coap_types.specs.FirstMoment.{IsFirstMoment};
-ghost use Rattle.coap_exchange.specs.AnswererSteps.{max_deferred, deferred_with, first_ready, may_defer, without_ready};
+ghost use Rattle.coap_exchange.specs.AnswererSteps.{deferred_elsewhere, max_deferred, deferred_with, first_ready};
+ghost use Rattle.coap_exchange.specs.AnswererSteps.{may_defer, without_ready};
 ghost use Rattle.coap_exchange.specs.Machine.Listed.{listed};
 
 use crate::answerer::Asked;
@@ -45,6 +46,13 @@ fn refill(copies: &mut ArrayVec<Deferred, MAX_DEFERRED>, requests: &[Deferred])
     for request in requests {
         copies.push(request.copy());
     }
+}
+
+// The requests that came from elsewhere stay.
+fn retain_others(requests: &mut ArrayVec<Deferred, MAX_DEFERRED>, peer: Endpoint)
+    ensures { requests.new.items ≡ deferred_elsewhere peer requests.old.items }
+{
+    requests.retain(|request| request.asked.from != peer);
 }
 
 // The first that is ready.
@@ -146,6 +154,13 @@ impl Deferrals {
         if let Some(place) = ready_place(self.requests.as_slice(), at, separate) {
             let _ = self.requests.remove(place);
         }
+    }
+
+    /// Lets go of those that came from there.
+    pub(crate) fn forget(&mut self, peer: Endpoint)
+        ensures { self.new ≡ deferred_elsewhere peer self.old }
+    {
+        retain_others(&mut self.requests, peer);
     }
 
     /// Becomes the same requests as the others. It stays in its place, so that none of the 16 costs anything

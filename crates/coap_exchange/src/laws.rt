@@ -29,6 +29,7 @@ ghost use Rattle.coap_exchange.specs.AnswererDeferrals.{DeferredLongEnough, Read
 ghost use Rattle.coap_exchange.specs.AnswererFollows.{AreResponses, AreRequests, EndsOnce, WaitsForOutstanding};
 ghost use Rattle.coap_exchange.specs.AnswererFollows.{FewDeferred};
 ghost use Rattle.coap_exchange.specs.AnswererIds as ids_given;
+ghost use Rattle.coap_exchange.specs.Peers.{OneForAPeer};
 
 use coap_layer::layer_law;
 
@@ -151,6 +152,8 @@ pub fn answerer_law()
     ensures ready_alone { (setup : Setup) (t : List trace.Call) → ResponseLaw setup t → ReadyAlone setup t }
     // The Reset of what isn't outstanding is that of the last datagram (RFC 7641, section 3.6).
     ensures unmatched { (setup : Setup) (t : List trace.Call) → ResponseLaw setup t → UnmatchedTold t }
+    // Without the CON that is outstanding to an endpoint, none to it is (RFC 7252, section 4.7).
+    ensures one { (setup : Setup) (t : List trace.Call) → ResponseLaw setup t → OneForAPeer setup t }
     // At most 16 requests are deferred (profile).
     ensures few { (setup : Setup) (t : List trace.Call) → ResponseLaw setup t → FewDeferred t }
     // Each Message ID is given to the response to a request that came, or to a notification (RFC 7252, section 4.4) ..

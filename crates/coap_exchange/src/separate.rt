@@ -4,6 +4,7 @@ ghost use Rattle.std.specs.Option.{option_map};
 ghost use Rattle.coap_types.specs.FirstMoment.{IsFirstMoment};
 ghost use Rattle.coap_exchange.specs.AnswererSteps.{ended_as, found, goes_to, is_ready, is_waited_for};
 ghost use Rattle.coap_exchange.specs.Machine.Listed.{listed};
+ghost use Rattle.coap_exchange.specs.Peers.{outstanding_to};
 ghost use Rattle.coap_exchange.specs.Machine.Outstanding.{over};
 
 use crate::answerer::{Asked, Ended};
@@ -82,6 +83,18 @@ pub(crate) fn is_waited_for(list: &[Listed<Separate>], to: Endpoint) -> bool
         }
     }
     false
+}
+
+/// The Message ID of the first response to this endpoint that is not acknowledged yet.
+pub(crate) fn outstanding_to(list: &[Listed<Separate>], to: Endpoint) -> Option<Id>
+    ensures { result ≡ outstanding_to to (listed list.now) }
+{
+    for k in list {
+        if k.now && k.entry.to == to {
+            return Some(k.entry.id);
+        }
+    }
+    None
 }
 
 /// The response to this endpoint with this Message ID, as it is told that it ended.

@@ -8,8 +8,12 @@ use Rattle.coap_exchange.specs.declared.answerer.Asked.{Asked}
 use Rattle.coap_exchange.specs.declared.answerer.Due.TheVariants as due
 use Rattle.coap_exchange.specs.declared.separate.Deferred.{Deferred}
 use Rattle.coap_exchange.specs.declared.separate.Separate.{Separate}
-use Rattle.coap_exchange.specs.AnswererTrace.{Call, Defers, Ticks, Responds}
+use Rattle.coap_exchange.specs.AnswererTrace.{Call, Defers, Ticks, Responds, Forgets}
+use Rattle.coap_types.specs.declared.endpoint.Endpoint.{Endpoint}
+use Rattle.coap_types.specs.SameEndpoint.{same_endpoint}
+use Rattle.coap_types.proofs.Facts.Endpoints.{same_endpoint_is}
 use Rattle.coap_exchange.specs.AnswererSteps.{IsRight, is_waited_for, is_ready, first_ready, without_ready, ready_at}
+use Rattle.coap_exchange.specs.AnswererSteps.{deferred_elsewhere}
 use Rattle.coap_exchange.specs.AnswererLaw.{own_of, AnswererLaw}
 use Rattle.coap_exchange.specs.AnswererDeferrals.{moment, DefersUntil, IsDueFrom, IsEarliest, EarliestReady}
 use Rattle.coap_exchange.proofs.Deferring.LongEnough.{DefersAs, AllStand, passed_by, later_clock, long_so, ready_now}
@@ -79,6 +83,23 @@ module _ (n : ℕ) (a : Asked) (at : ℕ) where
     has_without [] is h = absurd h
     has_without (d ∷ ds) is h = has_by d ds (is_ready moment_is xs d) is (has_without ds) h.0 h.1
 
+  -- of another peer
+  module _ (t : List Call) (peer : Endpoint) (other : Some peer ≢ Some a.from) where
+    kept_by : (d : Deferred) (ds : List Deferred) (w : Bool) → same_endpoint d.asked.from peer ≡ w
+        → (Has t ds → Has t (deferred_elsewhere peer ds)) → NoLater n t d
+        → ((d.asked ≡ a) × (d.at.0 + d.delay ≤ at)) ⊎ Has t ds
+        → Has t (cond (not w) (d ∷ deferred_elsewhere peer ds) (deferred_elsewhere peer ds))
+    kept_by d ds true is ih k (inl h) =
+        let there : d.asked.from ≡ peer = same_endpoint_is d.asked.from peer is in
+        absurd (other (ap (λ p. Some p) (sym there ∙ ap (λ (x : Asked). x.from) h.0)))
+    kept_by d ds true is ih k (inr h) = ih h
+    kept_by d ds false is ih k (inl h) = (k, inl h)
+    kept_by d ds false is ih k (inr h) = (k, inr (ih h))
+
+    has_elsewhere : (ds : List Deferred) → Has t ds → Has t (deferred_elsewhere peer ds)
+    has_elsewhere [] h = absurd h
+    has_elsewhere (d ∷ ds) h = kept_by d ds (same_endpoint d.asked.from peer) refl (has_elsewhere ds) h.0 h.1
+
   abbrev Keeps : List Call → Type 0
   Keeps t = IsDueFrom n a at t → Has t (own_of t).deferred
 
@@ -111,13 +132,20 @@ module _ (n : ℕ) (a : Asked) (at : ℕ) where
       → IsRight (own_of t) (Responds now b r word id) → Keeps t → Keeps (Responds now b r word id ∷ t)
   responds_due now b r word id t right ih (inl h) = absurd (cc h.0.defers)
   responds_due now b r word id t right ih (inr h) =
-      has_without (Responds now b r word id ∷ t) (moment t now) (own_of t).separate b h.0 (own_of t).deferred right.0
+      has_without (Responds now b r word id ∷ t) (moment t now) (own_of t).separate b h.0.0 (own_of t).deferred right.0
       (has_later (Responds now b r word id) t (later_clock (own_of t).clock now) (own_of t).deferred (ih h.1))
+
+  forgets_due : (peer : Endpoint) (t : List Call) → Keeps t → Keeps (Forgets peer ∷ t)
+  forgets_due peer t ih (inl h) = absurd (cc h.0.defers)
+  forgets_due peer t ih (inr h) =
+      has_elsewhere (Forgets peer ∷ t) peer h.0.1 (own_of t).deferred
+      (has_later (Forgets peer) t (rises_at t (Forgets peer)) (own_of t).deferred (ih h.1))
 
   is_kept : (t : List Call) → AnswererLaw t → Keeps t
   is_kept [] law h = absurd h
   is_kept (Defers now b delay true ∷ t) law h = defers_due now b delay t (long_so t law.1).1 (is_kept t law.1) h
   is_kept (Responds now b r word id ∷ t) law h = responds_due now b r word id t law.0 (is_kept t law.1) h
+  is_kept (Forgets peer ∷ t) law h = forgets_due peer t (is_kept t law.1) h
   is_kept (c ∷ t) law h = quiet_due c t (rises_at t c) (λ n k e. cc e) (is_kept t law.1) h
 
   -- the first that is ready is that one or one before it

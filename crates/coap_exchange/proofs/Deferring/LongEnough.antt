@@ -11,12 +11,15 @@ use Rattle.coap_exchange.specs.declared.answerer.Due.{Due}
 use Rattle.coap_exchange.specs.declared.answerer.Due.TheVariants as due
 use Rattle.coap_exchange.specs.declared.separate.Deferred.{Deferred}
 use Rattle.coap_exchange.specs.declared.separate.Separate.{Separate}
-use Rattle.coap_exchange.specs.AnswererTrace.{Call, Defers, Ticks, Responds, Take}
+use Rattle.coap_exchange.specs.AnswererTrace.{Call, Defers, Ticks, Responds, Take, Forgets}
 use Rattle.coap_exchange.specs.AnswererSteps.{IsRight, is_waited_for, is_ready, first_ready, without_ready, due_of}
-use Rattle.coap_exchange.specs.AnswererSteps.{ready_at}
+use Rattle.coap_exchange.specs.AnswererSteps.{deferred_elsewhere, ready_at}
 use Rattle.coap_exchange.specs.AnswererLaw.{own_of, AnswererLaw}
 use Rattle.coap_exchange.specs.AnswererDeferrals.{moment, DefersUntil, LongEnough, DeferredLongEnough, IsDue, IsReadied}
 use Rattle.coap_exchange.specs.AnswererDeferrals.{ReadyWhenDue}
+use Rattle.coap_types.specs.declared.endpoint.Endpoint.{Endpoint}
+use Rattle.coap_types.specs.SameEndpoint.{same_endpoint}
+use Rattle.coap_types.proofs.Facts.Endpoints.{same_endpoint_is}
 use Rattle.coap_exchange.proofs.Calls.ServerTicks.{due_ready}
 use Rattle.std.proofs.lemmas.Bool.{and_parts}
 
@@ -43,6 +46,17 @@ stand_with : (t : List Call) (ds : List Deferred) (d : Deferred) → AllStand t 
     → AllStand t (ds ++ d ∷ [])
 stand_with t [] d h k = (k, tt)
 stand_with t (e ∷ ds) d h k = (h.0, stand_with t ds d h.1 k)
+
+module _ (t : List Call) (peer : Endpoint) where
+  stand_if : (d : Deferred) (ds : List Deferred) (w : Bool) → Stands t d → AllStand t ds
+      → AllStand t (cond w (d ∷ ds) ds)
+  stand_if d ds true h k = (h, k)
+  stand_if d ds false h k = k
+
+  stand_elsewhere : (ds : List Deferred) → AllStand t ds → AllStand t (deferred_elsewhere peer ds)
+  stand_elsewhere [] h = tt
+  stand_elsewhere (d ∷ ds) h = stand_if d (deferred_elsewhere peer ds) (not (same_endpoint d.asked.from peer)) h.0
+      (stand_elsewhere ds h.1)
 
 module _ (t : List Call) (at : ℕ) (xs : List Separate) where
   stand_by : (d : Deferred) (ds : List Deferred) (w : Bool) → AllStand t (d ∷ ds) → AllStand t (without_ready at xs ds)
@@ -119,6 +133,27 @@ module _ (a : Asked) (at : ℕ) where
     has_without [] is h = absurd h
     has_without (d ∷ ds) is h = has_by d ds (is_ready when xs d) is (has_without ds) h
 
+  -- of another peer
+  module _ (peer : Endpoint) (other : Some peer ≢ Some a.from) where
+    kept_by : (d : Deferred) (ds : List Deferred) (w : Bool) → same_endpoint d.asked.from peer ≡ w
+        → (Has a at ds → Has a at (deferred_elsewhere peer ds)) → Has a at (d ∷ ds)
+        → Has a at (cond (not w) (d ∷ deferred_elsewhere peer ds) (deferred_elsewhere peer ds))
+    kept_by d ds true is ih (inl h) =
+        let there : d.asked.from ≡ peer = same_endpoint_is d.asked.from peer is in
+        absurd (other (ap (λ p. Some p) (sym there ∙ ap (λ (x : Asked). x.from) h.0)))
+    kept_by d ds true is ih (inr h) = ih h
+    kept_by d ds false is ih (inl h) = inl h
+    kept_by d ds false is ih (inr h) = inr (ih h)
+
+    has_elsewhere : (ds : List Deferred) → Has a at ds → Has a at (deferred_elsewhere peer ds)
+    has_elsewhere [] h = absurd h
+    has_elsewhere (d ∷ ds) h = kept_by d ds (same_endpoint d.asked.from peer) refl (has_elsewhere ds) h
+
+  forgets_due : (peer : Endpoint) (t : List Call) → (IsDue a at t → Has a at (own_of t).deferred)
+      → IsDue a at (Forgets peer ∷ t) → Has a at (deferred_elsewhere peer (own_of t).deferred)
+  forgets_due peer t ih (inl h) = absurd (cc h.defers)
+  forgets_due peer t ih (inr h) = has_elsewhere peer h.0.1 (own_of t).deferred (ih h.1)
+
   quiet_due : (c : Call) (t : List Call) → ((now delay : ℕ) → c ≡ Defers now a delay true → ⊥)
       → (IsDue a at t → Has a at (own_of t).deferred) → IsDue a at (c ∷ t) → Has a at (own_of t).deferred
   quiet_due c t n ih (inl h) = absurd (n h.now h.delay h.defers)
@@ -144,12 +179,13 @@ module _ (a : Asked) (at : ℕ) where
       → Has a at (own_of (Responds now b r word id ∷ t)).deferred
   responds_due now b r word id t right ih (inl h) = absurd (cc h.defers)
   responds_due now b r word id t right ih (inr h) =
-      has_without (moment t now) (own_of t).separate b h.0 (own_of t).deferred right.0 (ih h.1)
+      has_without (moment t now) (own_of t).separate b h.0.0 (own_of t).deferred right.0 (ih h.1)
 
   is_kept : (t : List Call) → AnswererLaw t → IsDue a at t → Has a at (own_of t).deferred
   is_kept [] law h = absurd h
   is_kept (Defers now b delay true ∷ t) law h = defers_due now b delay t (is_kept t law.1) h
   is_kept (Responds now b r word id ∷ t) law h = responds_due now b r word id t law.0 (is_kept t law.1) h
+  is_kept (Forgets peer ∷ t) law h = forgets_due peer t (is_kept t law.1) h
   is_kept (c ∷ t) law h = quiet_due c t (λ n k e. cc e) (is_kept t law.1) h
 
   -- .. and one is ready
@@ -237,6 +273,10 @@ module _ (t : List Call) (stand : AllStand t (own_of t).deferred) where
     responds_on now b r word id right,
     stand_without (Responds now b r word id ∷ t) (moment t now) (own_of t).separate (own_of t).deferred
         (timed (Responds now b r word id) (later_clock (own_of t).clock now)),
+  )
+  on (Forgets peer) right = (
+    no_ready t _ (λ n b r a e. cc e) (λ n a r w i e. cc e),
+    stand_elsewhere (Forgets peer ∷ t) peer (own_of t).deferred (timed (Forgets peer) (rises_at t (Forgets peer))),
   )
   on c right = (no_ready t c (λ n b r a e. cc e) (λ n a r w i e. cc e), timed c (rises_at t c))
 

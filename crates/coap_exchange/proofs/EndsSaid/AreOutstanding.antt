@@ -17,7 +17,7 @@ use Rattle.coap_exchange.specs.declared.separate.Deferred.{Deferred}
 use Rattle.coap_exchange.specs.declared.separate.Separate.{Separate}
 use Rattle.coap_exchange.specs.AnswererTrace.{Response, Own, Call, Incoming, Answers, Defers, Ticks, Responds, Ready}
 use Rattle.coap_exchange.specs.AnswererTrace.{Notifies, Take}
-use Rattle.coap_exchange.specs.AnswererTrace.{NotifiesPlain}
+use Rattle.coap_exchange.specs.AnswererTrace.{NotifiesPlain, Forgets}
 use Rattle.coap_exchange.specs.AnswererSteps.{lower, after, goes_to, without_separate, separate_after, separate_unless}
 use Rattle.coap_exchange.specs.AnswererSteps.{is_waited_for, content_of, content_with, answering, deferring, may_defer}
 use Rattle.coap_exchange.specs.AnswererSteps.{asking_room, ready_if, ready_at, reject_by}
@@ -228,6 +228,7 @@ mirrors setup (NotifiesPlain now to token r id ∷ t) h steps =
     (λ at. refl) (mirrors setup t steps.0 steps.1)
 mirrors setup (Take answer ∷ t) h steps = still steps.0 h 0 T.Take (T.Gives answer) (own_of t).separate steps.2
     (λ at out c. refl) (λ at. refl) (mirrors setup t steps.0 steps.1)
+mirrors setup (Forgets peer ∷ t) h steps = mirrors setup t h steps
 
 pub waits : (setup : Setup) (t : List Call) (law : ResponseLaw setup t) → WaitsForOutstanding setup t law
 waits setup t law to = busy_mirrors to (own_of t).separate law.left.open_cons (mirrors setup t law.left law.layer)

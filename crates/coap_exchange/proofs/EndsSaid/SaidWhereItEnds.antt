@@ -69,13 +69,13 @@ module _ (at : ℕ) (to : Endpoint) (id : ℕ) where
 
 -- each separate response and notification that is outstanding is the last that was sent to its endpoint
 
-abbrev con_of : Separate → Sending
+abbrev pub con_of : Separate → Sending
 con_of x = record { to = x.to; id = x.id.0 }
 
-abbrev Last : List Call → Sending → Ended → Type 0
+abbrev pub Last : List Call → Sending → Ended → Type 0
 Last t con e = Since (SentIn con e) (λ b. begins b ≢ Some con.to) t
 
-abbrev AllLast : List Call → List Separate → Type 0
+abbrev pub AllLast : List Call → List Separate → Type 0
 AllLast t [] = Unit {0}
 AllLast t (x ∷ xs) = Last t (con_of x) (ended_as x) × AllLast t xs
 
@@ -227,7 +227,7 @@ module _ (setup : Setup) (t : List Call) (rows : AnswererLaw t) (last : AllLast 
       )
   on c h steps = (refl, still_last c refl t xs last)
 
-told_so : (setup : Setup) (t : List Call) → AnswererLaw t → (h : L.State) → Steps (L.start setup) (lower_of t) h
+pub told_so : (setup : Setup) (t : List Call) → AnswererLaw t → (h : L.State) → Steps (L.start setup) (lower_of t) h
     → EndsTold t × AllLast t (own_of t).separate
 told_so setup [] rows h steps = (tt, tt)
 told_so setup (c ∷ t) rows h steps =

@@ -21,7 +21,7 @@ use Rattle.coap_exchange.specs.declared.answerer.Asked.{Asked}
 use Rattle.coap_exchange.specs.declared.separate.Deferred.{Deferred}
 use Rattle.coap_exchange.specs.declared.separate.Separate.{Separate}
 use Rattle.coap_exchange.specs.AnswererTrace.{Response, Own, Call, Incoming, Answers, Defers, Ticks, Responds, Ready}
-use Rattle.coap_exchange.specs.AnswererTrace.{Notifies, NotifiesPlain, Take}
+use Rattle.coap_exchange.specs.AnswererTrace.{Notifies, NotifiesPlain, Take, Forgets}
 use Rattle.coap_exchange.specs.AnswererSteps.{lower, IsRight, after, answering, deferring, may_defer, asking_room}
 use Rattle.coap_exchange.specs.AnswererSteps.{ready_if, ready_at, reject_by, handed_up, first_ready, without_ready}
 use Rattle.coap_exchange.specs.AnswererSteps.{is_ready, content_of, content_with}
@@ -32,7 +32,7 @@ use Rattle.coap_exchange.specs.AskerRequests.{asked}
 use Rattle.coap_exchange.proofs.Ids.CountsOfFew.{since_one}
 use Rattle.coap_exchange.proofs.Ids.FewGive.{came_grows, came_one, at_most_one, gives_none, none_issued, tick_none}
 use Rattle.coap_exchange.proofs.Leading.ServerLeads.{layer_stands}
-use Rattle.coap_exchange.proofs.Responding.OneResponse.{counted}
+use Rattle.coap_exchange.proofs.Responding.OneResponse.{counted, fewer_elsewhere}
 use Rattle.coap_exchange.proofs.Responding.OneResponse.{length_with as longer_by_one}
 
 -- how many wait for their responses
@@ -121,6 +121,7 @@ module _ (setup : Setup) where
     clock_next (Notifies now to token r w id) = later now
     clock_next (NotifiesPlain now to token r id) = later now
     clock_next (Take answer) = before
+    clock_next (Forgets peer) = sym (reached_clock (lower_of t)) ∙ before
 
   pub clock_is : (t : List Call) → clock (below_of setup t) ≡ (own_of t).clock
   clock_is [] = refl
@@ -269,6 +270,7 @@ module _ (setup : Setup) where
         (subst (λ n. u ≤ n) (clock_is (Notifies now to token r w id ∷ t)) late)
     on (NotifiesPlain now to token r id) right h steps late =
         plain_on now to token r id (subst (λ n. u ≤ n) (clock_is (NotifiesPlain now to token r id ∷ t)) late)
+    on (Forgets peer) right h steps late = let l = fewer_elsewhere peer s.deferred in omega (arith, old, l)
     on _ right h steps late = old
 
   pending_few : (o : Option Asked) → pending_in o ≤ 1

@@ -1,10 +1,11 @@
 -- A request that is handed up has at most one response, and at most 16 are deferred.
 use Rattle.std.proofs.Common.{◌≡◌, ◌≤◌, ◌<◌, inl, inr, ℕ, ◌+◌, max, Bool, true, false, Some, None, List, [], ◌∷◌, ◌++◌}
-use Rattle.std.proofs.Common.{length, refl, ap, sym, subst, ◌∙◌, cond, arith, ◌&&◌}
+use Rattle.std.proofs.Common.{length, refl, ap, sym, subst, ◌∙◌, cond, arith, ◌&&◌, not}
 use Rattle.std.specs.Option.{option_map}
 use Rattle.std.specs.Cmp.{unsigned_Decides}
 use Rattle.coap_types.specs.Past.{Ever}
 use Rattle.coap_types.specs.declared.endpoint.Endpoint.{Endpoint}
+use Rattle.coap_types.specs.SameEndpoint.{same_endpoint}
 use Rattle.coap_types.proofs.Facts.Endpoints.{same_endpoint_self}
 use Rattle.coap_codec.specs.Message.{kind_number}
 use Rattle.std.proofs.lemmas.Bool.{ltb-true}
@@ -12,9 +13,9 @@ use Rattle.coap_exchange.specs.declared.answerer.Asked.{Asked}
 use Rattle.coap_exchange.specs.declared.separate.Deferred.{Deferred}
 use Rattle.coap_exchange.specs.declared.separate.Separate.{Separate}
 use Rattle.coap_exchange.specs.AnswererTrace.{Own, Call, Incoming, Answers, Defers, Responds, Ready}
-use Rattle.coap_exchange.specs.AnswererTrace.{Take}
+use Rattle.coap_exchange.specs.AnswererTrace.{Take, Forgets}
 use Rattle.coap_exchange.specs.AnswererSteps.{IsRight, after, may_defer, is_ready, first_ready, without_ready}
-use Rattle.coap_exchange.specs.AnswererSteps.{max_deferred}
+use Rattle.coap_exchange.specs.AnswererSteps.{deferred_elsewhere, max_deferred}
 use Rattle.coap_exchange.specs.AnswererLaw.{own_of, AnswererLaw}
 use Rattle.coap_exchange.specs.AnswererFollows.{hands, responds, hits, same_asked, times_handed, times_answered}
 use Rattle.coap_exchange.specs.AnswererFollows.{Responses, AreResponses}
@@ -108,6 +109,38 @@ length_by false d ds es h = omega (arith, h)
 length_without : (at : ℕ) (xs : List Separate) (ds : List Deferred) → length (without_ready at xs ds) ≤ length ds
 length_without at xs [] = omega arith
 length_without at xs (d ∷ ds) = length_by (is_ready at xs d) d ds (without_ready at xs ds) (length_without at xs ds)
+
+-- those of other peers
+module _ (peer : Endpoint) where
+  fewer_hits_by : (a : Asked) (d : Deferred) (ds es : List Deferred) (w : Bool)
+      → deferred_hits a es ≤ deferred_hits a ds → deferred_hits a (cond w (d ∷ es) es) ≤ deferred_hits a (d ∷ ds)
+  fewer_hits_by a d ds es true h = omega (arith, h)
+  fewer_hits_by a d ds es false h = omega (arith, h)
+
+  fewer_hits : (a : Asked) (ds : List Deferred) → deferred_hits a (deferred_elsewhere peer ds) ≤ deferred_hits a ds
+  fewer_hits a [] = omega arith
+  fewer_hits a (d ∷ ds) = fewer_hits_by a d ds (deferred_elsewhere peer ds) (not (same_endpoint d.asked.from peer))
+      (fewer_hits a ds)
+
+  fewer_by : (d : Deferred) (ds es : List Deferred) (w : Bool) → length es ≤ length ds
+      → length (cond w (d ∷ es) es) ≤ length (d ∷ ds)
+  fewer_by d ds es true h = omega (arith, h)
+  fewer_by d ds es false h = omega (arith, h)
+
+  pub fewer_elsewhere : (ds : List Deferred) → length (deferred_elsewhere peer ds) ≤ length ds
+  fewer_elsewhere [] = omega arith
+  fewer_elsewhere (d ∷ ds) = fewer_by d ds (deferred_elsewhere peer ds) (not (same_endpoint d.asked.from peer))
+      (fewer_elsewhere ds)
+
+  handed_by : (t : List Call) (d : Deferred) (es : List Deferred) (w : Bool) → Handed t d.asked → AllHanded t es
+      → AllHanded t (cond w (d ∷ es) es)
+  handed_by t d es true h k = (h, k)
+  handed_by t d es false h k = k
+
+  all_elsewhere : (t : List Call) (ds : List Deferred) → AllHanded t ds → AllHanded t (deferred_elsewhere peer ds)
+  all_elsewhere t [] h = tt
+  all_elsewhere t (d ∷ ds) h = handed_by t d (deferred_elsewhere peer ds) (not (same_endpoint d.asked.from peer)) h.0
+      (all_elsewhere t ds h.1)
 
 -- what the words find
 pub record Counted (t : List Call) (s : Own) : Type 0 where
@@ -203,6 +236,15 @@ module _ (t : List Call) (s : Own) (known : Counted t s) where
         },
       )
 
+  forgets_on : (peer : Endpoint) → Counted (Forgets peer ∷ t) (after s (Forgets peer))
+  forgets_on peer = record {
+    count = λ a. let k = known.count a in let l = fewer_hits peer a s.deferred in omega (arith, k, l);
+    pending = λ a h. inr (known.pending a h);
+    deferred = all_later (Forgets peer) t (deferred_elsewhere peer s.deferred)
+        (all_elsewhere peer t s.deferred known.deferred);
+    few = let l = fewer_elsewhere peer s.deferred in let f = known.few in omega (arith, l, f);
+  }
+
   on : (c : Call) → IsRight s c → Responses t c × Counted (c ∷ t) (after s c)
   on (Incoming now from bytes up answer) right = (quiet _ refl, incoming_on now from bytes up answer)
   on (Answers b r below) right = answers_on b r below right.0
@@ -226,6 +268,7 @@ module _ (t : List Call) (s : Own) (known : Counted t s) where
       few = known.few;
     },
   )
+  on (Forgets peer) right = (quiet _ refl, forgets_on peer)
   on c right = (
     quiet c refl,
     record {

@@ -14,6 +14,7 @@ use Rattle.coap_exchange.proofs.Ids.ServerIds.{ids_counted}
 use Rattle.coap_exchange.proofs.Ids.ServerIsFree.{id_is_free}
 use Rattle.coap_exchange.specs.AnswererLaw.{below_of}
 use Rattle.coap_exchange.proofs.Responding.GoesBack.{ready_alone, sends_so}
+use Rattle.coap_exchange.proofs.EndsSaid.OneForAPeer.{one_for_a_peer}
 use Rattle.coap_exchange.proofs.laws.answerer_law.Goals as goal
 
 pub returns-clause-start : goal.returns-clause-start
@@ -85,3 +86,6 @@ returns-clause-ids c setup t law = ids_counted setup t law
 pub returns-clause-id_free : goal.returns-clause-id_free
 returns-clause-id_free c setup t law = id_is_free setup t law
     (c.layer_law.ensures.held setup (below_of setup t) (layer_stands setup t law))
+
+pub returns-clause-one : goal.returns-clause-one
+returns-clause-one c = one_for_a_peer
