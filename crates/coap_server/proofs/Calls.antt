@@ -12,3 +12,4 @@ pub mod TurnSteps
 pub mod WaitingLists
 pub mod WorkFalls
 pub mod WaitingPeers
+pub mod PeerIsForgotten

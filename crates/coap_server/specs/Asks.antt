@@ -8,7 +8,7 @@ use Rattle.coap_exchange.specs.declared.answerer.Due.TheVariants as due
 use Rattle.coap_exchange.specs.AnswererTrace as E
 use Rattle.coap_server.specs.Trace.{Own, Handling, Replies, Serves, Waits, Notifies, Call, Sets}
 use Rattle.coap_server.specs.Trace.{Removes}
-use Rattle.coap_server.specs.Trace.{Delays, Plains, Feeds, Refuses, Ticks, NextOut, Gets, TellsApplied}
+use Rattle.coap_server.specs.Trace.{Delays, Plains, Feeds, Refuses, Ticks, NextOut, Gets, TellsApplied, Forgets}
 use Rattle.coap_server.specs.Refusing.{refusing}
 use Rattle.coap_server.specs.Serving.{response_to}
 use Rattle.coap_server.specs.Deferring.{deferral}
@@ -54,3 +54,4 @@ lower s (Ticks now word below room d passed h id answer) =
 lower s (NextOut answer) = E.Take answer ∷ []
 lower s (Gets path answer) = []
 lower s (TellsApplied answer) = []
+lower s (Forgets peer) = E.Forgets peer ∷ []

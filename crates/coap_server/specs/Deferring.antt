@@ -3,6 +3,8 @@
 use Rattle.std.specs.Prelude.{◌≡◌, ℕ, ◌-◌, nat_lt, nat_le, Bool, true, false, ◌&&◌, not, Option, Some, None, List, []}
 use Rattle.std.specs.Prelude.{◌∷◌, ◌++◌, length, filter, if◌then◌else◌}
 use Rattle.coap_types.specs.Path.{same_path}
+use Rattle.coap_types.specs.SameEndpoint.{same_endpoint}
+use Rattle.coap_types.specs.declared.endpoint.Endpoint.{Endpoint}
 use Rattle.coap_types.specs.declared.message.Kind.{Kind}
 use Rattle.coap_types.specs.declared.message.Kind.TheVariants.{Con}
 use Rattle.coap_resource.specs.Content.{Content}
@@ -68,6 +70,10 @@ question_of at a (w ∷ ws) = if is_of at a w then Some w.question else question
 abbrev pub without_waiting : ℕ → Asked → List Waiting → List Waiting
 without_waiting at a [] = []
 without_waiting at a (w ∷ ws) = if is_of at a w then ws else w ∷ without_waiting at a ws
+
+-- what waits of other peers, in order
+abbrev pub waiting_elsewhere : Endpoint → List Waiting → List Waiting
+waiting_elsewhere peer ws = filter (λ w. not (same_endpoint w.asked.from peer)) ws
 
 abbrev pub AnswersWaiting : Option Question → Content → ℕ → Handling → Type 0
 AnswersWaiting None old at h = h ≡ Silent

@@ -21,3 +21,4 @@ pub mod Turns
 pub mod RefusalNumbers
 pub mod Load
 pub mod Peers
+pub mod Forgetting

@@ -2,8 +2,9 @@
 -- 7959, section 2).
 use Rattle.std.specs.Prelude.{◌≡◌, ℕ, max, Option, Some, None, List, [], ◌∷◌, length}
 use Rattle.coap_codec.specs.Message.{Message}
-use Rattle.coap_block.specs.AssemblyState.{AssemblyState}
-use Rattle.coap_observe.specs.Observers.{Observer}
+use Rattle.coap_types.specs.declared.endpoint.Endpoint.{Endpoint}
+use Rattle.coap_block.specs.AssemblyState.{AssemblyState, without_peer}
+use Rattle.coap_observe.specs.Observers.{Observer, elsewhere}
 use Rattle.coap_resource.specs.Content.{Content, put_refusal}
 use Rattle.coap_resource.specs.Rate.{rate_refusal}
 use Rattle.coap_exchange.specs.declared.answerer.Asked.{Asked}
@@ -15,12 +16,13 @@ use Rattle.coap_exchange.specs.AnswererSteps as P
 use Rattle.coap_exchange.specs.AnswererTrace as E
 use Rattle.coap_server.specs.Trace.{Waiting, Applied, Own, Handling, Serves, Notifies, Call, Sets}
 use Rattle.coap_server.specs.Trace.{Removes, Delays, Plains, Feeds, Refuses, Ticks, NextOut, Gets, TellsApplied}
+use Rattle.coap_server.specs.Trace.{Forgets}
 use Rattle.coap_server.specs.Checks.{verdict_on}
 use Rattle.coap_server.specs.Refusing.{IsRefused, refusing}
 use Rattle.coap_server.specs.Uploads.{uploads_after}
 use Rattle.coap_server.specs.Observers.{marked_if}
 use Rattle.coap_server.specs.Serving.{observers_served, applied_by}
-use Rattle.coap_server.specs.Deferring.{may_delay, delays_with, waiting_with, without_waiting}
+use Rattle.coap_server.specs.Deferring.{may_delay, delays_with, waiting_elsewhere, waiting_with, without_waiting}
 use Rattle.coap_server.specs.Notifying.{notified}
 use Rattle.coap_server.specs.Plain.{by_plain, may_be_plain, plains_with}
 use Rattle.coap_server.specs.Local.{SetsBy, RemovesBy}
@@ -45,6 +47,7 @@ IsRight s (Ticks now word below room d passed h id answer) =
 IsRight s (NextOut answer) = Unit {0}
 IsRight s (Gets path answer) = answer ≡ s.store.holds path
 IsRight s (TellsApplied answer) = answer ≡ s.applied
+IsRight s (Forgets peer) = Unit {0}
 
 -- what is left of each part, by the request that is served, and whose it is
 
@@ -119,6 +122,16 @@ refused_after s now first asks =
       applied = [];
     }
 
+-- a peer that never comes again leaves what is of others
+abbrev pub forgotten_after : Own → Endpoint → List E.Call → Own
+forgotten_after s peer asks =
+    record s {
+      exchanges = exchanges_after s.exchanges asks;
+      uploads = without_peer peer s.uploads;
+      observers = elsewhere peer s.observers;
+      waiting = waiting_elsewhere peer s.waiting;
+    }
+
 abbrev pub after : Own → Call → Own
 after s (Sets now path format body answer left) =
     record s {
@@ -147,3 +160,4 @@ after s (Ticks now word below room d passed h id answer) =
 after s (NextOut answer) = record s { exchanges = exchanges_after s.exchanges (E.Take answer ∷ []) }
 after s (Gets path answer) = s
 after s (TellsApplied answer) = s
+after s (Forgets peer) = forgotten_after s peer (E.Forgets peer ∷ [])

@@ -4,6 +4,7 @@ mod deferral;
 mod delays;
 mod due;
 mod feed;
+mod forgetting;
 mod full_response;
 mod handling;
 mod load;

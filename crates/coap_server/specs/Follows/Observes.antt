@@ -17,7 +17,7 @@ use Rattle.coap_server.specs.Handling.{heard, ticking}
 use Rattle.coap_server.specs.Observers.{observes}
 use Rattle.coap_server.specs.Plain.{by_plain}
 use Rattle.coap_server.specs.Law.{own_of}
-use Rattle.coap_server.specs.Follows.Serves.{Serving, serving}
+use Rattle.coap_server.specs.Follows.Serves.{Serving, forgets, serving}
 use Rattle.coap_server.specs.Follows.Tells.{registering}
 
 -- the separate response or notification that a call says to have ended, by a Reset or since it was given up
@@ -99,7 +99,7 @@ module _ (limits : Limits) (szx : ℕ) where
   EndsOnNotice t = Always (λ past c. (x : Notice) → notice c ≡ Some x → EndsWith past c x) t
 
   -- The observation of this endpoint and token ends in this call: by what is told to have ended, a Reset of its last
-  -- NON, a GET with Observe 1, or a notification.
+  -- NON, a GET with Observe 1, or a notification; or its endpoint is forgotten.
   pub data Ends (to : Endpoint) (token : List ℕ) (past : List Call) (c : Call) : Type 0 where
     is_told : (x : Ended) → ends_in (own_of limits szx past) c ≡ Some x → x.observe ≡ true → x.to ≡ to → x.token ≡ token
         → Ends to token past c
@@ -111,6 +111,7 @@ module _ (limits : Limits) (szx : ℕ) where
         → x.asked.from ≡ to → x.asked.token ≡ token → Ends to token past c
     is_gone : (x : Notice) → notice c ≡ Some x → x.reply.code ≢ content → x.observer.to ≡ to → x.observer.token ≡ token
         → Ends to token past c
+    is_forgotten : forgets c ≡ Some to → Ends to token past c
 
   -- Nothing else ends it.
   abbrev pub EndsSo : List Call → Type 0

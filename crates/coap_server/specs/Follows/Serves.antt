@@ -1,6 +1,7 @@
 -- Which requests a server hands up and serves (RFC 7252, sections 4.5 and 5.2).
 use Rattle.std.specs.Prelude.{◌≡◌, ◌<◌, ℕ, ◌+◌, Option, Some, None, List, [], ◌∷◌}
 use Rattle.coap_types.specs.Past.{Always}
+use Rattle.coap_types.specs.declared.endpoint.Endpoint.{Endpoint}
 use Rattle.coap_codec.specs.Message.{Message}
 use Rattle.coap_resource.specs.Content.{Content}
 use Rattle.coap_resource.specs.Serves.{Question, Reply}
@@ -9,7 +10,7 @@ use Rattle.coap_exchange.specs.declared.answerer.Asked.{Asked}
 use Rattle.coap_exchange.specs.declared.answerer.Due.TheVariants as due
 use Rattle.coap_exchange.specs.AnswererFollows.{hits, same_asked}
 use Rattle.coap_exchange.specs.AnswererSteps.{asked_in}
-use Rattle.coap_server.specs.Trace.{Own, Serves, Call, Feeds, Refuses, Ticks}
+use Rattle.coap_server.specs.Trace.{Own, Serves, Call, Feeds, Refuses, Ticks, Forgets}
 use Rattle.coap_server.specs.Observers.{registers, sequence_if}
 use Rattle.coap_server.specs.Handling.{incoming, ticking, heard}
 use Rattle.coap_server.specs.Law.{own_of}
@@ -24,6 +25,11 @@ hands _ = None
 abbrev pub refuses : Call → Option (Asked × Message)
 refuses (Refuses now from bytes word code up p response below) = Some p
 refuses _ = None
+
+-- the peer that a call forgets
+abbrev pub forgets : Call → Option Endpoint
+forgets (Forgets peer) = Some peer
+forgets _ = None
 
 -- a request that the store serves: of which request, what is asked and answered, what the store held and what it is
 -- left, and the number that Observe says in the response

@@ -10,7 +10,7 @@ use Rattle.coap_exchange.specs.AnswererLaw as E
 use Rattle.coap_server.specs.Trace.{Waiting, Call, Ticks}
 use Rattle.coap_server.specs.Law.{own_of, lower_of}
 use Rattle.coap_server.specs.Follows.Attended.{AnswersIt}
-use Rattle.coap_server.specs.Follows.Serves.{Serving, serving}
+use Rattle.coap_server.specs.Follows.Serves.{Serving, forgets, serving}
 
 abbrev pub deferred_as : Waiting → Deferred
 deferred_as w = record { asked = w.asked; at = record { 0 = w.at }; delay = w.delay }
@@ -34,7 +34,7 @@ module _ (limits : Limits) (szx : ℕ) where
   abbrev pub WaitsStill : Waiting → List Call → Type 0
   WaitsStill x t = Ever (λ y. y ≡ x) (own_of limits szx t).waiting
 
-  -- What waits goes on waiting until a call sends its response.
+  -- What waits goes on waiting until a call sends its response, or forgets its peer.
   abbrev pub WaitOn : List Call → Type 0
   WaitOn t = Always (λ past c. (x : Waiting) → WaitsStill x past
-      → WaitsStill x (c ∷ past) ⊎ AnswersIt limits szx past c x.asked) t
+      → WaitsStill x (c ∷ past) ⊎ (AnswersIt limits szx past c x.asked ⊎ (forgets c ≡ Some x.asked.from))) t

@@ -1,6 +1,8 @@
 -- What contracts see of a server (RFC 7252, section 5).
-use Rattle.std.specs.Prelude.{ℕ, ◌≤◌, Option, Some, None, List, [], ◌∷◌, map}
+use Rattle.std.specs.Prelude.{ℕ, ◌≤◌, not, Option, Some, None, List, [], ◌∷◌, filter, map}
 use Rattle.coap_types.specs.CoapOption.{CoapOption}
+use Rattle.coap_types.specs.SameEndpoint.{same_endpoint}
+use Rattle.coap_types.specs.declared.endpoint.Endpoint.{Endpoint}
 use Rattle.coap_block.specs.AssemblyState.{AssemblyState}
 use Rattle.coap_observe.specs.Observers.{Roll}
 use Rattle.coap_resource.specs.Content.{Content}
@@ -32,6 +34,10 @@ waiting_as szx w = record {
     szx = szx;
   };
 }
+
+-- the requests of other peers that wait
+abbrev pub waiting_of_others : {A : Type 0} → Endpoint → List (Waiting A) → List (Waiting A)
+waiting_of_others {A} peer ws = filter (λ (w : Waiting A). not (same_endpoint w.asked.from peer)) ws
 
 abbrev pub applied_as : {A : Type 0} → Applied A → T.Applied
 applied_as x = record { from = x.from; token = x.token; path = x.path; method = x.method; version = x.version }

@@ -26,8 +26,8 @@ fn one_of(first: bool, second: bool, third: bool, fourth: bool) -> bool
     first || second || third || fourth
 }
 
-// Whether the parts of a server have something of a peer.
-fn know<S: Store<A>, A: Allocator + Copy, H: BuildHasher>(
+/// Whether the parts of a server have something of a peer.
+pub(crate) fn know<S: Store<A>, A: Allocator + Copy, H: BuildHasher>(
     parts: &Parts<S, A, H>,
     now: Moment,
     peer: Endpoint,

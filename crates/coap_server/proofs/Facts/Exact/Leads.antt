@@ -10,7 +10,7 @@ use Rattle.coap_exchange.specs.AnswererTrace as E
 use Rattle.coap_exchange.specs.AnswererLaw as X
 use Rattle.coap_exchange.specs.AnswererSteps as P
 use Rattle.coap_exchange.proofs.Facts.ServerSide.{led_start, led_exchanged, led_law}
-use Rattle.coap_server.specs.Trace.{Own, Call, Feeds, Refuses, Ticks, NextOut}
+use Rattle.coap_server.specs.Trace.{Own, Call, Feeds, Refuses, Ticks, NextOut, Forgets}
 use Rattle.coap_server.specs.Handling.{incoming, ticking, heard}
 use Rattle.coap_server.specs.Asks.{answering, responding, lower}
 use Rattle.coap_server.specs.Refusing.{refusing}
@@ -47,6 +47,7 @@ exchanges_kept limits szx (Ticks now word below room d passed h id answer ∷ t)
     kept_behind s.exchanges first (responding (heard s now first) d passed h word id) (lower_of limits szx t)
     (exchanges_kept limits szx t)
 exchanges_kept limits szx (NextOut answer ∷ t) = ap (λ s. P.after s (E.Take answer)) (exchanges_kept limits szx t)
+exchanges_kept limits szx (Forgets peer ∷ t) = ap (λ s. P.after s (E.Forgets peer)) (exchanges_kept limits szx t)
 exchanges_kept limits szx (_ ∷ t) = exchanges_kept limits szx t
 
 module _ (limits : Limits) (szx : ℕ) (setup : Setup) where

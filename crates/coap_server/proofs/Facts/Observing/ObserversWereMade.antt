@@ -10,8 +10,10 @@ use Rattle.coap_codec.specs.Message.{Message}
 use Rattle.coap_layer.specs.Trace as L
 use Rattle.coap_block.specs.Whole.{Each}
 use Rattle.coap_observe.specs.Observers.{Observer, AreRegistrations, is_of, removed, registered, changed_at, marked_by}
-use Rattle.coap_observe.specs.Observers.{noted_by, noted_to, sent_to, unmarked_by}
-use Rattle.coap_observe.proofs.Facts.Registrations.{registrations-changed, registrations-registered}
+use Rattle.coap_observe.specs.Observers.{elsewhere, noted_by, noted_to, sent_to, unmarked_by}
+use Rattle.coap_types.specs.SameEndpoint.{same_endpoint}
+use Rattle.coap_observe.proofs.Facts.Registrations.{registrations-changed, registrations-elsewhere}
+use Rattle.coap_observe.proofs.Facts.Registrations.{registrations-registered}
 use Rattle.coap_observe.proofs.Facts.Registrations.{registrations-noted, registrations-removed, registrations-sent}
 use Rattle.coap_resource.specs.Content.{Content, Held}
 use Rattle.coap_resource.specs.RequestOptions.{block_of, szx_by}
@@ -28,7 +30,7 @@ use Rattle.std.proofs.lemmas.Bool.{and_parts}
 use Rattle.coap_exchange.specs.SuccessCodes.{content}
 use Rattle.coap_server.specs.Trace.{Own, Handling, Serves, Notifies, Call}
 use Rattle.coap_server.specs.Trace.{Sets}
-use Rattle.coap_server.specs.Trace.{Removes, Feeds, Ticks}
+use Rattle.coap_server.specs.Trace.{Removes, Feeds, Forgets, Ticks}
 use Rattle.coap_server.specs.Serving.{observers_served}
 use Rattle.coap_server.specs.Observers.{observes, registers, observers_with, marked_if, unless_ended, unless_rejected}
 use Rattle.coap_server.specs.Notifying.{behind, marked, notified}
@@ -77,6 +79,13 @@ module _ (limits : Limits) (szx : ℕ) (t : List Call) where
       record {
         registrations = registrations-removed to token os g.registrations;
         made = each_kept (WasMade limits szx t) (λ o. not (is_of to token o)) os g.made;
+      }
+
+  good_elsewhere : (peer : Endpoint) (os : List Observer) → Good os → Good (elsewhere peer os)
+  good_elsewhere peer os g =
+      record {
+        registrations = registrations-elsewhere peer os g.registrations;
+        made = each_kept (WasMade limits szx t) (λ o. not (same_endpoint o.to peer)) os g.made;
       }
 
   pub good_ended : (e : Option Ended) (os : List Observer) → Good os → Good (unless_ended e os)
@@ -236,6 +245,7 @@ module _ (limits : Limits) (szx : ℕ) where
           ticked t now w below room passed id answer d h
           (good_ended limits szx (Ticks now w below room d passed h id answer ∷ t)
           (P.after (own t).exchanges (ticking (own t) now below room d)).ended (own t).observers g)
+      by (Forgets peer) g = good_elsewhere limits szx (Forgets peer ∷ t) peer (own t).observers g
       by _ g = g
 
   pub are_observers : (t : List Call) → AreObservers limits szx t

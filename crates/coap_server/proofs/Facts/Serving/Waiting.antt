@@ -22,11 +22,12 @@ use Rattle.coap_observe.specs.Observers.{Observer}
 use Rattle.coap_resource.specs.Limits.{Limits}
 use Rattle.coap_server.specs.Trace.{Waiting, Own, Handling, Serves, Notifies}
 use Rattle.coap_server.specs.Trace.{Call, Sets, Removes, Delays, Plains, Feeds, Refuses, Ticks, NextOut, Gets}
-use Rattle.coap_server.specs.Trace.{TellsApplied}
+use Rattle.coap_server.specs.Trace.{TellsApplied, Forgets}
 use Rattle.coap_server.specs.Serving.{IsServed}
 use Rattle.coap_server.specs.Deferring.{AnswersWaiting, delay_for, deferral, deferral_by}
 use Rattle.coap_server.specs.Deferring.{is_of}
-use Rattle.coap_server.specs.Deferring.{question_of, without_waiting}
+use Rattle.coap_server.specs.Deferring.{question_of, waiting_elsewhere, without_waiting}
+use Rattle.coap_types.specs.SameEndpoint.{same_endpoint}
 use Rattle.coap_server.specs.Notifying.{marked, notification, readies}
 use Rattle.coap_server.specs.Handling.{incoming, ticking, heard}
 use Rattle.coap_server.specs.Asks.{responding}
@@ -138,6 +139,19 @@ readies_same at (suc n) (o ∷ os) s =
       (let c = ap (λ (z : E.Own). z.clock) e in let l =
           k.1 in omega (arith, c, l)),
     )
+
+-- where a peer is forgotten
+waits_elsewhere : (peer : Endpoint) (ws : List Waiting)
+    → map deferred_as (waiting_elsewhere peer ws) ≡ P.deferred_elsewhere peer (map deferred_as ws)
+waits_elsewhere peer [] = refl
+waits_elsewhere peer (w ∷ ws) = by (not (same_endpoint w.asked.from peer)) (waits_elsewhere peer ws)
+  where
+    by : (b : Bool) → map deferred_as (waiting_elsewhere peer ws) ≡ P.deferred_elsewhere peer (map deferred_as ws)
+        → map deferred_as (cond b (w ∷ waiting_elsewhere peer ws) (waiting_elsewhere peer ws))
+        ≡ cond b (deferred_as w ∷ P.deferred_elsewhere peer (map deferred_as ws))
+        (P.deferred_elsewhere peer (map deferred_as ws))
+    by true e = ap (λ ds. deferred_as w ∷ ds) e
+    by false e = e
 
 module _ (limits : Limits) (szx : ℕ) (setup : Setup) where
   abbrev own : List Call → Own
@@ -287,6 +301,10 @@ module _ (limits : Limits) (szx : ℕ) (setup : Setup) where
     mirrored (Refuses now from bytes w code up p (Some n) below) law =
         record { clock = let k = m.clock in omega (arith, k); lists = m.lists }
     mirrored (Ticks now w below room d passed h id answer) law = ticked now w below room d passed h id answer law
+    mirrored (Forgets peer) law = record {
+      clock = m.clock;
+      lists = waits_elsewhere peer (own t).waiting ∙ ap (λ ds. P.deferred_elsewhere peer ds) m.lists;
+    }
     mirrored _ law = record { clock = m.clock; lists = m.lists }
 
   pub mirrors : (t : List Call) → ServerLaw limits szx setup t → Mirrors t
@@ -320,3 +338,4 @@ module _ (limits : Limits) (szx : ℕ) (setup : Setup) where
       here (Feeds now from bytes w up came h below) m law a is = absurd (cc is)
       here (Refuses now from bytes w code up p response below) m law a is = absurd (cc is)
       here (NextOut answer) m law a is = absurd (cc is)
+      here (Forgets peer) m law a is = absurd (cc is)
