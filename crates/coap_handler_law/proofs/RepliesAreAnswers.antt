@@ -16,7 +16,7 @@ use Rattle.coap_exchange.specs.declared.answerer.Asked.{Asked}
 use Rattle.coap_exchange.specs.declared.separate.Deferred.{Deferred}
 use Rattle.coap_exchange.specs.AnswererTrace.{Own, Call, Response, start, Incoming, Answers, Defers, Ticks, Responds}
 use Rattle.coap_exchange.specs.AnswererTrace.{Ready}
-use Rattle.coap_exchange.specs.AnswererTrace.{Notifies, NotifiesPlain, Take}
+use Rattle.coap_exchange.specs.AnswererTrace.{Notifies, NotifiesPlain, Take, Forgets}
 use Rattle.coap_exchange.specs.AnswererLaw.{below_of, own_of, lower_of}
 use Rattle.coap_exchange.specs.AnswererSends.{carrying}
 use Rattle.coap_exchange.specs.AnswererSteps.{after, answering, asking_room, deferring, lower, may_defer, ready_at}
@@ -98,6 +98,7 @@ module _ (near : Endpoint) (id : ℕ) (bytes : List ℕ) where
   is_reply s (NotifiesPlain now to token r n) (inr h) = h
   is_reply s (Take answer) (inl e) = absurd cc
   is_reply s (Take answer) (inr h) = h
+  is_reply s (Forgets peer) h = h
 
   pub ever_reply : (t : List Call) → Sometime (λ past c. Ever (Replies near id bytes) (lower (own_of past) c)) t
       → Ever (IsReply near id bytes) t

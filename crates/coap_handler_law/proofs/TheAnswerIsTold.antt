@@ -15,7 +15,7 @@ use Rattle.coap_layer.specs.Trace as T
 use Rattle.coap_layer.specs.Words.{is_kept}
 use Rattle.coap_layer.specs.declared.setup.Setup.{Setup}
 use Rattle.coap_exchange.specs.AnswererTrace.{Call, Incoming, Answers, Defers, Ticks, Responds, Ready, Notifies}
-use Rattle.coap_exchange.specs.AnswererTrace.{NotifiesPlain, Take}
+use Rattle.coap_exchange.specs.AnswererTrace.{NotifiesPlain, Take, Forgets}
 use Rattle.coap_exchange.specs.AnswererSends.{AllGoBack, GoesBack, carrying}
 use Rattle.coap_exchange.specs.AnswererSteps.{reject_by}
 use Rattle.coap_exchange.specs.EmptyMessages.{reset_bytes}
@@ -61,6 +61,7 @@ one_answer setup past (Ready now to answer) near id bytes m goes is spells respo
 one_answer setup past (Notifies now to token r word n) near id bytes m goes is spells response = is
 one_answer setup past (NotifiesPlain now to token r n) near id bytes m goes is spells response = is
 one_answer setup past (Take answer) near id bytes m goes is spells response = is
+one_answer setup past (Forgets peer) near id bytes m goes is spells response = is
 
 pub is_answer : (setup : Setup) (t : List Call) (near : Endpoint) (id : ℕ) (bytes : List ℕ) (m : Message)
     → AllGoBack setup t → Ever (IsReply near id bytes) t → Spells bytes m → role_of m.code ≡ role.Response

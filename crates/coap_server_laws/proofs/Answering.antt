@@ -1,6 +1,6 @@
 -- A request that is handed up is answered in that call, or waits, or is ignored (AttendedAtOnce). What waits goes on
--- waiting until a tick sends its response (WaitOn), the first that can go (FirstAnswered). A tick that does nothing
--- leaves nothing that can go (NextBegun).
+-- waiting until a tick sends its response, or its endpoint is forgotten (WaitOn); the first that can go is sent
+-- (FirstAnswered). A tick that does nothing leaves nothing that can go (NextBegun).
 pub mod AttendedAtOnce
 pub mod DelaysStay
 pub mod FirstAnswered

@@ -174,7 +174,7 @@ pub fn server_law()
     ensures deregisters { (limits : Limits) (szx : ℕ) (t : List Call) → EndsOnRequest limits szx t }
     // .. and a notification that is no 2.05: a 4.04, where its path holds nothing (RFC 7641, section 4.2) ..
     ensures gone { ServerHolds (λ limits szx _ t. EndsOnNotice limits szx t) }
-    // .. and nothing else.
+    // .. and nothing else, but that its endpoint is forgotten.
     ensures stays { ServerHolds (λ limits szx _ t. EndsSo limits szx t) }
 {}
 
@@ -191,7 +191,7 @@ pub fn server_must_law()
     ensures stays_due { ServerHolds (λ limits szx _ t. StayDue limits szx t) }
     // An observer that is not marked was told last the version that its path holds (RFC 7641, section 4.2).
     ensures current { ServerHolds (λ limits szx _ t. AreCurrent limits szx t) }
-    // What waits goes on waiting until a call sends its response (RFC 7252, section 5.2.2).
+    // What waits goes on waiting until a call sends its response (RFC 7252, section 5.2.2), or forgets its endpoint.
     ensures waits_on { ServerHolds (λ limits szx _ t. WaitOn limits szx t) }
     // A path is plain where a call made it so, from then on (RFC 7641, section 4.5).
     ensures plains_stay { (limits : Limits) (szx : ℕ) (t : List Call) → PlainsStay limits szx t }

@@ -77,6 +77,7 @@ module _ (rename : Endpoint → Endpoint) (apart : TellsApart rename) where
   lower_same s (E.Notifies now to token r word id) = refl
   lower_same s (E.NotifiesPlain now to token r id) = refl
   lower_same s (E.Take answer) = refl
+  lower_same s (E.Forgets peer) = refl
 
   -- what is answered
 
@@ -106,6 +107,7 @@ module _ (rename : Endpoint → Endpoint) (apart : TellsApart rename) where
   right_same s (E.Notifies now to token r word id) h = h
   right_same s (E.NotifiesPlain now to token r id) h = h
   right_same s (E.Take answer) h = tt
+  right_same s (E.Forgets peer) h = tt
 
   -- what is left
 
@@ -172,6 +174,16 @@ module _ (rename : Endpoint → Endpoint) (apart : TellsApart rename) where
       }
   after_same s (E.NotifiesPlain now to token r id) = refl
   after_same s (E.Take answer) = refl
+  after_same s (E.Forgets peer) =
+      let deferred = N.deferred_elsewhere_same rename apart peer s.deferred in
+      λ i. record {
+        clock = s.clock;
+        pending = option_map (X.asked rename) s.pending;
+        deferred = deferred i;
+        separate = map (X.separate rename) s.separate;
+        ended = option_map (X.ended rename) s.ended;
+        unmatched = option_map (X.sending rename) s.unmatched;
+      }
 
   -- what the exchanges keep, with their message layer
   abbrev pub state : W.State → W.State

@@ -158,6 +158,13 @@ module _ (rename : Endpoint → Endpoint) where
         filter_same (X.separate rename) (λ x. not (P.goes_to to id x)) (λ x. not (P.goes_to (rename to) id x))
         (λ x. ap not (goes_same to id x)) xs
 
+    pub deferred_elsewhere_same : (peer : Endpoint) (ds : List Deferred)
+        → P.deferred_elsewhere (rename peer) (map (X.deferred rename) ds)
+        ≡ map (X.deferred rename) (P.deferred_elsewhere peer ds)
+    deferred_elsewhere_same peer ds =
+        filter_same (X.deferred rename) (λ d. not (same_endpoint d.asked.from peer))
+        (λ d. not (same_endpoint d.asked.from (rename peer))) (λ d. ap not (apart d.asked.from peer)) ds
+
     pub separate_after_same : (from : Endpoint) (up : L.Answer) (xs : List Separate)
         → P.separate_after (rename from) (R.answer rename up) (map (X.separate rename) xs)
         ≡ map (X.separate rename) (P.separate_after from up xs)

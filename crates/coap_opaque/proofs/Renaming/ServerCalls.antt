@@ -1,6 +1,6 @@
 -- A call of a server does the same with other endpoints in the place of theirs.
 use Rattle.std.proofs.Common.{◌≡◌, ℕ, max, Bool, true, false, Option, Some, None, List, [], ◌∷◌, ◌++◌, refl, ap, ap₂}
-use Rattle.std.proofs.Common.{sym, subst, ◌∙◌, cond, map, option_map}
+use Rattle.std.proofs.Common.{sym, subst, ◌∙◌, cond, map, not, option_map}
 use Rattle.std.proofs.lemmas.List.{map-append}
 use Rattle.coap_types.specs.declared.endpoint.Endpoint.{Endpoint}
 use Rattle.coap_codec.specs.Message.{Message}
@@ -34,6 +34,9 @@ use Rattle.coap_opaque.proofs.Renaming.ServerObservers as O
 use Rattle.coap_opaque.proofs.Renaming.ServerParts as W
 use Rattle.coap_opaque.proofs.Renaming.ServerRows as V
 use Rattle.coap_opaque.proofs.Renaming.Stacked.{sum_same}
+use Rattle.coap_types.specs.SameEndpoint.{same_endpoint}
+use Rattle.coap_opaque.proofs.Renaming.Lists.{filter_same}
+use Rattle.coap_server.specs.Trace.{Forgets}
 
 module _ (rename : Endpoint → Endpoint) (apart : TellsApart rename) where
   -- what is asked of the exchanges
@@ -127,6 +130,7 @@ module _ (rename : Endpoint → Endpoint) (apart : TellsApart rename) where
   lower_same s (NextOut answer) = refl
   lower_same s (Gets path answer) = refl
   lower_same s (TellsApplied answer) = refl
+  lower_same s (Forgets peer) = refl
 
   -- what is answered
   pub right_same : (s : Own) (c : Call) → T.IsRight s c → T.IsRight (S.own rename s) (S.call rename c)
@@ -148,6 +152,7 @@ module _ (rename : Endpoint → Endpoint) (apart : TellsApart rename) where
   right_same s (Plains path answer) k = k
   right_same s (NextOut answer) k = k
   right_same s (Gets path answer) k = k
+  right_same s (Forgets peer) k = k
 
   -- what is left of each part
 
@@ -297,6 +302,24 @@ module _ (rename : Endpoint → Endpoint) (apart : TellsApart rename) where
       ∙ exchanges_same (P.after s.exchanges first) asks in
       λ i. record (S.own rename s) { clock = max s.clock now; exchanges = exchanges i; applied = [] }
 
+  forgotten_after_same : (s : Own) (peer : Endpoint)
+      → T.forgotten_after (S.own rename s) (rename peer) (E.Forgets (rename peer) ∷ [])
+      ≡ S.own rename (T.forgotten_after s peer (E.Forgets peer ∷ []))
+  forgotten_after_same s peer =
+      let exchanges = exchanges_same s.exchanges (E.Forgets peer ∷ []) in
+      let partials = filter_same (S.partial rename) (λ p. not (same_endpoint p.key.from peer))
+      (λ p. not (same_endpoint p.key.from (rename peer))) (λ p. ap not (apart p.key.from peer)) s.uploads.partials in
+      let observers = filter_same (S.observer rename) (λ o. not (same_endpoint o.to peer))
+      (λ o. not (same_endpoint o.to (rename peer))) (λ o. ap not (apart o.to peer)) s.observers in
+      let waiting = filter_same (S.waiting rename) (λ w. not (same_endpoint w.asked.from peer))
+      (λ w. not (same_endpoint w.asked.from (rename peer))) (λ w. ap not (apart w.asked.from peer)) s.waiting in
+      λ i. record (S.own rename s) {
+        exchanges = exchanges i;
+        uploads = record (S.uploads rename s.uploads) { partials = partials i };
+        observers = observers i;
+        waiting = waiting i;
+      }
+
   pub after_same : (s : Own) (c : Call) → T.after (S.own rename s) (S.call rename c) ≡ S.own rename (T.after s c)
   after_same s (Sets now path format body answer left) =
       let observers = O.marked_if_same rename (max s.clock now) path s.store left s.observers in
@@ -323,3 +346,4 @@ module _ (rename : Endpoint → Endpoint) (apart : TellsApart rename) where
   after_same s (Plains path answer) = refl
   after_same s (Gets path answer) = refl
   after_same s (TellsApplied answer) = refl
+  after_same s (Forgets peer) = forgotten_after_same s peer

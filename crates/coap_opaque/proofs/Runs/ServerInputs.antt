@@ -19,6 +19,7 @@ use Rattle.coap_server.specs.Trace.{Applied, Call, Delays, Feeds, Gets, Handling
 use Rattle.coap_server.specs.Trace.{Removes, Sets, TellsApplied, Ticks}
 use Rattle.coap_opaque.specs.Runs.OfServer as I
 use Rattle.coap_opaque.specs.Runs.OfServer.{input_of, output_of}
+use Rattle.coap_server.specs.Trace.{Forgets}
 
 -- which call it is that is handed this
 
@@ -111,6 +112,10 @@ is_told : (d : Call) → input_of d ≡ I.TellsApplied → (answer : List Applie
 is_told (TellsApplied answer) e = (answer, refl)
 is_told _ e = absurd (cc e)
 
+is_forgetting : (peer : Endpoint) (d : Call) → input_of d ≡ I.Forgets peer → d ≡ Forgets peer
+is_forgetting peer (Forgets other) e = cc e
+is_forgetting peer _ e = absurd (cc e)
+
 module _ (limits : Limits) (szx : ℕ) (setup : Setup) (past : List Call) (exact : IsExact limits szx setup past) where
   abbrev left : Call → State
   left c = state_left limits szx setup (c ∷ past)
@@ -175,3 +180,4 @@ module _ (limits : Limits) (szx : ℕ) (setup : Setup) (past : List Call) (exact
       let k = is_told d e in
       equal (TellsApplied answer) d
       (k.1 ∙ ap TellsApplied (exact.tells_applied k.0 answer (subst Lawful k.1 lawful) law))
+  same_input (Forgets peer) d e law lawful = equal (Forgets peer) d (is_forgetting peer d e)

@@ -29,6 +29,7 @@ module _ (rename : Endpoint → Endpoint) where
   input_same (T.NextOut answer) = refl
   input_same (T.Gets path answer) = refl
   input_same (T.TellsApplied answer) = refl
+  input_same (T.Forgets peer) = refl
 
   pub output_same : (c : Call) → output_of (S.call rename c) ≡ I.output rename (output_of c)
   output_same (T.Sets now path format body answer left) = refl
@@ -41,6 +42,7 @@ module _ (rename : Endpoint → Endpoint) where
   output_same (T.NextOut answer) = refl
   output_same (T.Gets path answer) = refl
   output_same (T.TellsApplied answer) = refl
+  output_same (T.Forgets peer) = refl
 
 module _ (limits : Limits) (szx : ℕ) (setup : Setup)
     (start : Led limits szx setup [] (fresh_state limits szx setup))

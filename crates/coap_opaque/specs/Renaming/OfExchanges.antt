@@ -50,6 +50,7 @@ module _ (rename : Endpoint → Endpoint) where
   call (E.Notifies now to token r word id) = E.Notifies now (rename to) token r word id
   call (E.NotifiesPlain now to token r id) = E.NotifiesPlain now (rename to) token r id
   call (E.Take answer) = E.Take (option_map (L.packet rename) answer)
+  call (E.Forgets peer) = E.Forgets (rename peer)
 
   abbrev pub own : E.Own → E.Own
   own s = record s {

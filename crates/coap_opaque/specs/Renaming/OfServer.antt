@@ -10,6 +10,7 @@ use Rattle.coap_server.specs.Trace.{Waiting, Applied, Own, Handling, Notifies, C
 use Rattle.coap_server.specs.Trace.{Feeds, Refuses, Ticks, NextOut, Gets, TellsApplied}
 use Rattle.coap_opaque.specs.Renaming.OfLayer as L
 use Rattle.coap_opaque.specs.Renaming.OfExchanges as X
+use Rattle.coap_server.specs.Trace.{Forgets}
 
 module _ (rename : Endpoint → Endpoint) where
   abbrev pub observer : Observer → Observer
@@ -61,3 +62,4 @@ module _ (rename : Endpoint → Endpoint) where
   call (NextOut answer) = NextOut (option_map (L.packet rename) answer)
   call (Gets path answer) = Gets path answer
   call (TellsApplied answer) = TellsApplied (map applied answer)
+  call (Forgets peer) = Forgets (rename peer)

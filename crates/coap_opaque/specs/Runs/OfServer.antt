@@ -26,6 +26,7 @@ pub data Input : Type 0 where
   NextOut : Input
   Gets : (path : List (List ℕ)) → Input
   TellsApplied : Input
+  Forgets : (peer : Endpoint) → Input
 
 -- what it answers: whether a change was made, and which version; whether something was removed; yes or no; a datagram;
 -- what a path holds; what was applied; or nothing
@@ -49,6 +50,7 @@ input_of (T.Ticks now word below room due passed h id answer) = Ticks now word
 input_of (T.NextOut answer) = NextOut
 input_of (T.Gets path answer) = Gets path
 input_of (T.TellsApplied answer) = TellsApplied
+input_of (T.Forgets peer) = Forgets peer
 
 abbrev pub output_of : Call → Output
 output_of (T.Sets now path format body answer left) = Changed answer
@@ -61,6 +63,7 @@ output_of (T.Ticks now word below room due passed h id answer) = Says answer
 output_of (T.NextOut answer) = Gives answer
 output_of (T.Gets path answer) = Holds answer
 output_of (T.TellsApplied answer) = Tells answer
+output_of (T.Forgets peer) = Nothing
 
 -- the calls lead from the one state to the other, the newest first
 abbrev pub Runs : State → List Call → State → Type 0
@@ -71,6 +74,7 @@ module _ (rename : Endpoint → Endpoint) where
   abbrev pub input : Input → Input
   input (Feeds now from bytes word) = Feeds now (rename from) bytes word
   input (Refuses now from bytes word code) = Refuses now (rename from) bytes word code
+  input (Forgets peer) = Forgets (rename peer)
   input other = other
 
   abbrev pub output : Output → Output

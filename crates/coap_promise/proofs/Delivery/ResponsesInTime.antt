@@ -33,6 +33,7 @@ module _ (t : ℕ) (F : Endpoint → List ℕ → Type 0) where
   own_by s (R.Incoming now from bytes up answer) h a = let k = a.0 in omega (arith, h, k)
   own_by s (R.Answers a r below) h k = h
   own_by s (R.Take answer) h k = h
+  own_by s (R.Forgets peer) h k = h
   own_by s _ h k = omega (arith, h, k)
 
   pub owns_by : (past later : List R.Call) → (answerer.own_of past).clock ≤ t → Every Asks later
@@ -74,6 +75,7 @@ module _ (t : ℕ) (F : Endpoint → List ℕ → Type 0) where
   lower_wish s (R.Notifies now to token r word id) h k = (other_wish now _ (L.Sent id) k (λ from bytes is. cc is), tt)
   lower_wish s (R.NotifiesPlain now to token r id) h k = (other_wish now _ (L.Sent id) k (λ from bytes is. cc is), tt)
   lower_wish s (R.Take answer) h k = (other_wish 0 L.Take (L.Gives answer) (omega arith) (λ from bytes is. cc is), tt)
+  lower_wish s (R.Forgets peer) h k = tt
 
   pub wishes : (past later : List R.Call) → (answerer.own_of past).clock ≤ t → Every Asks later
       → Every (Wish t F) (asked_by_server past later)

@@ -124,7 +124,7 @@ module _ (config : Config) (number : ℕ) (all : List Entry)
         })
     fails_here w c inside among law (refuses a v n comes handed none is r) =
         let none_said = refusal_says_none (own_of config.limits config.server_szx (server_trace config w)) c
-        law.unrefused.0 n is in
+        law.unrefused.0.unrefused n is in
         fails_by w c (refuses a v n comes handed none is r)
         (came_own w c inside a v (law.came.0 a v comes r.to_client) r.token_is) (record {
           not_found = λ code. absurd (none_said.0 (sym r.code ∙ code));

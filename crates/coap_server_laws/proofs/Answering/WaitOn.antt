@@ -1,6 +1,6 @@
--- What waits goes on waiting until a tick sends its response.
+-- What waits goes on waiting until a tick sends its response, or its endpoint is forgotten.
 use Rattle.std.proofs.Common.{◌≡◌, ◌⊎◌, inl, inr, ⊎_elim, ℕ, max, Bool, true, false, ◌&&◌, Option, Some}
-use Rattle.std.proofs.Common.{List, [], ◌∷◌, refl, ap, ◌∙◌, cond}
+use Rattle.std.proofs.Common.{List, [], ◌∷◌, refl, ap, sym, not, ◌∙◌, cond}
 use Rattle.coap_types.specs.Past.{Ever}
 use Rattle.coap_types.proofs.Facts.Traces.{Ever_front}
 use Rattle.coap_codec.specs.Message.{Message}
@@ -19,6 +19,12 @@ use Rattle.coap_server.specs.Follows.Waits.{WaitsStill, WaitOn}
 use Rattle.coap_server.proofs.Facts.Serving.SameAsked.{same_asked_is}
 use Rattle.coap_server.proofs.Facts.Serving.Brought.{server_back}
 use Rattle.coap_server.proofs.Facts.Serving.Waiting.{ready_are_served}
+use Rattle.coap_types.specs.declared.endpoint.Endpoint.{Endpoint}
+use Rattle.coap_types.specs.SameEndpoint.{same_endpoint}
+use Rattle.coap_types.proofs.Facts.Endpoints.{same_endpoint_is}
+use Rattle.coap_server.specs.Deferring.{waiting_elsewhere}
+use Rattle.coap_server.specs.Follows.Serves.{forgets}
+use Rattle.coap_server.specs.Trace.{Forgets}
 
 first_true : (b c : Bool) → (b && c) ≡ true → b ≡ true
 first_true true c h = refl
@@ -36,6 +42,23 @@ taken_out at a x (w ∷ ws) h = by (is_of at a w) refl (taken_out at a x ws) h
         → Ever (λ y. y ≡ x) (cond b ws (w ∷ without_waiting at a ws)) ⊎ (a ≡ x.asked)
     by true is f (inl e) = inr (same_asked_is a w.asked (first_true _ _ is) ∙ ap (λ (y : Waiting). y.asked) e)
     by true is f (inr k) = inl k
+    by false is f (inl e) = inl (inl e)
+    by false is f (inr k) = ⊎_elim (λ e. inl (inr e)) (λ e. inr e) (f k)
+
+-- where a peer is forgotten, the requests of others go on waiting
+let_go : (peer : Endpoint) (x : Waiting) (ws : List Waiting) → Ever (λ y. y ≡ x) ws
+    → Ever (λ y. y ≡ x) (waiting_elsewhere peer ws) ⊎ (peer ≡ x.asked.from)
+let_go peer x [] h = absurd h
+let_go peer x (w ∷ ws) h = by (same_endpoint w.asked.from peer) refl (let_go peer x ws) h
+  where
+    by : (b : Bool) → same_endpoint w.asked.from peer ≡ b
+        → (Ever (λ y. y ≡ x) ws → Ever (λ y. y ≡ x) (waiting_elsewhere peer ws) ⊎ (peer ≡ x.asked.from))
+        → (w ≡ x) ⊎ Ever (λ y. y ≡ x) ws
+        → Ever (λ y. y ≡ x) (cond (not b) (w ∷ waiting_elsewhere peer ws) (waiting_elsewhere peer ws))
+        ⊎ (peer ≡ x.asked.from)
+    by true is f (inl e) =
+        inr (sym (same_endpoint_is w.asked.from peer is) ∙ ap (λ (y : Waiting). y.asked.from) e)
+    by true is f (inr k) = f k
     by false is f (inl e) = inl (inl e)
     by false is f (inr k) = ⊎_elim (λ e. inl (inr e)) (λ e. inr e) (f k)
 
@@ -59,12 +82,14 @@ module _ (limits : Limits) (szx : ℕ) (setup : Setup) where
       absurd (cc no)
 
   here : (t : List Call) (c : Call) → ServerLaw limits szx setup (c ∷ t) → (x : Waiting) → WaitsStill limits szx x t
-      → WaitsStill limits szx x (c ∷ t) ⊎ AnswersIt limits szx t c x.asked
+      → WaitsStill limits szx x (c ∷ t) ⊎ (AnswersIt limits szx t c x.asked ⊎ (forgets c ≡ Some x.asked.from))
   here t (Feeds now from bytes w up came h below) law x k =
       inl (behind (max (own_of limits szx t).clock now) came h x (own_of limits szx t).waiting k)
   here t (Ticks now w below room (due.Ready a) passed h id answer) law x k =
-      ⊎_elim (λ e. inl e) (λ e. inr (ready_sends t now w below room a passed h id answer law x.asked e))
+      ⊎_elim (λ e. inl e) (λ e. inr (inl (ready_sends t now w below room a passed h id answer law x.asked e)))
       (taken_out (max (own_of limits szx t).clock now) a x (own_of limits szx t).waiting k)
+  here t (Forgets peer) law x k =
+      ⊎_elim (λ e. inl e) (λ e. inr (inr (ap (λ p. Some p) e))) (let_go peer x (own_of limits szx t).waiting k)
   here t _ law x k = inl k
 
   pub wait_on : (t : List Call) → ServerLaw limits szx setup t → WaitOn limits szx t

@@ -30,6 +30,8 @@ use Rattle.coap_observe.proofs.Facts.Registrations.{registration-noted_to}
 use Rattle.coap_exchange.specs.AnswererTrace.{Sending}
 use Rattle.coap_server.specs.Observers.{unless_rejected}
 use Rattle.coap_server.proofs.Facts.Observing.ObserverLists.{rejected_left}
+use Rattle.coap_server_laws.proofs.Observing.Elsewhere.{elsewhere_either}
+use Rattle.coap_observe.specs.Observers.{elsewhere}
 
 abbrev pub Holdings : Type 0
 Holdings = List (List ℕ) → Option Held
@@ -77,6 +79,13 @@ module _ (to : Endpoint) (token : List ℕ) where
         ∙ (ap (λ x. registration to token (removed to x os)) p.1 ∙ registration-removed to token os) in
         none_or (sym gone ∙ h)))
     | inr other ↦ moved last holds os (removed by bytes os) (others_stay to token by bytes os other).removed_stay g
+  ]
+
+  pub elsewhere_good : (last : Option Telling) (holds : Holdings) (peer : Endpoint) (os : List Observer)
+      → Good last holds os → Good last holds (elsewhere peer os)
+  elsewhere_good last holds peer os g = elim (elsewhere_either peer to token os) [
+    | inl e ↦ moved last holds os (elsewhere peer os) e g
+    | inr gone ↦ (λ o h m. none_or (sym gone.1 ∙ h))
   ]
 
   pub rejected_good : (last : Option Telling) (holds : Holdings) (at : ℕ) (r : Option Sending) (os : List Observer)

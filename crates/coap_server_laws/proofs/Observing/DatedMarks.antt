@@ -21,6 +21,7 @@ use Rattle.coap_server_laws.proofs.Observing.ObserverSteps.{EachKeeps, call_kept
 use Rattle.coap_server.proofs.Facts.Calls.EachOf.{each_kept, each_map, each_with}
 use Rattle.coap_server.proofs.Facts.Observing.StoreChanges.{Effect, IsChanged, IsKept}
 use Rattle.coap_server.proofs.Facts.Serving.Brought.{server_back}
+use Rattle.coap_types.specs.SameEndpoint.{same_endpoint}
 
 abbrev pub IsDated : Content → Observer → Type 0
 IsDated s o = o.marked ≡ true → (held : Held) → s.holds o.path ≡ Some held → IsSince held.version o.changed s.tally
@@ -77,6 +78,7 @@ effect_dated path at a b os (inr c) timed d = by (b.tally.version == a.tally.ver
 each_dated : (at : ℕ) → EachKeeps at AreDated
 each_dated at = record {
   removes = λ s os to token d. each_kept (IsDated s) (λ o. not (is_of to token o)) os d;
+  forgets = λ s os peer d. each_kept (IsDated s) (λ o. not (same_endpoint o.to peer)) os d;
   registers = λ s os to token path szx d. each_with (IsDated s) (removed to token os) _
       (each_kept (IsDated s) (λ o. not (is_of to token o)) os d) (λ m held h. absurd (cc m));
   sends = λ s os to token con d. each_map (IsDated s) (unmarked_by at to token con)

@@ -19,7 +19,6 @@ use Rattle.coap_exchange.specs.AnswererSteps.{reset_by, failed_by, unmatched_by}
 use Rattle.coap_exchange.specs.AnswererLaw as W
 use Rattle.coap_server.specs.Trace.{Own, Handling, Silent, Call}
 use Rattle.coap_server.specs.Trace.{Feeds, Ticks}
-use Rattle.coap_server.specs.Checks.{asks}
 use Rattle.coap_server.specs.Observers.{unless_ended}
 use Rattle.coap_server.specs.Handling.{incoming, ticking, heard, HandlesCame}
 use Rattle.coap_server.specs.Asks.{answering, responding}

@@ -32,6 +32,7 @@ use Rattle.coap_server.proofs.Facts.Serving.Brought.{server_back}
 use Rattle.coap_server_laws.proofs.Observing.EntrySteps as W
 use Rattle.coap_server_laws.proofs.Observing.EntryTold as T
 use Rattle.coap_server_laws.proofs.Observing.EntrySteps.{none_marked}
+use Rattle.coap_server.specs.Trace.{Forgets}
 
 module _ (limits : Limits) (szx : ℕ) (setup : Setup) (to : Endpoint) (token : List ℕ) where
   module _ (t : List Call) where
@@ -144,6 +145,9 @@ module _ (limits : Limits) (szx : ℕ) (setup : Setup) (to : Endpoint) (token : 
     step (Ticks now w below room d passed h id answer) law keep_last =
         ticked now w below room d passed h id answer
         (turned (heard own now (ticking own now below room d)) passed d h law.rows.0.0) law keep_last
+    step (Forgets peer) law keep_last =
+        W.quiet_step limits szx setup to token t (Forgets peer) refl refl refl
+        (W.elsewhere_back limits szx setup to token peer own.observers) keep_last
     step c law keep_last = W.quiet_step limits szx setup to token t c refl refl refl (λ o h. h) keep_last
 
   pub keep_last : (t : List Call) → ServerLaw limits szx setup t → W.KeepLast limits szx setup to token t

@@ -39,6 +39,8 @@ use Rattle.coap_server.proofs.Facts.Observing.ObserverLists.{rejected_left}
 use Rattle.coap_server_laws.proofs.Observing.OneRegistration.{pair_of}
 use Rattle.coap_server_laws.proofs.Observing.ServedObservers.{ServesAt, pair_if, served_at}
 use Rattle.coap_server.proofs.Facts.Observing.StoreChanges.{get_same}
+use Rattle.coap_server_laws.proofs.Observing.Elsewhere.{elsewhere_either}
+use Rattle.coap_observe.specs.Observers.{elsewhere}
 
 -- whose it is
 
@@ -100,6 +102,12 @@ module _ (limits : Limits) (szx : ℕ) (setup : Setup) (to : Endpoint) (token : 
         ∙ (ap (λ n. registration by n (removed by bytes os)) e.1 ∙ registration-removed by bytes os) in
         absurd (cc (none, h)))
     | inr n ↦ sym (others_stay to token by bytes os n).removed_stay ∙ h
+  ]
+
+  pub elsewhere_back : (peer : Endpoint) (os : List Observer) → Were os (elsewhere peer os)
+  elsewhere_back peer os o h = elim (elsewhere_either peer to token os) [
+    | inl e ↦ sym e ∙ h
+    | inr g ↦ (let none = g.1 in absurd (cc (none, h)))
   ]
 
   pub ended_back : (e : Option Ended) (os : List Observer) → Were os (unless_ended e os)

@@ -38,6 +38,9 @@ use Rattle.coap_server.specs.Follows.Serves.{serving, serving_of}
 use Rattle.coap_server.specs.Follows.Tells.{Pair, registers_by, registering}
 use Rattle.coap_server.specs.Follows.Observes.{MadeBy}
 use Rattle.coap_server_laws.specs.Follows.Latest.{LatestMade, IsLatest, AreLatest}
+use Rattle.coap_types.specs.SameEndpoint.{same_endpoint}
+use Rattle.coap_observe.specs.Observers.{elsewhere}
+use Rattle.coap_server.specs.Trace.{Forgets}
 
 -- lists of which each has a property, or another one
 
@@ -58,6 +61,9 @@ module _ (Q R : Observer → Type 0) where
 module _ (Q : Observer → Type 0) where
   each_removed : (to : Endpoint) (token : List ℕ) (os : List Observer) → Each Q os → Each Q (removed to token os)
   each_removed to token os h = each_chosen Q Q (λ o. not (is_of to token o)) (λ o is q. q) os h
+
+  each_elsewhere : (peer : Endpoint) (os : List Observer) → Each Q os → Each Q (elsewhere peer os)
+  each_elsewhere peer os h = each_chosen Q Q (λ o. not (same_endpoint o.to peer)) (λ o is q. q) os h
 
   pub each_ended : (e : Option Ended) (os : List Observer) → Each Q os → Each Q (unless_ended e os)
   each_ended None os h = h
@@ -225,4 +231,6 @@ module _ (limits : Limits) (szx : ℕ) where
           ticked t now w below room passed id answer d h
           (each_ended (IsLatest limits szx t) (P.after (own t).exchanges (ticking (own t) now below room d)).ended
           (own t).observers g)
+      by (Forgets peer) g =
+          later t (Forgets peer) refl _ (each_elsewhere (IsLatest limits szx t) peer (own t).observers g)
       by _ g = later t _ refl _ g

@@ -26,7 +26,7 @@ use Rattle.coap_server.specs.Notifying.{notified}
 use Rattle.coap_server.specs.Handling.{incoming, ticking, heard}
 use Rattle.coap_server.specs.Law.{ServerRows, own_of}
 use Rattle.coap_server_laws.specs.Follows.Marks.{IsDue, TakesMark, notifies, renews, ends, StayDue}
-use Rattle.coap_server.specs.Follows.Observes.{is_told, cancels, ends_in}
+use Rattle.coap_server.specs.Follows.Observes.{is_told, is_forgotten, cancels, ends_in}
 use Rattle.coap_server.specs.Follows.Serves.{serving_of}
 use Rattle.coap_server.specs.Follows.Tells.{Pair}
 use Rattle.coap_server_laws.proofs.Observing.ObservationStays.{is_pair}
@@ -34,6 +34,9 @@ use Rattle.coap_server.proofs.Facts.Observing.Outcomes.{never_notifies}
 use Rattle.coap_server.proofs.Facts.Observing.ObserverLists.{notified_left}
 use Rattle.coap_server_laws.proofs.Observing.RejectedNons.{Rejects, rejects_over}
 use Rattle.coap_server.specs.Plain.{by_plain}
+use Rattle.coap_server_laws.proofs.Observing.Elsewhere.{elsewhere_either}
+use Rattle.coap_observe.specs.Observers.{elsewhere}
+use Rattle.coap_server.specs.Trace.{Forgets}
 
 module _ (to : Endpoint) (token : List ℕ) where
   -- a notification is due to it, in this list
@@ -230,6 +233,11 @@ module _ (to : Endpoint) (token : List ℕ) where
         (own t).observers d)
     on t (Removes now path answer left) rows d = inl (marked_on (max (own t).clock now) path (own t).store left
         (own t).observers d)
+    on t (Forgets peer) rows d =
+        elim (elsewhere_either peer to token (own t).observers) [
+          | inl e ↦ inl (moved (own t).observers (elsewhere peer (own t).observers) e d)
+          | inr gone ↦ inr (ends (is_forgotten (ap (λ p. Some p) gone.0)))
+        ]
     on t _ rows d = inl d
 
 module _ (limits : Limits) (szx : ℕ) where

@@ -13,8 +13,8 @@ use Rattle.coap_resource.specs.Limits.{Limits}
 use Rattle.coap_resource.specs.Serves.{Question, Reply}
 use Rattle.coap_exchange.specs.declared.answerer.Asked.{Asked}
 use Rattle.coap_exchange.specs.declared.answerer.Due.TheVariants as due
-use Rattle.coap_server.specs.Trace.{Own, Serves, Notifies, Call, Sets, Removes}
-use Rattle.coap_server.specs.Trace.{Delays, Plains, Feeds, Ticks, NextOut, Gets, TellsApplied}
+use Rattle.coap_server.specs.Trace.{Own, Serves, Notifies, Call}
+use Rattle.coap_server.specs.Trace.{Plains, Feeds, Ticks}
 use Rattle.coap_server.specs.Observers.{registers}
 use Rattle.coap_server.specs.Plain.{by_plain, goes_plain, is_plain, must_confirm, plains_with}
 use Rattle.coap_server.specs.Handling.{incoming, ticking, heard}

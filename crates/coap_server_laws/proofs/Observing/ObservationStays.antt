@@ -1,6 +1,6 @@
--- An observation stays until it is told to have ended, cancelled, or its path is gone.
+-- An observation stays until it is told to have ended, cancelled, its path is gone, or its endpoint is forgotten.
 use Rattle.std.proofs.Common.{◌≡◌, ◌⊎◌, inl, inr, ℕ, ◌==◌, Bool, true, false, Option, Some, None, List, [], ◌∷◌}
-use Rattle.std.proofs.Common.{refl, sym, subst, ◌∙◌, cond, max, option_map}
+use Rattle.std.proofs.Common.{refl, ap, sym, subst, ◌∙◌, cond, max, option_map}
 use Rattle.coap_types.specs.declared.endpoint.Endpoint.{Endpoint}
 use Rattle.coap_codec.specs.Message.{Message}
 use Rattle.coap_layer.specs.Trace as L
@@ -25,7 +25,7 @@ use Rattle.coap_server.specs.Notifying.{notified}
 use Rattle.coap_server.specs.Serving.{observers_served}
 use Rattle.coap_server.specs.Handling.{incoming, ticking, heard}
 use Rattle.coap_server.specs.Law.{ServerRows, own_of}
-use Rattle.coap_server.specs.Follows.Observes.{Ends, is_told, cancels, is_gone}
+use Rattle.coap_server.specs.Follows.Observes.{Ends, is_told, is_forgotten, cancels, is_gone}
 use Rattle.coap_server.specs.Follows.Observes.{ends_in, EndsSo}
 use Rattle.coap_server.specs.Follows.Serves.{serving_of}
 use Rattle.coap_server_laws.proofs.Observing.ObservationEnds.{told_here}
@@ -37,6 +37,8 @@ use Rattle.coap_exchange.specs.AnswererTrace.{Sending}
 use Rattle.coap_server.specs.Observers.{unless_rejected}
 use Rattle.coap_observe.specs.Observers.{noted_to, rejected, without}
 use Rattle.coap_observe.proofs.Facts.Registrations.{registration-noted_to}
+use Rattle.coap_server_laws.proofs.Observing.Elsewhere.{elsewhere_either}
+use Rattle.coap_server.specs.Trace.{Forgets}
 
 abbrev asked_of : Endpoint → List ℕ → Observer
 asked_of by bytes = begun 0 by bytes [] 0
@@ -259,6 +261,11 @@ module _ (to : Endpoint) (token : List ℕ) where
         inl (marked_back (max (own t).clock now) path (own t).store left (own t).observers none)
     back t (Removes now path answer left) rows none = inl (marked_back (max (own t).clock now) path (own t).store left
         (own t).observers none)
+    back t (Forgets peer) rows none =
+        elim (elsewhere_either peer to token (own t).observers) [
+          | inl e ↦ inl (sym e ∙ none)
+          | inr gone ↦ inr (is_forgotten (ap (λ p. Some p) gone.0))
+        ]
     back t _ rows none = inl none
 
 module _ (limits : Limits) (szx : ℕ) where

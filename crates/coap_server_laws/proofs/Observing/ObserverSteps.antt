@@ -30,6 +30,8 @@ use Rattle.coap_server.proofs.Facts.Observing.Outcomes.{Came, came, served, Turn
 use Rattle.coap_server.proofs.Facts.Observing.StoreChanges.{Effect, served_effect, sets_effect, removes_effect}
 use Rattle.coap_server.proofs.Facts.Observing.StoreSteps.{store_timed}
 use Rattle.coap_server.proofs.Facts.Serving.Brought.{server_back}
+use Rattle.coap_observe.specs.Observers.{elsewhere}
+use Rattle.coap_server.specs.Trace.{Forgets}
 
 abbrev pub Fact : Type 1
 Fact = Content → List Observer → Type 0
@@ -37,6 +39,7 @@ Fact = Content → List Observer → Type 0
 -- each step at this moment keeps it
 pub record EachKeeps (at : ℕ) (Q : Fact) : Type 0 where
   pub removes : (s : Content) (os : List Observer) (to : Endpoint) (token : List ℕ) → Q s os → Q s (removed to token os)
+  pub forgets : (s : Content) (os : List Observer) (peer : Endpoint) → Q s os → Q s (elsewhere peer os)
   pub registers : (s : Content) (os : List Observer) (to : Endpoint) (token : List ℕ) (path : List (List ℕ)) (szx : ℕ)
       → Q s os → Q s (registered at to token path szx os)
   pub sends : (s : Content) (os : List Observer) (to : Endpoint) (token : List ℕ) (con : Bool) → Q s os
@@ -169,4 +172,5 @@ module _ (limits : Limits) (szx : ℕ) (setup : Setup) (t : List Call) where
   call_kept Q (Ticks now w below room d passed h id answer) law k q =
       ticked_kept Q now w below room passed id answer d h
       (turned (heard own now (ticking own now below room d)) passed d h law.rows.0.0) law k q
+  call_kept Q (Forgets peer) law k q = k.forgets own.store own.observers peer q
   call_kept Q _ law k q = q

@@ -13,6 +13,8 @@ use Rattle.coap_observe.proofs.Facts.Registrations.{registration-sent_to}
 use Rattle.coap_resource.specs.Content.{Content}
 use Rattle.coap_server.specs.Observers.{marked_if}
 use Rattle.coap_server.proofs.Facts.Observing.StoreChanges.{IsKept, IsChanged, Effect, kept_by}
+use Rattle.coap_server_laws.proofs.Observing.Elsewhere.{elsewhere_either}
+use Rattle.coap_observe.specs.Observers.{elsewhere}
 
 -- one pair or another
 pub pair_of : (to : Endpoint) (token : List ℕ) (by : Endpoint) (bytes : List ℕ)
@@ -55,6 +57,12 @@ module _ (to : Endpoint) (token : List ℕ) where
             ∙ (ap (λ n. registration by n (removed by bytes os)) e.1 ∙ registration-removed by bytes os))
         | inr n ↦ kept 0 (others_stay to token by bytes os n).removed_stay (kept_by 0 s s refl)
       ]
+
+  pub elsewhere_turn : (s : Content) (peer : Endpoint) (os : List Observer) → Turn s s os (elsewhere peer os)
+  elsewhere_turn s peer os = elim (elsewhere_either peer to token os) [
+    | inl e ↦ kept 0 e (kept_by 0 s s refl)
+    | inr none ↦ gone none.1
+  ]
 
   pub sent_turn : (s : Content) (at : ℕ) (con : Bool) (by : Endpoint) (bytes : List ℕ) (os : List Observer)
       → Turn s s os (sent_to at by bytes con os)

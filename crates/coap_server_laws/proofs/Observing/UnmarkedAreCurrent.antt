@@ -36,10 +36,12 @@ use Rattle.coap_server_laws.proofs.Observing.ServedObservers.{ServesAt, served_a
 use Rattle.coap_server.proofs.Facts.Observing.StoreChanges.{Effect, served_effect, sets_effect, removes_effect}
 use Rattle.coap_server.proofs.Facts.Observing.MarkedObservers.{behind_there, marked_there, there_is}
 use Rattle.coap_server.proofs.Facts.Serving.Brought.{server_back}
-use Rattle.coap_server_laws.proofs.Observing.CurrentLists.{Good, ended_good, marked_good, none_or, notified_good}
+use Rattle.coap_server_laws.proofs.Observing.CurrentLists.{Good, elsewhere_good, ended_good, marked_good, none_or}
+use Rattle.coap_server_laws.proofs.Observing.CurrentLists.{notified_good}
 use Rattle.coap_server_laws.proofs.Observing.CurrentLists.{registered_good, rejected_good, removed_good}
 use Rattle.coap_server.specs.Plain.{by_plain}
 use Rattle.coap_exchange.specs.AnswererSteps.{unmatched_by}
+use Rattle.coap_server.specs.Trace.{Forgets}
 
 module _ (to : Endpoint) (token : List ℕ) (limits : Limits) (szx : ℕ) (setup : Setup) where
   abbrev own : List Call → Own
@@ -160,6 +162,7 @@ module _ (to : Endpoint) (token : List ℕ) (limits : Limits) (szx : ℕ) (setup
           marked_good to token (max (own t).clock now) (last_of t) path (own t).store left (own t).observers
           (removes_effect ((own t).store.holds path) (rate_refusal (own t).store.tally (max (own t).clock now))
           (own t).store (max (own t).clock now) path answer left refl law.rows.0) g
+      on (Forgets peer) law g = elsewhere_good to token (last_of t) (own t).store.holds peer (own t).observers g
       on _ law g = g
 
 pub are_current : (limits : Limits) (szx : ℕ) (setup : Setup) (t : List Call) → ServerLaw limits szx setup t

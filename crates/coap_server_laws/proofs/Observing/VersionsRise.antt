@@ -51,6 +51,9 @@ use Rattle.coap_server.proofs.Facts.Observing.Outcomes.{expired, lost, responded
 use Rattle.coap_server.proofs.Facts.Serving.Brought.{server_back}
 use Rattle.coap_server.proofs.Facts.Exact.FirstRow.{first_row}
 use Rattle.coap_server_laws.proofs.Replying.Replies.{came_by}
+use Rattle.coap_server_laws.proofs.Observing.OneRegistration.{elsewhere_turn}
+use Rattle.coap_observe.specs.Observers.{elsewhere}
+use Rattle.coap_server.specs.Trace.{Forgets}
 
 abbrev own : Limits → ℕ → List Call → Own
 own limits szx t = own_of limits szx t
@@ -286,6 +289,11 @@ module _ (x : Telling) where
         tick_step t after now w below room passed id answer d h
         (turned_by (heard (own limits szx t) now (ticking (own limits szx t) now below room d)) passed d h law.rows.0.0)
         none l
+    step t after (Forgets peer) law none l =
+        let s : Own = own limits szx t in
+        turned x _ s.store s.store s.observers (elsewhere peer s.observers)
+        (elsewhere_turn x.to x.token s.store peer s.observers)
+        (map_lives s.store s.observers (flight_more x x.way s.exchanges.separate after (Forgets peer)) l)
     step t after c law none l = map_lives _ _ (flight_more x x.way (own limits szx t).exchanges.separate after c) l
 
     pub steps : (after base : List Call) → ServerLaw limits szx setup (after ++ base)

@@ -28,7 +28,7 @@ use Rattle.coap_exchange.specs.AnswererLaw as W
 use Rattle.coap_exchange.specs.AnswererLaw.{ResponseLaw}
 use Rattle.coap_server.specs.Trace.{Own, Handling, Silent, Replies, Serves, Waits, Notifies, Call}
 use Rattle.coap_server.specs.Trace.{Sets}
-use Rattle.coap_server.specs.Trace.{Removes, Feeds, Refuses, Ticks}
+use Rattle.coap_server.specs.Trace.{Removes, Feeds, Ticks}
 use Rattle.coap_server.specs.Responses.{bare}
 use Rattle.coap_server.specs.Checks.{Verdict, Ignored, Refused, Asks, Uploads, verdict_on}
 use Rattle.coap_server.specs.Uploads.{ruling_of, whole, continuing, last_block}
@@ -428,4 +428,12 @@ module _ (limits : Limits) (szx : ℕ) (setup : Setup) (t : List Call) (law : Se
     next_out = let k = takes setup under law.exchanges in (k.0, record { rows = (tt, law.rows); exchanges = k.1 });
     gets = λ path. (mine.store.holds path, record { rows = (refl, law.rows); exchanges = law.exchanges });
     tells_applied = (mine.applied, record { rows = (refl, law.rows); exchanges = law.exchanges });
+    forgets = λ peer. record {
+      rows = (tt, law.rows);
+      exchanges = record {
+        rows = (tt, law.exchanges.rows);
+        left = law.exchanges.left;
+        layer = law.exchanges.layer;
+      };
+    };
   }

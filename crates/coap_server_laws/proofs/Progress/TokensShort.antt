@@ -1,8 +1,9 @@
 -- The tokens of the requests that a server serves, and of its observers, have at most 8 bytes (RFC 7252, section 3).
 use Rattle.std.proofs.Common.{◌≡◌, ◌≤◌, inl, inr, ℕ, ◌-◌, max, nat_le, Bool, true, false, Option, Some, None, List, []}
-use Rattle.std.proofs.Common.{◌∷◌, ◌++◌, length, refl, sym, subst, cond}
+use Rattle.std.proofs.Common.{◌∷◌, ◌++◌, length, not, refl, sym, subst, cond}
 use Rattle.std.proofs.lemmas.Bool.{and_parts}
 use Rattle.coap_types.specs.Past.{Always}
+use Rattle.coap_types.specs.SameEndpoint.{same_endpoint}
 use Rattle.coap_types.specs.declared.endpoint.Endpoint.{Endpoint}
 use Rattle.coap_codec.specs.Message.{Message}
 use Rattle.coap_block.specs.Whole.{Each}
@@ -18,8 +19,8 @@ use Rattle.coap_exchange.specs.AnswererTrace as E
 use Rattle.coap_exchange.specs.AnswererFollows.{AreRequests, same_asked}
 use Rattle.coap_exchange.proofs.Facts.ServerSide.{came_in}
 use Rattle.coap_server.specs.Trace.{Waiting, Own, Handling, Serves, Waits}
-use Rattle.coap_server.specs.Trace.{Call, Feeds, Ticks}
-use Rattle.coap_server.specs.Deferring.{is_of, question_of, without_waiting, AnswersWaiting}
+use Rattle.coap_server.specs.Trace.{Call, Feeds, Forgets, Ticks}
+use Rattle.coap_server.specs.Deferring.{is_of, question_of, waiting_elsewhere, without_waiting, AnswersWaiting}
 use Rattle.coap_server.specs.Handling.{incoming, ticking, heard}
 use Rattle.coap_server.specs.Asks.{answering}
 use Rattle.coap_server.specs.Steps.{ready_in, waiting_due}
@@ -51,6 +52,15 @@ short_without at a (w ∷ ws) h = by (is_of at a w) (short_without at a ws h.1)
 short_due : (at : ℕ) (d : Due) (ws : List Waiting) → AreShort ws → AreShort (waiting_due at (ready_in d) ws)
 short_due at (due.Ready a) ws h = short_without at a ws h
 short_due at _ ws h = h
+
+short_elsewhere : (peer : Endpoint) (ws : List Waiting) → AreShort ws → AreShort (waiting_elsewhere peer ws)
+short_elsewhere peer [] h = tt
+short_elsewhere peer (w ∷ ws) h = by (not (same_endpoint w.asked.from peer)) (short_elsewhere peer ws h.1)
+  where
+    by : (b : Bool) → AreShort (waiting_elsewhere peer ws)
+        → AreShort (cond b (w ∷ waiting_elsewhere peer ws) (waiting_elsewhere peer ws))
+    by true k = (h.0, k)
+    by false k = k
 
 -- what is asked for of them
 pub asked_short : (at : ℕ) (a : Asked) (ws : List Waiting) (q : Question) → AreShort ws → question_of at a ws ≡ Some q
@@ -93,6 +103,7 @@ module _ (limits : Limits) (szx : ℕ) (setup : Setup) where
   short_call t (Ticks now w below room d passed k id answer) law h = short_due _ d (own t).waiting h
   short_call t (Feeds now from bytes w up (Some p) (Waits q delay) below) law h =
       short_more (own t).waiting _ h (fed_short t now from bytes w up p (Waits q delay) below law)
+  short_call t (Forgets peer) law h = short_elsewhere peer (own t).waiting h
   short_call t _ law h = h
 
   pub waiting_short : (t : List Call) → ServerLaw limits szx setup t → AreShort (own t).waiting

@@ -193,6 +193,7 @@ module _ (p : L.Packet) where
   makes s (E.NotifiesPlain at to token r id) right (inr h) = absurd h
   makes s (E.Take answer) right (inl h) = absurd (of_take h)
   makes s (E.Take answer) right (inr h) = absurd h
+  makes s (E.Forgets peer) right h = absurd h
 
   -- .. of some calls, behind others
   pub made_in : (past later : List E.Call) → W.AnswererLaw (later ++ past) → From (asked_by_server past later)

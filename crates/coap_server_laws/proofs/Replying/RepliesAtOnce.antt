@@ -42,6 +42,7 @@ use Rattle.coap_server_laws.proofs.Replying.RepliesSo.{Under, Left, one_back, as
 use Rattle.coap_server.proofs.Facts.Serving.Brought.{server_back}
 use Rattle.coap_server.specs.Asks.{notifies_by}
 use Rattle.coap_server.specs.Plain.{by_plain}
+use Rattle.coap_server.specs.Trace.{Forgets}
 
 -- a piggybacked response behind a refused deferral
 module _ (begin : L.State) (from : Endpoint) (now : ℕ) (bytes : List ℕ) (up : T.Answer) (rest : List G.Asked)
@@ -179,6 +180,7 @@ module _ (limits : Limits) (szx : ℕ) (setup : Setup) where
       here (Plains path answer) law so = so
       here (Gets path answer) law so = so
       here (TellsApplied answer) law so = so
+      here (Forgets peer) law so = so
       here (NextOut answer) law so = quiet_over setup (E.Take answer ∷ []) (lower_of limits szx t)
           ((λ s. (refl, tt)), tt) so
       here (Feeds now from bytes w up came h below) law so =

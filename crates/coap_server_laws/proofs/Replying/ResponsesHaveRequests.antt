@@ -53,6 +53,7 @@ use Rattle.coap_server_laws.proofs.Replying.Sources.{Source}
 use Rattle.coap_server_laws.proofs.Facts.Sources.{sourced}
 use Rattle.coap_server.specs.Asks.{notifies_by}
 use Rattle.coap_server.specs.Plain.{by_plain}
+use Rattle.coap_server.specs.Trace.{Forgets}
 
 not_continue : (code : ℕ) → bad_request ≤ code → code ≢ continue
 not_continue code h is = omega (arith, h, is)
@@ -270,6 +271,7 @@ module _ (limits : Limits) (szx : ℕ) (setup : Setup) (p : L.Packet) where
         ticked now w below room d passed h id answer
         (turned (heard (own t) now (ticking (own t) now below room d)) passed d h law.rows.0.0) k
     here (NextOut answer) law k = elim k [ inl z ↦ absurd z | inr z ↦ absurd z ]
+    here (Forgets peer) law k = elim k [ inl z ↦ absurd z | inr z ↦ absurd z ]
     here _ law k = absurd k
 
   carried : (t : List Call) → ServerLaw limits szx setup t → In (lower_of limits szx t)

@@ -4,16 +4,16 @@ use Rattle.std.proofs.Common.{ap, ◌∙◌, cond}
 use Rattle.coap_types.specs.declared.block.Block.{Block}
 use Rattle.coap_block.specs.declared.block_verdict.BlockVerdict.{BlockVerdict}
 use Rattle.coap_block.specs.declared.block_verdict.BlockVerdict.TheVariants.{Refuse, Join, Done}
-use Rattle.coap_block.specs.AssemblyState.{Key, AssemblyState, same_key}
+use Rattle.coap_block.specs.AssemblyState.{Key, AssemblyState, same_key, without_peer}
 use Rattle.coap_block.specs.AssemblyStep.{verdict_at, after_block}
 use Rattle.coap_block.specs.AssemblyTrace as A
-use Rattle.coap_block.specs.AssemblyTrace.{AssemblyTrace, Made, Arrived, state_after}
+use Rattle.coap_block.specs.AssemblyTrace.{AssemblyTrace, Made, Arrived, Forgot, state_after}
 use Rattle.coap_block.specs.Whole.{Part}
 use Rattle.coap_block.specs.Gathered.{part}
 use Rattle.coap_resource.specs.Serves.{Question}
 use Rattle.coap_resource.specs.Limits.{Limits}
 use Rattle.coap_exchange.specs.declared.answerer.Asked.{Asked}
-use Rattle.coap_server.specs.Trace.{Own, Call, Feeds, Ticks, NextOut}
+use Rattle.coap_server.specs.Trace.{Own, Call, Feeds, Forgets, Ticks, NextOut}
 use Rattle.coap_server.specs.Checks.{Verdict, Ignored, Uploads, verdict_on}
 use Rattle.coap_server.specs.Uploads.{key_of, uploads_after}
 use Rattle.coap_server.specs.Law.{own_of}
@@ -27,6 +27,7 @@ arrived t at a _ = t
 
 abbrev arrived_in : AssemblyTrace → Own → Call → AssemblyTrace
 arrived_in t s (Feeds now from bytes word up (Some p) h below) = arrived t (max s.clock now) p.0 (verdict_on s.szx p.1)
+arrived_in t s (Forgets peer) = Forgot t peer
 arrived_in t s _ = t
 
 abbrev parts_of : List Took → List Part
@@ -98,6 +99,7 @@ module _ (limits : Limits) (szx : ℕ) where
       uploads_with (verdict_on (own t).szx p.1) (max (own t).clock now) p.0 (own t).uploads (history t) (uploads_is t)
   uploads_is (Ticks now word below room d passed h id answer ∷ t) = uploads_is t
   uploads_is (NextOut answer ∷ t) = uploads_is t
+  uploads_is (Forgets peer ∷ t) = ap (λ u. without_peer peer u) (uploads_is t)
   uploads_is (_ ∷ t) = uploads_is t
 
   since_with_is : (key : Key) (v : Verdict) (at : ℕ) (a : Asked) (u : AssemblyState) (h : AssemblyTrace)

@@ -64,3 +64,4 @@ handed_at_most a (E.NotifiesPlain now to token r id ∷ t) law = let k = handed_
     ups_append a (P.lower (W.own_of t) (E.NotifiesPlain now to token r id)) (W.lower_of t) in omega (arith, k, e)
 handed_at_most a (E.Take answer ∷ t) law = let k = handed_at_most a t law.1 in let e =
     ups_append a (P.lower (W.own_of t) (E.Take answer)) (W.lower_of t) in omega (arith, k, e)
+handed_at_most a (E.Forgets peer ∷ t) law = let k = handed_at_most a t law.1 in omega (arith, k)

@@ -1,6 +1,6 @@
 -- Nothing is done of a request that is refused.
-use Rattle.std.proofs.Common.{◌≡◌, ◌≢◌, ◌⊎◌, inl, inr, ℕ, true, false, Bool, ◌||◌, Option, Some, None, List, [], ◌∷◌}
-use Rattle.std.proofs.Common.{refl, sym, subst, ◌∙◌, cond}
+use Rattle.std.proofs.Common.{◌≡◌, ◌≢◌, ◌⊎◌, inl, inr, ℕ, true, false, Bool, ◌||◌, Some, None, List, [], ◌∷◌}
+use Rattle.std.proofs.Common.{refl, sym, subst, cond}
 use Rattle.coap_types.specs.OptionValues.{has}
 use Rattle.coap_types.specs.Recognised.{lacks_critical}
 use Rattle.coap_types.specs.declared.direction.Direction.TheVariants as direction
@@ -11,9 +11,9 @@ use Rattle.coap_codec.specs.Message.{Message}
 use Rattle.coap_resource.specs.Limits.{Limits}
 use Rattle.coap_exchange.specs.declared.answerer.Asked.{Asked}
 use Rattle.coap_server.specs.Trace.{Call, Refuses}
-use Rattle.coap_server.specs.Checks.{asks, bad_option, proxying_not_supported}
+use Rattle.coap_server.specs.Checks.{asks, proxying_not_supported}
 use Rattle.coap_server.specs.Refusing.{bad_response, refusal}
-use Rattle.coap_server.specs.Law.{own_of, ServerRows}
+use Rattle.coap_server.specs.Law.{ServerRows}
 use Rattle.coap_server.specs.Follows.Attended.{IsIgnored}
 use Rattle.coap_server.specs.Follows.Serves.{refuses}
 use Rattle.coap_server.proofs.Facts.Refusing.ErrorsRespond.{response_says}

@@ -45,6 +45,9 @@ use Rattle.coap_server.specs.Follows.Brings.{BlocksCome}
 use Rattle.coap_server.proofs.Facts.Serving.Brought.{server_back, szx_is, comes_here}
 use Rattle.coap_server_laws.proofs.Serving.BlocksTaken.{history, arrived, limit_is, uploads_is, since_is}
 use Rattle.coap_server.proofs.Facts.Serving.SameAsked.{same_asked_is}
+use Rattle.coap_types.specs.SameEndpoint.{same_endpoint}
+use Rattle.coap_server.specs.Deferring.{waiting_elsewhere}
+use Rattle.coap_server.specs.Trace.{Forgets}
 
 -- only a last block is Done
 done_last : (sizes : Sizes) (there : Option ℕ) (others : ℕ) (b : Block) (len : ℕ)
@@ -223,6 +226,16 @@ module _ (limits : Limits) (szx : ℕ) (setup : Setup) where
       by true k = h.1
       by false k = (h.0, k)
 
+  from_elsewhere : (t : List Call) (peer : Endpoint) (ws : List Waiting) → AllFrom t ws
+      → AllFrom t (waiting_elsewhere peer ws)
+  from_elsewhere t peer [] h = tt
+  from_elsewhere t peer (w ∷ ws) h = by (not (same_endpoint w.asked.from peer)) (from_elsewhere t peer ws h.1)
+    where
+      by : (b : Bool) → AllFrom t (waiting_elsewhere peer ws)
+          → AllFrom t (cond b (w ∷ waiting_elsewhere peer ws) (waiting_elsewhere peer ws))
+      by true k = (h.0, k)
+      by false k = k
+
   from_question : (t : List Call) (at : ℕ) (a : Asked) (ws : List Waiting) (q : Question) → AllFrom t ws
       → question_of at a ws ≡ Some q → WasBrought a q t
   from_question t at a [] q h is = absurd (cc is)
@@ -270,6 +283,7 @@ module _ (limits : Limits) (szx : ℕ) (setup : Setup) where
       by (Ticks now w below room d passed h id answer) law k =
           waits_ticked (Ticks now w below room d passed h id answer ∷ t) (max (own t).clock now) d (own t).waiting k
       by (NextOut answer) law k = k
+      by (Forgets peer) law k = from_elsewhere (Forgets peer ∷ t) peer (own t).waiting k
 
   answers_by : (o : Option Question) (old : Content) (at : ℕ) (h : Handling) (q : Question) → AnswersWaiting o old at h
       → question_in h ≡ Some q → o ≡ Some q

@@ -1,5 +1,5 @@
 -- What a server's exchanges ask of the message layer is not of a peer where their calls are not.
-use Rattle.std.proofs.Common.{◌≡◌, ℕ, Bool, true, false, Option, Some, None, List, [], ◌∷◌, ◌++◌}
+use Rattle.std.proofs.Common.{ℕ, Bool, true, false, Option, Some, None, List, [], ◌∷◌, ◌++◌}
 use Rattle.coap_types.specs.declared.endpoint.Endpoint.{Endpoint}
 use Rattle.coap_types.specs.declared.message.Kind.{Kind}
 use Rattle.coap_types.specs.declared.message.Kind.TheVariants.{Con}
@@ -64,6 +64,7 @@ module _ (peer : Endpoint) where
   lower_apart s (E.Notifies now to token r word id) e = (e, tt)
   lower_apart s (E.NotifiesPlain now to token r id) e = (e, tt)
   lower_apart s (E.Take answer) e = (tt, tt)
+  lower_apart s (E.Forgets other) e = tt
 
   pub asks_apart : (past later : List E.Call) → Each AboutElse later → Each Asks (asked_by_server past later)
   asks_apart past [] h = tt

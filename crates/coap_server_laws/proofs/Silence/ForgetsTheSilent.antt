@@ -1,6 +1,6 @@
 -- A server forgets a peer from which nothing comes.
-use Rattle.std.proofs.Common.{◌≡◌, ◌<◌, ◌+◌, ℕ, zero, suc, Bool, true, false, Option, Some, None, List, [], ◌∷◌, ◌++◌}
-use Rattle.std.proofs.Common.{refl, ap, sym, subst, ◌∙◌}
+use Rattle.std.proofs.Common.{ℕ, zero, suc, Bool, true, false, Option, Some, None, List, [], ◌∷◌, ◌++◌}
+use Rattle.std.proofs.Common.{sym, subst}
 use Rattle.coap_types.specs.declared.endpoint.Endpoint.{Endpoint}
 use Rattle.coap_types.specs.declared.message.Kind.{Kind}
 use Rattle.coap_types.specs.declared.message.Kind.TheVariants.{Con}
@@ -28,7 +28,7 @@ use Rattle.coap_exchange.specs.AskerRequests.{asked}
 use Rattle.coap_exchange.specs.AskerArrivals.{id_in, replying}
 use Rattle.coap_server.specs.Trace.{Own, Handling, Replies, Serves, Waits, Notifies, Call}
 use Rattle.coap_server.specs.Trace.{Feeds, Refuses, Ticks, NextOut}
-use Rattle.coap_server.specs.Asks.{lower, answering, responding, notifies_by}
+use Rattle.coap_server.specs.Asks.{lower, answering, responding}
 use Rattle.coap_server.specs.Refusing.{refusing}
 use Rattle.coap_server.specs.Deferring.{deferral, deferral_by, delay_for}
 use Rattle.coap_server.specs.Handling.{heard, incoming, ticking}
@@ -44,6 +44,7 @@ use Rattle.coap_server_laws.proofs.Telling.LayerCalls.{asked_next}
 use Rattle.coap_server_laws.proofs.Silence.LayerApart.{Else}
 use Rattle.coap_server_laws.proofs.Silence.LayerForgets.{AreBehind, AreLive, AreOld, HeardElse, none_left, old_then}
 use Rattle.coap_server_laws.proofs.Silence.LayerForgets.{steps_behind, steps_live, steps_old}
+use Rattle.coap_server.specs.Trace.{Forgets}
 
 module _ (peer : Endpoint) (since : ℕ) where
   -- nothing comes from the peer
@@ -86,6 +87,7 @@ module _ (peer : Endpoint) (since : ℕ) where
   lower_heard s (E.Notifies now to token r word id) e = (tt, tt)
   lower_heard s (E.NotifiesPlain now to token r id) e = (tt, tt)
   lower_heard s (E.Take answer) e = (tt, tt)
+  lower_heard s (E.Forgets other) e = tt
 
   asks_heard : (past later : List E.Call) → Each BringsElse later → Each Asks (asked_by_server past later)
   asks_heard past [] h = tt
@@ -144,6 +146,7 @@ module _ (peer : Endpoint) (since : ℕ) where
       each_join BringsElse (responding (heard s now first) d passed h w id) (first ∷ [])
       (responding_heard (heard s now first) d passed h w id) (tt, tt)
   call_heard s (NextOut answer) e = (tt, tt)
+  call_heard s (Forgets other) e = (tt, tt)
   call_heard s _ e = tt
 
   module _ (limits : Limits) (szx : ℕ) (setup : Setup) where

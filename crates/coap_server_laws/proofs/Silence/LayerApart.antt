@@ -1,6 +1,6 @@
 -- A message layer that has nothing for a peer sends it nothing, unless it hears from it or is asked to send there.
-use Rattle.std.proofs.Common.{◌≡◌, ℕ, zero, suc, Bool, true, false, Option, Some, None, List, [], ◌∷◌, ◌++◌, drop}
-use Rattle.std.proofs.Common.{refl, ap, sym, subst, cond, filter_map, option_to_list, slice_get}
+use Rattle.std.proofs.Common.{◌≡◌, ℕ, zero, suc, Bool, true, false, Option, Some, None, List, [], ◌∷◌, drop}
+use Rattle.std.proofs.Common.{sym, subst, cond, filter_map, option_to_list, slice_get}
 use Rattle.std.specs.List.{cons_option}
 use Rattle.coap_types.specs.SameEndpoint.{same_endpoint}
 use Rattle.coap_types.specs.declared.endpoint.Endpoint.{Endpoint}

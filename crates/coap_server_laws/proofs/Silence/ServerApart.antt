@@ -1,6 +1,6 @@
 -- A server that has nothing of a peer asks nothing of its exchanges that is about it, and goes on to have nothing.
 use Rattle.std.proofs.Common.{◌≡◌, ℕ, zero, suc, ◌==◌, ◌-◌, max, nat_le, not, Bool, true, false, Option, Some, None}
-use Rattle.std.proofs.Common.{List, [], ◌∷◌, ◌++◌, refl, ap, sym, subst, ◌∙◌, cond}
+use Rattle.std.proofs.Common.{List, [], ◌∷◌, refl, ap, sym, subst, ◌∙◌, cond}
 use Rattle.std.proofs.lemmas.Bool.{and_parts}
 use Rattle.coap_types.specs.declared.endpoint.Endpoint.{Endpoint}
 use Rattle.coap_codec.specs.Message.{Message}
@@ -9,7 +9,7 @@ use Rattle.coap_layer.specs.declared.setup.Setup.{Setup}
 use Rattle.coap_block.specs.Whole.{Each}
 use Rattle.coap_observe.specs.Observers.{Observer, changed_at, is_of as is_of_pair, marked_by, noted_by, noted_to}
 use Rattle.coap_observe.specs.Observers.{removed}
-use Rattle.coap_observe.specs.Observers.{begun, registered, sent_to, unmarked_by}
+use Rattle.coap_observe.specs.Observers.{begun, registered, unmarked_by}
 use Rattle.coap_resource.specs.Content.{Content, Held}
 use Rattle.coap_resource.specs.RequestOptions.{block_of, szx_by}
 use Rattle.coap_resource.specs.Serves.{Question, Reply}
@@ -23,13 +23,13 @@ use Rattle.coap_exchange.specs.AnswererTrace as E
 use Rattle.coap_exchange.specs.AnswererTrace.{Sending}
 use Rattle.coap_exchange.specs.AnswererSteps as P
 use Rattle.coap_exchange.specs.AnswererSteps.{may_defer, unmatched_by}
-use Rattle.coap_server.specs.Trace.{Own, Waiting, Handling, Silent, Replies, Serves, Waits, Notifies, Call}
+use Rattle.coap_server.specs.Trace.{Own, Waiting, Handling, Call}
 use Rattle.coap_server.specs.Trace.{Sets, Removes, Delays, Plains, Feeds, Refuses, Ticks, NextOut, Gets, TellsApplied}
-use Rattle.coap_server.specs.Asks.{lower, answering, responding, notifies_by}
+use Rattle.coap_server.specs.Asks.{lower, answering, notifies_by}
 use Rattle.coap_server.specs.Refusing.{refusing}
 use Rattle.coap_server.specs.Deferring.{deferral, deferral_by, delay_for, is_of, question_of, without_waiting}
 use Rattle.coap_server.specs.Handling.{heard, incoming, ticking}
-use Rattle.coap_server.specs.Notifying.{behind, marked, notification, notified, readies}
+use Rattle.coap_server.specs.Notifying.{marked, notification, notified, readies}
 use Rattle.coap_server.specs.Observers.{marked_if, observers_with, observes, registers, unless_ended, unless_rejected}
 use Rattle.coap_server.specs.Plain.{by_plain}
 use Rattle.coap_server.specs.Serving.{observers_served}
@@ -47,6 +47,8 @@ use Rattle.coap_server_laws.specs.Follows.Silent.{HearsElse}
 use Rattle.coap_server_laws.proofs.Replying.Replies.{came_by}
 use Rattle.coap_server_laws.proofs.Silence.LayerApart.{Else}
 use Rattle.coap_server_laws.proofs.Silence.ExchangesApart.{AboutElse}
+use Rattle.coap_server.specs.Trace.{Forgets}
+use Rattle.coap_types.specs.SameEndpoint.{same_endpoint}
 
 module _ (peer : Endpoint) where
   abbrev ElseTo : Observer → Type 0
@@ -287,6 +289,13 @@ module _ (peer : Endpoint) where
     call_apart (Gets path answer) law e k = (k, tt)
     call_apart (TellsApplied answer) law e k = (k, tt)
     call_apart (NextOut answer) law e k = (record { observers = k.observers; waiting = k.waiting }, (tt, tt))
+    call_apart (Forgets other) law e k = (
+      record {
+        observers = each_kept ElseTo (λ o. not (same_endpoint o.to other)) own.observers k.observers;
+        waiting = each_kept ElseWaits (λ w. not (same_endpoint w.asked.from other)) own.waiting k.waiting;
+      },
+      (tt, tt),
+    )
     call_apart (Feeds now from bytes w up c h below) law e k =
         let s : Own = heard own now (incoming own now from bytes up c) in
         let row = first_row setup (answering s c h below) (incoming own now from bytes up c) (lower_of limits szx t)

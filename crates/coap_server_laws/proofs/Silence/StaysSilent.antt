@@ -1,7 +1,7 @@
 -- A server sends nothing to a peer of which it has nothing, until a datagram of that peer arrives.
-use Rattle.std.proofs.Common.{◌≡◌, ℕ, max, Bool, true, false, ◌||◌, Option, Some, None, List, [], ◌∷◌, ◌++◌, refl, ap}
+use Rattle.std.proofs.Common.{◌≡◌, ℕ, Bool, true, false, ◌||◌, Some, List, [], ◌∷◌, ◌++◌, refl}
 use Rattle.std.proofs.Common.{sym}
-use Rattle.std.proofs.Common.{subst, ◌∙◌}
+use Rattle.std.proofs.Common.{subst}
 use Rattle.std.specs.List.{list_any}
 use Rattle.coap_types.specs.SameEndpoint.{same_endpoint}
 use Rattle.coap_types.specs.declared.endpoint.Endpoint.{Endpoint}
@@ -16,7 +16,7 @@ use Rattle.coap_layer.specs.declared.setup.Setup.{Setup}
 use Rattle.coap_block.specs.Whole.{Each}
 use Rattle.coap_observe.specs.Observers.{Observer}
 use Rattle.coap_resource.specs.Limits.{Limits}
-use Rattle.coap_server.specs.Trace.{Own, Waiting, Call, NextOut}
+use Rattle.coap_server.specs.Trace.{Waiting, Call, NextOut}
 use Rattle.coap_server.specs.Asks.{lower}
 use Rattle.coap_server.specs.Law.{ServerLaw, lower_of, own_of}
 use Rattle.coap_server.specs.Led.{state_left}
@@ -25,7 +25,7 @@ use Rattle.coap_server.proofs.Facts.Serving.Brought.{server_back}
 use Rattle.coap_server_laws.specs.Follows.Adds.{all_asked, call_asks}
 use Rattle.coap_server_laws.specs.Follows.Silent.{GivesElse, HearsElse, StaysSilent}
 use Rattle.coap_server_laws.proofs.Telling.LayerCalls.{asked_next}
-use Rattle.coap_server_laws.proofs.Silence.LayerApart.{Apart, Else, given_apart, steps_apart}
+use Rattle.coap_server_laws.proofs.Silence.LayerApart.{Apart, given_apart, steps_apart}
 use Rattle.coap_server_laws.proofs.Silence.ExchangesApart.{asks_apart}
 use Rattle.coap_server_laws.proofs.Silence.ServerApart.{OwnApart, call_apart}
 

@@ -113,6 +113,7 @@ module _ (K : L.Call → L.Answer → Type 0) where
   origin q s (E.NotifiesPlain at to token r id) (inr h) = absurd h
   origin q s (E.Take answer) (inl h) = absurd (q.take _ h)
   origin q s (E.Take answer) (inr h) = absurd h
+  origin q s (E.Forgets peer) h = absurd h
 
   -- of several calls, the one that gives it
   pub record Given (later : List E.Call) : Type 0 where

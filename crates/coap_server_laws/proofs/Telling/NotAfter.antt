@@ -39,6 +39,7 @@ use Rattle.coap_server.proofs.Facts.Observing.StoreSteps.{clock_rises}
 use Rattle.coap_server.proofs.Facts.Serving.Brought.{server_back}
 use Rattle.coap_server.proofs.Facts.Serving.Waiting.{mirrors}
 use Rattle.coap_server_laws.proofs.Telling.LayerCalls.{asked_next}
+use Rattle.coap_server.specs.Trace.{Forgets}
 
 -- up to this moment
 module _ (t : ℕ) where
@@ -66,10 +67,12 @@ module _ (t : ℕ) where
   Asks (E.Notifies now to token r word id) = now ≤ t
   Asks (E.NotifiesPlain now to token r id) = now ≤ t
   Asks (E.Take answer) = Unit {0}
+  Asks (E.Forgets peer) = Unit {0}
 
   own_by : (s : E.Own) (c : E.Call) → s.clock ≤ t → Asks c → (P.after s c).clock ≤ t
   own_by s (E.Answers a r below) h k = h
   own_by s (E.Take answer) h k = h
+  own_by s (E.Forgets peer) h k = h
   own_by s _ h k = omega (arith, h, k)
 
   owns_by : (past later : List E.Call) → (W.own_of past).clock ≤ t → Each Asks later
@@ -101,6 +104,7 @@ module _ (t : ℕ) where
       each_join Early (P.asking_room now (P.ready_if below (P.ready_at s now)) room) (asked now L.Ticks below ∷ [])
       (room_early now (P.ready_if below (P.ready_at s now)) room k) (k, tt)
   lower_early s (E.Take answer) h k = (omega arith, tt)
+  lower_early s (E.Forgets peer) h k = tt
   lower_early s _ h k = (k, tt)
 
   pub wishes : (past later : List E.Call) → (W.own_of past).clock ≤ t → Each Asks later
@@ -149,6 +153,7 @@ module _ (limits : Limits) (szx : ℕ) (setup : Setup) where
 
   call_asks_early : (t : List Call) (c : Call) → Each (Asks (own (c ∷ t)).clock) (lower (own t) c)
   call_asks_early t (NextOut answer) = (tt, tt)
+  call_asks_early t (Forgets peer) = (tt, tt)
   call_asks_early t (Feeds now from bytes w up came h below) =
       let at : ℕ = max (own t).clock now in
       let first : E.Call = incoming (own t) now from bytes up came in

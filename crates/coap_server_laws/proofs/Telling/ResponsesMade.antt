@@ -37,6 +37,7 @@ use Rattle.coap_server_laws.proofs.Replying.ResponsesHaveRequests.{replies}
 use Rattle.coap_server.specs.Plain.{by_plain}
 use Rattle.coap_server.proofs.Facts.Calls.NotifiesBy.{in_either}
 use Rattle.coap_server.specs.Notifying.{notification}
+use Rattle.coap_server.specs.Trace.{Forgets}
 
 abbrev SendsIn : Asked → E.Response → List E.Call → Type 0
 SendsIn a r cs = Ever (λ b. responds_with b ≡ Some (a, r)) cs
@@ -206,6 +207,7 @@ module _ (limits : Limits) (szx : ℕ) (setup : Setup) (t : List Call) (a : Aske
       inr (inr (record { code = n; handed = ap Some same.0; unserved = refl; refuses = refl; is = sym same.1 }))
   here (Ticks now w below room d passed h id answer) law k = ticked now w below room d passed h id answer k
   here (NextOut answer) law k = absurd (last_none a r (E.Take answer) (λ z. cc z) k)
+  here (Forgets peer) law k = absurd (last_none a r (E.Forgets peer) (λ z. cc z) k)
   here _ law k = absurd k
 
 pub made_here : (limits : Limits) (szx : ℕ) (setup : Setup) (t : List Call) (c : Call)

@@ -58,6 +58,7 @@ use Rattle.coap_server.proofs.Facts.Calls.EachOf.{each_join}
 use Rattle.coap_server.proofs.Facts.Observing.Outcomes.{next_one, serves_came, serves_waited}
 use Rattle.coap_server_laws.proofs.Telling.NotedOptions.{none_recognised, tag_recognised}
 use Rattle.coap_server_laws.proofs.Replying.ResponsesHaveRequests.{never_replies}
+use Rattle.coap_server.specs.Trace.{Forgets}
 
 -- the response is a 2.05 with Observe
 pub record Notes (r : E.Response) : Type 0 where
@@ -333,4 +334,5 @@ module _ (limits : Limits) (szx : ℕ) (setup : Setup) (t : List Call) where
       (heard own now first) d passed h w id)
       (first ∷ []) (ticked now w below room d passed h id answer law) (tt, tt)
   mean (NextOut answer) law = (tt, tt)
+  mean (Forgets peer) law = (tt, tt)
   mean _ law = tt

@@ -1,12 +1,9 @@
 -- The history of a server that notifies an observer stands in its law.
-use Rattle.std.proofs.Common.{◌≡◌, ◌≢◌, ℕ, Bool, true, false, Some, None, cond, List, [], ◌∷◌, refl, ap, sym, ◌∙◌}
+use Rattle.std.proofs.Common.{◌≡◌, ◌≢◌, ℕ, Bool, true, false, Some, None, cond, List, [], refl, ap, sym, ◌∙◌}
 use Rattle.std.proofs.Common.{arith}
-use Rattle.std.proofs.lemmas.Bool.{and_parts, ltb-true}
-use Rattle.std.specs.Prelude.{nat_lt, codes}
-use Rattle.std.specs.List.{list_all}
+use Rattle.std.specs.Prelude.{codes}
 use Rattle.coap_types.specs.Path.{same_path}
 use Rattle.coap_types.proofs.Facts.Paths.{same_path-decides}
-use Rattle.coap_types.proofs.Facts.Bytes.{AreBytes-nil, AreBytes-cons}
 use Rattle.coap_codec.specs.Reading.{extended, value_at, nibbles_at, option_at, walk_of, walk, payload_at, frame_fault}
 use Rattle.coap_codec.specs.Reading.{body_at}
 use Rattle.coap_codec.specs.Decoded.{decoded}

@@ -18,7 +18,7 @@ use Rattle.coap_exchange.specs.AnswererLaw as W
 use Rattle.coap_exchange.specs.AnswererSteps.{content_of}
 use Rattle.coap_server.specs.Law.{ServerLaw, ServerRows, lower_of}
 use Rattle.coap_server_laws.specs.Examples.Observation.{limits, path}
-use Rattle.coap_server_laws.specs.Examples.Upload.{front, last, held, made, put, asked, continues, created}
+use Rattle.coap_server_laws.specs.Examples.Upload.{front, last, held, made, asked, continues, created}
 use Rattle.coap_server_laws.specs.Examples.Upload.{run}
 
 there : cond (same_path path path) (Some held) None ≡ Some held

@@ -11,7 +11,7 @@ use Rattle.coap_resource.specs.Limits.{Limits}
 use Rattle.coap_exchange.specs.declared.answerer.Asked.{Asked}
 use Rattle.coap_exchange.specs.declared.answerer.Due.{Due}
 use Rattle.coap_server.specs.Trace.{Applied, Handling, Call, Sets, Removes, Delays, Feeds, Ticks}
-use Rattle.coap_server.specs.Trace.{NextOut, Gets, Plains, TellsApplied}
+use Rattle.coap_server.specs.Trace.{NextOut, Gets, Plains, TellsApplied, Forgets}
 use Rattle.coap_server.specs.Refusing.{is_error, refused_or_fed}
 use Rattle.coap_server.specs.Law.{ServerLaw}
 
@@ -41,3 +41,4 @@ pub record GoesOn (limits : Limits) (szx : ℕ) (setup : Setup) (t : List Call) 
   pub next_out : (answer : Option L.Packet) × ServerLaw limits szx setup (NextOut answer ∷ t)
   pub gets : (path : List (List ℕ)) → (answer : Option Held) × ServerLaw limits szx setup (Gets path answer ∷ t)
   pub tells_applied : (answer : List Applied) × ServerLaw limits szx setup (TellsApplied answer ∷ t)
+  pub forgets : (peer : Endpoint) → ServerLaw limits szx setup (Forgets peer ∷ t)

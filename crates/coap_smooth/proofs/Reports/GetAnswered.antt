@@ -174,7 +174,7 @@ module _ (config : Config) (low : config.server_szx ≤ 6) (number : ℕ) (all :
         ⊎_elim (λ f. (let k = comes_to w c later law a f.verdict (law.came.0 a f.verdict f.comes r.to_client)
         r.token_is in
         absurd (not_refused f.uploads f.at a f.verdict k.0 f.code k.1 f.refuses_so)))
-        (λ k. (let e : Some k.0 ≡ None = sym k.1 ∙ law.unrefused.0 in absurd (cc e)))
+        (λ k. (let e : Some k.0 ≡ None = sym k.1 ∙ law.unrefused.0.unrefused in absurd (cc e)))
         (refused_in config.limits config.server_szx config.server_setup (server_trace config w) c a n law.server handed
         is)
     says_part w c later law there (notifies o reply here made shows so) =

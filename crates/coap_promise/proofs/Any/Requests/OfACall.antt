@@ -92,7 +92,7 @@ pub taken_later : (x : Taken) (past : List Entry) (e : Entry) → WasTaken x (cl
 taken_later x past (OfClient c) h = inr h
 taken_later x past (OfServer c) h = h
 
--- the laws of a record, at any time; its server refuses no request
+-- the laws of a record, at any time; its server refuses no request and forgets no peer
 pub record Lawful (config : Config) (t : List Entry) : Type 0 where
   pub fair : FairLaw config.client_setup config.server_setup config.addresses.client config.addresses.server
       (hops_in config t)

@@ -31,6 +31,7 @@ use Rattle.coap_record.specs.Record.{OfServer}
 use Rattle.coap_promise.proofs.Facts.Delivery.EntriesInTime.{Every, every_join, Timely, Done, done, nothing_done, takes}
 use Rattle.coap_promise.proofs.Delivery.ResponsesInTime.{Asks, owns_by, wishes, ends}
 use Rattle.coap_promise.proofs.Facts.Delivery.HopsAreEntries.{server_asked_next}
+use Rattle.coap_server.specs.Trace.{Forgets}
 
 -- the moment that it is handed
 abbrev pub IsAt : ℕ → Call → Type 0
@@ -124,6 +125,7 @@ module _ (t : ℕ) (F : Endpoint → List ℕ → Type 0) where
       every_join (Asks t F) (responding z d passed w word id) (ticking s now below room d ∷ [])
       (responding_asks z d passed w word id k) (k, tt)
   lower_asks s (NextOut answer) h at f = (tt, tt)
+  lower_asks s (Forgets peer) h at f = (tt, tt)
   lower_asks s _ h at f = tt
 
 module _ (config : Config) where

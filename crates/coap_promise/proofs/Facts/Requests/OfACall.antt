@@ -22,7 +22,7 @@ use Rattle.coap_record.specs.Events.{Config}
 use Rattle.coap_record.specs.Legal.{IsRequest}
 use Rattle.coap_record.specs.Record.{Entry, OfServer, client_of, server_trace}
 
--- the laws of a record, and the clocks by which they hold; its server refuses no request
+-- the laws of a record, and the clocks by which they hold; its server refuses no request and forgets no peer
 pub record Lawful (config : Config) (t : List Entry) : Type 0 where
   pub clocks : Clocks
   pub channel : IsChannel clocks config t

@@ -103,6 +103,7 @@ module _ (Q N : Endpoint → L.Content → Type 0) where
   sends_so s (R.Notifies now to token r word id) q = (in_con to (P.content_with token r) word q, tt)
   sends_so s (R.NotifiesPlain now to token r id) q = (in_non to (P.content_with token r) q, tt)
   sends_so s (R.Take answer) q = (other L.Take (λ to content word is. cc is) (λ to content is. cc is), tt)
+  sends_so s (R.Forgets peer) q = tt
 
   pub entries_so : (old : State) (asks : List Asked) → Every IsAskedSo asks → Every IsEntrySo (entries old asks)
   entries_so old [] h = tt

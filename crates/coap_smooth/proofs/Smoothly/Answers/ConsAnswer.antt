@@ -205,6 +205,8 @@ module _ (to : Endpoint) where
       by (inr (inr z)) = absurd z
   begins_in s (S.NextOut answer) (inl k) = absurd (cc k)
   begins_in s (S.NextOut answer) (inr k) = absurd k
+  begins_in s (S.Forgets peer) (inl k) = absurd (cc k)
+  begins_in s (S.Forgets peer) (inr k) = absurd k
   begins_in s _ k = absurd k
 
 module _ (limits : Limits) (szx : ℕ) (setup : Setup) (t : List S.Call) (c : S.Call) where

@@ -236,6 +236,7 @@ quiet_work s (R.Ticks now below room answer) h =
     (quiet_room now (ready_if below (ready_at s now)) room) (record { takes = refl; hands = λ x. refl }, tt)
 quiet_work s (R.Ready now to answer) h = (record { takes = refl; hands = λ x. refl }, tt)
 quiet_work s (R.Take answer) h = absurd h
+quiet_work s (R.Forgets peer) h = tt
 quiet_work s _ h = (record { takes = refl; hands = λ answer. refl }, tt)
 
 quiet_works : (past later : List R.Call) → Every IsWork later → Every IsQuiet (asked_by_server past later)

@@ -272,6 +272,8 @@ module _ (config : Config) (observers : (t : List S.Call) → AreObservers confi
         }))
     plain_now t (S.NextOut answer) law heard (inl k) = absurd (cc k)
     plain_now t (S.NextOut answer) law heard (inr k) = absurd k
+    plain_now t (S.Forgets peer) law heard (inl k) = absurd (cc k)
+    plain_now t (S.Forgets peer) law heard (inr k) = absurd k
     plain_now t _ law heard k = absurd k
 
   abbrev PlainToClient : L.Entry → Type 0

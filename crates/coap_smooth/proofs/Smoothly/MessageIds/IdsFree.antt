@@ -176,6 +176,7 @@ module _ (config : Config) (observers : (t : List S.Call) → AreObservers confi
           there = refl;
         }))
     none_here (S.NextOut answer) whole = (refl, tt)
+    none_here (S.Forgets peer) whole = (refl, tt)
     none_here _ whole = tt
 
   at_first : (ss : List Setting)

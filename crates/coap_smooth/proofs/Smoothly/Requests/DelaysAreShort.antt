@@ -1,6 +1,6 @@
--- In a run the delays are those with which the server began.
-use Rattle.std.proofs.Common.{◌≡◌, inl, inr, ◌≤◌, ◌<◌, ℕ, ◌+◌, Bool, true, false, Some, List, [], ◌∷◌, ◌++◌, map, refl}
-use Rattle.std.proofs.Common.{ap, sym}
+-- In a run the delays are those with which the server began, and no peer is forgotten.
+use Rattle.std.proofs.Common.{◌≡◌, inl, inr, ◌≤◌, ◌<◌, ℕ, ◌+◌, Bool, true, false, Some, None, List, []}
+use Rattle.std.proofs.Common.{◌∷◌, ◌++◌, map, refl, ap, sym}
 use Rattle.std.proofs.Common.{subst, ◌∙◌, arith}
 use Rattle.std.specs.List.{All}
 use Rattle.std.proofs.lemmas.List.Elements.{All-head, All-tail}
@@ -8,6 +8,7 @@ use Rattle.coap_types.specs.Past.{Ever}
 use Rattle.coap_layer.specs.Trace.{Packet}
 use Rattle.coap_client.specs.Trace as C
 use Rattle.coap_server_laws.specs.Follows.Delayed.{sets_delay}
+use Rattle.coap_server.specs.Follows.Serves.{forgets}
 use Rattle.coap_server.specs.Trace as S
 use Rattle.coap_server.specs.Trace.{Delay}
 use Rattle.coap_record.specs.Events.{Config, What, Sets, Removes, TickServer, Deliver, StrangerToServer}
@@ -22,13 +23,18 @@ use Rattle.coap_promise.proofs.Facts.Delivery.ClientTurns.{turn_calls as client_
 use Rattle.coap_promise.proofs.Facts.Delivery.ServerTurns.{turn_calls as server_turn_calls}
 use Rattle.coap_record.specs.declared.addresses.Addresses.{Addresses}
 
--- the entry sets no delay
+-- the call sets no delay, and forgets nobody
+pub record NotSet (c : S.Call) : Type 0 where
+  pub no_delay : sets_delay c ≡ false
+  pub unforgotten : forgets c ≡ None
+
+not_set : (c d : S.Call) → c ≡ d → sets_delay d ≡ false → forgets d ≡ None → NotSet c
+not_set c d is delay keeps = subst NotSet (sym is) (record { no_delay = delay; unforgotten = keeps })
+
+-- .. nor does the entry
 abbrev pub SetsNone : Entry → Type 0
 SetsNone (OfClient c) = Unit {0}
-SetsNone (OfServer c) = sets_delay c ≡ false
-
-abbrev NotSet : S.Call → Type 0
-NotSet c = sets_delay c ≡ false
+SetsNone (OfServer c) = NotSet c
 
 none_of_client : (cs : List C.Call) → Every SetsNone (map OfClient cs)
 none_of_client [] = tt
@@ -41,7 +47,7 @@ none_of_server (c ∷ cs) h = (h.0, none_of_server cs h.1)
 outs_set_none : (outs : List Packet) (calls : List S.Call) → Every NotSet calls
     → Every NotSet (map (λ p. S.NextOut (Some p)) outs ++ calls)
 outs_set_none [] calls h = h
-outs_set_none (p ∷ outs) calls h = (refl, outs_set_none outs calls h)
+outs_set_none (p ∷ outs) calls h = (record { no_delay = refl; unforgotten = refl }, outs_set_none outs calls h)
 
 on_client : (calls : List C.Call) (entries : List Entry) → OnClient calls entries → Every SetsNone entries
 on_client calls entries on =
@@ -53,21 +59,21 @@ on_server : (calls : List S.Call) (entries : List Entry) → Every NotSet calls 
 on_server calls entries h on =
     subst (Every SetsNone) (sym on.is)
     (none_of_server (server_turn_calls on.outs calls)
-    (refl, outs_set_none on.outs calls h))
+    (record { no_delay = refl; unforgotten = refl }, outs_set_none on.outs calls h))
 
 module _ (addresses : Addresses) (past : List Turn) (t : ℕ) (word : ℕ) (refused : Bool) (entries : List Entry) where
   made_none : (what : What) → Makes addresses past t word what refused entries → Every SetsNone entries
   made_none (Sets path format body) m =
-      on_server m.0 entries (each_one _ NotSet (λ c h. subst NotSet (sym h.2) refl) refused m.0 m.1) m.2
+      on_server m.0 entries (each_one _ NotSet (λ c h. not_set c _ h.2 refl refl) refused m.0 m.1) m.2
   made_none (Removes path) m =
-      on_server m.0 entries (each_one _ NotSet (λ c h. subst NotSet (sym h.2) refl) false m.0 m.1.0) m.2
+      on_server m.0 entries (each_one _ NotSet (λ c h. not_set c _ h.2 refl refl) false m.0 m.1.0) m.2
   made_none TickServer m =
       on_server m.0 entries
-      (each_tick (ServerTick t word) NotSet (λ b c h. subst NotSet (sym h.6) refl) refused m.0 m.1) m.2
+      (each_tick (ServerTick t word) NotSet (λ b c h. not_set c _ h.6 refl refl) refused m.0 m.1) m.2
   made_none (StrangerToServer from bytes) m =
-      on_server m.0 entries (each_one _ NotSet (λ c h. subst NotSet (sym h.4) refl) refused m.0 m.1) m.2
+      on_server m.0 entries (each_one _ NotSet (λ c h. not_set c _ h.4 refl refl) refused m.0 m.1) m.2
   made_none (Deliver number) m = elim m.2 [
-    | inl d ↦ on_server d.1 entries (each_one _ NotSet (λ c h. subst NotSet (sym h.4) refl) refused d.1 d.2) d.3
+    | inl d ↦ on_server d.1 entries (each_one _ NotSet (λ c h. not_set c _ h.4 refl refl) refused d.1 d.2) d.3
     | inr d ↦ on_client d.1 entries d.3
   ]
   made_none _ m = on_client m.0 entries m.2
@@ -101,7 +107,7 @@ pub among_delays : (config : Config) (es : List Entry) → Every SetsNone es →
 among_delays config [] none path ms h = among_first config.plains config.delays path ms h
 among_delays config (OfClient c ∷ es) none path ms h = among_delays config es none.1 path ms h
 among_delays config (OfServer c ∷ es) none path ms (inl h) =
-    let k = sym none.0 ∙ ap sets_delay h in absurd (cc k)
+    let k = sym none.0.no_delay ∙ ap sets_delay h in absurd (cc k)
 among_delays config (OfServer c ∷ es) none path ms (inr h) = among_delays config es none.1 path ms h
 
 -- .. and is no longer than the longest, with which an exchange may be open longer

@@ -172,7 +172,7 @@ module _ (config : Config) where
           (subst (LayerLaw config.server_setup) parts layer)).0
 
       feed : ServerFed config.addresses.client con.bytes e.answer c
-      feed = server_fed config.addresses.client con.bytes e.answer c at.call at.up law.unrefused.0
+      feed = server_fed config.addresses.client con.bytes e.answer c at.call at.up law.unrefused.0.unrefused
 
       answer : e.answer ≡ L.Becomes (L.Request n true)
       answer = as_request config.server_setup (server_layer config t) e config.addresses.client con.id con.bytes n

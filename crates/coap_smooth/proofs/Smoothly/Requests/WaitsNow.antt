@@ -13,7 +13,7 @@ use Rattle.coap_smooth.specs.AtOnce.{WaitsAt, WaitsIn, TickAnswers, WaitedIn}
 use Rattle.coap_record.specs.Events.{Config}
 use Rattle.coap_record.specs.Record.{Entry, OfClient, OfServer, server_trace}
 use Rattle.coap_promise.proofs.Facts.Delivery.EntriesInTime.{Every}
-use Rattle.coap_smooth.proofs.Smoothly.Requests.DelaysAreShort.{SetsNone, IsAmong, among_delays}
+use Rattle.coap_smooth.proofs.Smoothly.Requests.DelaysAreShort.{NotSet, SetsNone, IsAmong, among_delays}
 use Rattle.coap_smooth.proofs.Smoothly.Ticks.NothingIsLeft.{ForServer, server_behind}
 
 module _ (config : Config) (when : ℕ) (x : Sending) where
@@ -53,29 +53,31 @@ module _ (config : Config) (when : ℕ) (x : Sending) where
       }
 
   -- what is no tick answers nothing that waits
-  goes_on : (w : Waiting) (past : List Entry) (c : S.Call) → ForServer config (OfServer c ∷ past) → Still w past
-      → Still w (OfServer c ∷ past) ⊎ TickAnswers config w past c
-  goes_on w past (S.Ticks now word below room d passed h id answer) law still =
-      ⊎_elim (λ k. inl k) (λ answers. inr (record {
+  goes_on : (w : Waiting) (past : List Entry) (c : S.Call) → ForServer config (OfServer c ∷ past) → NotSet c
+      → Still w past → Still w (OfServer c ∷ past) ⊎ TickAnswers config w past c
+  goes_on w past (S.Ticks now word below room d passed h id answer) law none still =
+      ⊎_elim (λ k. inl k) (⊎_elim (λ answers. inr (record {
         waited = still;
         now = now;
         answer = answer;
         tick = (word, below, room, d, passed, h, id, refl);
         answers = answers;
-      }))
+      })) (λ forgotten. absurd (cc forgotten)))
       ((server_facts.waits_on config.limits config.server_szx config.server_setup
       (S.Ticks now word below room d passed h id answer ∷ server_trace config past) law).0 w still)
-  goes_on w past (S.Feeds now from bytes word up came h below) law still =
+  goes_on w past (S.Feeds now from bytes word up came h below) law none still =
       let s : S.Own = own_of config.limits config.server_szx (server_trace config past) in
       inl (behind (max s.clock now) came h w s.waiting still)
-  goes_on w past _ law still = inl still
+  goes_on w past (S.Forgets peer) law none still = let e = none.unforgotten in absurd (cc e)
+  goes_on w past _ law none still = inl still
 
   carried : (w : Waiting) (past : List Entry) → Still w past ⊎ Sometime (WaitedIn config w) past → (e : Entry)
-      → ForServer config (e ∷ past) → Still w (e ∷ past) ⊎ Sometime (WaitedIn config w) (e ∷ past)
-  carried w past (inl h) (OfServer c) law = ⊎_elim (λ k. inl k) (λ k. inr (inl k)) (goes_on w past c law h)
-  carried w past (inr h) (OfServer c) law = inr (inr h)
-  carried w past (inl h) (OfClient c) law = inl h
-  carried w past (inr h) (OfClient c) law = inr (inr h)
+      → ForServer config (e ∷ past) → SetsNone e → Still w (e ∷ past) ⊎ Sometime (WaitedIn config w) (e ∷ past)
+  carried w past (inl h) (OfServer c) law none =
+      ⊎_elim (λ k. inl k) (λ k. inr (inl k)) (goes_on w past c law none h)
+  carried w past (inr h) (OfServer c) law none = inr (inr h)
+  carried w past (inl h) (OfClient c) law none = inl h
+  carried w past (inr h) (OfClient c) law none = inr (inr h)
 
   pub waits_now : (es : List Entry) → ForServer config es → Every SetsNone es → Sometime (WaitsIn config when x) es
       → WaitsNow es
@@ -91,5 +93,5 @@ module _ (config : Config) (when : ℕ) (x : Sending) where
         since = k.since;
         delay = k.delay;
         waits = carried
-            k.waiting past k.waits e law;
+            k.waiting past k.waits e law none.0;
       }

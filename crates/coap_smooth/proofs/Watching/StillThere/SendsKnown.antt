@@ -103,6 +103,7 @@ module _ (limits : Limits) (szx : ℕ) where
       by due.Copied h k = tt
       by due.Expired h k = tt
   here_known t (S.NextOut answer) k = (tt, tt)
+  here_known t (S.Forgets peer) k = (tt, tt)
   here_known t _ k = tt
 
   pub all_known : (t : List S.Call) → Always (IsRecognised limits szx) t → Known (lower_of limits szx t)

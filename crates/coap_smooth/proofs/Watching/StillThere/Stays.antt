@@ -16,7 +16,7 @@ use Rattle.coap_exchange.specs.AnswererTrace as R
 use Rattle.coap_client_laws.specs.Follows.Notified.{WasRegistered}
 use Rattle.coap_client_laws.specs.Follows.OfObservations.{Observed}
 use Rattle.coap_server.specs.Follows.Observes.{AreObservers, Ends, EndsSo, Notice, WasMade, cancels, ends_in, is_gone}
-use Rattle.coap_server.specs.Follows.Observes.{is_rejected, is_told, notice, rejects_in}
+use Rattle.coap_server.specs.Follows.Observes.{is_forgotten, is_rejected, is_told, notice, rejects_in}
 use Rattle.coap_server.specs.Follows.Tells.{Pair}
 use Rattle.coap_server_laws.specs.Follows.Told.{ServesPair}
 use Rattle.coap_server.specs.Law.{ServerLaw, own_of}
@@ -100,8 +100,11 @@ module _ (laws : ResetLaws)
     abbrev t : List S.Call
     t = server_trace config past
 
+    law_here : Lawful config (OfServer c ∷ past)
+    law_here = lawful_before config later (OfServer c ∷ past) (subst (Lawful config) is law)
+
     server_here : ServerLaw config.limits config.server_szx config.server_setup (c ∷ t)
-    server_here = (lawful_before config later (OfServer c ∷ past) (subst (Lawful config) is law)).server
+    server_here = law_here.server
 
     timely : IsTimely config past c
     timely = (Always_back (AtMoment config) later (OfServer c ∷ past) (subst (Always (AtMoment config)) is moments)).0
@@ -148,6 +151,7 @@ module _ (laws : ResetLaws)
       to_is = to;
       token_is = key;
     }
+    ended_by (is_forgotten here) = let e = sym law_here.unrefused.0.unforgotten ∙ here in absurd (cc e)
 
     next : Stays past → Stays (OfServer c ∷ past)
     next (inr k) = inr (ended_later config.addresses token (OfServer c) past k)

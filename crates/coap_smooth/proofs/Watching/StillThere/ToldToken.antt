@@ -197,6 +197,7 @@ sent_to (R.Ticks now below room answer ∷ t) con x (inl s) = let z = s.there in
 sent_to (R.Ready now to answer ∷ t) con x (inl s) = let z = s.there in absurd (cc z)
 sent_to (R.NotifiesPlain now to token r id ∷ t) con x (inl s) = let z = s.there in absurd (cc z)
 sent_to (R.Take answer ∷ t) con x (inl s) = let z = s.there in absurd (cc z)
+sent_to (R.Forgets peer ∷ t) con x (inl s) = let z = s.there in absurd (cc z)
 
 -- what the exchanges of a server promise of what they say
 pub record Says : Type 0 where
