@@ -8,8 +8,8 @@ use Rattle.std.specs.Int.{w16, from_be_bytes}
 use Rattle.coap_types.specs.declared.endpoint.Endpoint.{Endpoint}
 use Rattle.coap_journal.specs.Numbers.{half, number, short}
 use Rattle.coap_journal.specs.Frames.{BeginsFrame, frame, head, head_len, sealed, sum_of}
-use Rattle.coap_journal.specs.Input.{AreShort, Delay, Feed, Input, IsEndpoint, IsFormat, IsInput, IsSegments, Plain}
-use Rattle.coap_journal.specs.Input.{Refuse, Remove, Set, Tick, delay_bytes, endpoint_bytes, feed_bytes}
+use Rattle.coap_journal.specs.Input.{AreShort, Delay, Feed, Forget, Input, IsEndpoint, IsFormat, IsInput, IsSegments}
+use Rattle.coap_journal.specs.Input.{Plain, Refuse, Remove, Set, Tick, delay_bytes, endpoint_bytes, feed_bytes}
 use Rattle.coap_journal.specs.Input.{format_bytes, path_bytes, refuse_bytes, remove_bytes, set_bytes, spelled, text}
 use Rattle.coap_journal.specs.Input.{texts, tick_bytes}
 use Rattle.coap_journal.proofs.Bytes.{length-half, length-number, length-short, number_one, one_front, one_rest}
@@ -131,6 +131,13 @@ endpoint_one d e x y r s a b same =
     let ports = one_rest d.ip e.ip (half d.port) (half e.port) (a.ip ∙ sym b.ip) p.0 in
     (endpoint_is d e ips (half_one d.port e.port a.port b.port ports), p.1)
 
+endpoint_last : (d e : Endpoint) (r s : List ℕ) → IsEndpoint d → IsEndpoint e
+    → endpoint_bytes d ++ r ≡ endpoint_bytes e ++ s → (d ≡ e) × (r ≡ s)
+endpoint_last d e r s a b same =
+    let p = endpoint_one d e r s [] [] a b
+    (append-nil (endpoint_bytes d ++ r) ∙ same ∙ sym (append-nil (endpoint_bytes e ++ s))) in
+    (p.0, sym (append-nil r) ∙ p.1 ∙ append-nil s)
+
 pub number_first : (m n : ℕ) (x y r s : List ℕ) → m < 2 ^ 64 → n < 2 ^ 64 → (number m ++ x) ++ r ≡ (number n ++ y) ++ s
     → (m ≡ n) × (x ++ r ≡ y ++ s)
 number_first m n x y r s a b e =
@@ -241,3 +248,21 @@ one_input (Refuse now from bytes word code) (Refuse now' from' bytes' word' code
           ∙ ap (λ (z : ℕ). Refuse now' from' bytes' word' z) k.0,
       d.1,
     )
+one_input (Feed now from bytes word) (Forget peer') r s a b e = absurd cc
+one_input (Tick now word) (Forget peer') r s a b e = absurd cc
+one_input (Set now path format body) (Forget peer') r s a b e = absurd cc
+one_input (Remove now path) (Forget peer') r s a b e = absurd cc
+one_input (Delay path ms) (Forget peer') r s a b e = absurd cc
+one_input (Plain path) (Forget peer') r s a b e = absurd cc
+one_input (Refuse now from bytes word code) (Forget peer') r s a b e = absurd cc
+one_input (Forget peer) (Feed now' from' bytes' word') r s a b e = absurd cc
+one_input (Forget peer) (Tick now' word') r s a b e = absurd cc
+one_input (Forget peer) (Set now' path' format' body') r s a b e = absurd cc
+one_input (Forget peer) (Remove now' path') r s a b e = absurd cc
+one_input (Forget peer) (Delay path' ms') r s a b e = absurd cc
+one_input (Forget peer) (Plain path') r s a b e = absurd cc
+one_input (Forget peer) (Refuse now' from' bytes' word' code') r s a b e = absurd cc
+one_input (Forget peer) (Forget peer') r s a b e =
+    let t = heads_are 11 11 (endpoint_bytes peer ++ r) (endpoint_bytes peer' ++ s) e in
+    let p = endpoint_last peer peer' r s a b t.1 in
+    (ap (λ (z : Endpoint). Forget z) p.0, p.1)

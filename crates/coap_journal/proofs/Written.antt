@@ -5,8 +5,9 @@ use Rattle.std.specs.Prelude.{IfNone}
 use Rattle.std.proofs.lemmas.List.{length-append, append-nil}
 use Rattle.std.proofs.lemmas.List.Elements.{All-head, All-tail}
 use Rattle.coap_types.specs.declared.endpoint.Endpoint.{Endpoint}
-use Rattle.coap_journal.specs.Input.{AreShort, Feed, IsEndpoint, IsFormat, IsInput, IsSegments, Set, endpoint_bytes}
-use Rattle.coap_journal.specs.Input.{feed_bytes, format_bytes, path_bytes, set_bytes, text, texts, tick_bytes}
+use Rattle.coap_journal.specs.Input.{AreShort, Feed, Forget, IsEndpoint, IsFormat, IsInput, IsSegments}
+use Rattle.coap_journal.specs.Input.{endpoint_bytes, feed_bytes, format_bytes, path_bytes, text, texts}
+use Rattle.coap_journal.specs.Input.{tick_bytes}
 use Rattle.coap_journal.specs.Numbers.{half, number, short}
 use Rattle.coap_journal.specs.Records.{IsConfiguration, beginning_bytes, configuration_bytes, life_bytes, seed_bytes}
 use Rattle.coap_journal.specs.declared.beginning.Beginning.{Beginning}
@@ -103,6 +104,12 @@ none_feed None bytes lt =
     λ now word from xs rest is e. too_long bytes (feed_bytes now from xs word) rest e
     (omega (arith, lt, feed_long now word from xs is.2))
 none_feed (Some x) bytes lt = tt
+
+pub none_forget : {T : Type 0} (r : Option T) (bytes : List ℕ) → IfNone r (length bytes < 6)
+    → IfNone r ((peer : Endpoint) (rest : List ℕ) → IsInput (Forget peer) → bytes ≡ endpoint_bytes peer ++ rest → ⊥)
+none_forget None bytes lt =
+    λ peer rest is e. too_long bytes (endpoint_bytes peer) rest e (omega (arith, lt, length-endpoint peer is))
+none_forget (Some x) bytes lt = tt
 
 pub none_turn : {T : Type 0} (r : Option T) (bytes : List ℕ) → length bytes < 16
     → IfNone r ((moment n : ℕ) (rest : List ℕ) → bytes ≡ number moment ++ (number n ++ rest) → ⊥)

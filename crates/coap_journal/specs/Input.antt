@@ -7,7 +7,7 @@ use Rattle.coap_types.specs.declared.path.TheConstants.{MAX_SEGMENT_LEN as max_s
 use Rattle.coap_types.specs.declared.path.TheConstants.{MAX_SEGMENTS as max_segments}
 
 -- A datagram that came; a tick; a local change and a removal; a delay; a plain path; a datagram that came, and whose
--- request was to be refused with a code.
+-- request was to be refused with a code; a peer that is forgotten.
 pub data Input : Type 0 where
   Feed : (now : ℕ) (from : Endpoint) (bytes : List ℕ) (word : ℕ) → Input
   Tick : (now : ℕ) (word : ℕ) → Input
@@ -16,6 +16,7 @@ pub data Input : Type 0 where
   Delay : (path : List (List ℕ)) (ms : ℕ) → Input
   Plain : (path : List (List ℕ)) → Input
   Refuse : (now : ℕ) (from : Endpoint) (bytes : List ℕ) (word code : ℕ) → Input
+  Forget : (peer : Endpoint) → Input
 
 -- bytes, with their length in front
 abbrev pub text : List ℕ → List ℕ
@@ -64,6 +65,7 @@ spelled (Remove now path) = 4 ∷ remove_bytes now path
 spelled (Delay path ms) = 5 ∷ delay_bytes path ms
 spelled (Plain path) = 6 ∷ path_bytes path
 spelled (Refuse now from bytes word code) = 10 ∷ refuse_bytes now from bytes word code
+spelled (Forget peer) = 11 ∷ endpoint_bytes peer
 
 -- those of several, one after the other
 abbrev pub all_spelled : List Input → List ℕ
@@ -95,6 +97,7 @@ IsInput (Delay path ms) = (ms < 2 ^ 64) × IsSegments path
 IsInput (Plain path) = IsSegments path
 IsInput (Refuse now from bytes word code) =
     (now < 2 ^ 64) × (word < 2 ^ 64) × IsEndpoint from × (length bytes < 2 ^ 32) × (code < 2 ^ 8)
+IsInput (Forget peer) = IsEndpoint peer
 
 abbrev pub AreInputs : List Input → Type 0
 AreInputs [] = Unit {0}

@@ -1,5 +1,5 @@
 -- What a frame of a journal has in it.
-use Rattle.std.specs.Prelude.{◌≡◌, ◌<◌, ◌≤◌, ◌^◌, ℕ, List, [], ◌∷◌, ◌++◌}
+use Rattle.std.specs.Prelude.{◌≤◌, ℕ, List, ◌∷◌, ◌++◌}
 use Rattle.coap_journal.specs.Input.{Input, all_spelled}
 use Rattle.coap_journal.specs.Numbers.{number, short}
 use Rattle.coap_journal.specs.declared.beginning.Beginning.{Beginning}

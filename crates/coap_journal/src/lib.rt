@@ -23,12 +23,12 @@ pub use beginning::{
 pub use frame::{frame_bytes, read_frame};
 pub use laws::journal_law;
 pub use reading::{
-    Fed, ReadError, read_feed, read_numbered_path, read_path, read_refuse, read_set, read_tick,
-    read_turn,
+    Fed, ReadError, read_feed, read_forget, read_numbered_path, read_path, read_refuse, read_set,
+    read_tick, read_turn,
 };
 pub use waking::{SILENCE_MS, Waking, go_on};
 pub use wholeness::{Damage, Whole, scan};
 pub use writing::{
-    DELAY, FEED, PLAIN, REFUSE, REMOVE, SET, TICK, TURN, delay_bytes, feed_bytes, plain_bytes,
-    refuse_bytes, remove_bytes, set_bytes, tick_bytes, turn_bytes,
+    DELAY, FEED, FORGET, PLAIN, REFUSE, REMOVE, SET, TICK, TURN, delay_bytes, feed_bytes,
+    forget_bytes, plain_bytes, refuse_bytes, remove_bytes, set_bytes, tick_bytes, turn_bytes,
 };

@@ -1,6 +1,6 @@
 //! An input, read from its bytes.
 ghost use Rattle.std.specs.Prelude.{◌≡◌, ◌<◌, ◌+◌, ◌^◌, ◌∷◌, ◌++◌, ℕ, List, Option, length, Err, IfOk, IfSome, IfNone};
-ghost use Rattle.coap_journal.specs.Input.{AreShort, Feed, IsFormat, IsInput, IsSegments, Refuse, Set};
+ghost use Rattle.coap_journal.specs.Input.{AreShort, Feed, Forget, IsFormat, IsInput, IsSegments, Refuse, Set};
 ghost use Rattle.coap_journal.specs.Input.{endpoint_bytes, feed_bytes, refuse_bytes};
 ghost use Rattle.coap_journal.specs.Input.{format_bytes, path_bytes, set_bytes, text, texts, tick_bytes};
 ghost use Rattle.coap_journal.specs.Numbers.{number};
@@ -117,6 +117,17 @@ pub fn read_refuse(bytes: &[u8]) -> Option<(u8, Fed<'_>, &[u8])>
         }
         [] => None,
     }
+}
+
+/// Reads what stands after the kind of a peer that is forgotten.
+pub fn read_forget(bytes: &[u8]) -> Option<(Endpoint, &[u8])>
+    // What is read is the endpoint that the bytes spell.
+    ensures some { IfSome result (λ p. bytes.now ≡ endpoint_bytes p.0 ++ p.1.now) }
+    // A peer that was written is read.
+    ensures none { IfNone result ((peer : EndpointSpec) (rest : List ℕ) → IsInput (Forget peer)
+        → bytes.now ≡ endpoint_bytes peer ++ rest → ⊥) }
+{
+    read_endpoint(bytes)
 }
 
 /// Reads what stands after the kind of a tick: its moment and its word.

@@ -1,6 +1,6 @@
 //! The bytes of an input.
 ghost use Rattle.std.specs.Prelude.{◌≡◌, ◌∷◌, ◌++◌, ◌<◌, ◌^◌, [], length, OnOk, IfOk};
-ghost use Rattle.coap_journal.specs.Input.{Delay, Feed, Plain, Refuse, Remove, Set, Tick, endpoint_bytes};
+ghost use Rattle.coap_journal.specs.Input.{Delay, Feed, Forget, Plain, Refuse, Remove, Set, Tick, endpoint_bytes};
 ghost use Rattle.coap_journal.specs.Input.{feed_bytes as feed_spelled, format_bytes};
 ghost use Rattle.coap_journal.specs.Input.{path_bytes, spelled, text, texts};
 ghost use Rattle.coap_journal.specs.Numbers.{number};
@@ -26,6 +26,8 @@ pub const PLAIN: u8 = 6;
 pub const TURN: u8 = 9;
 /// The kind of a datagram that came, and whose request was to be refused.
 pub const REFUSE: u8 = 10;
+/// The kind of a peer that is forgotten.
+pub const FORGET: u8 = 11;
 
 // A path without a content-format.
 const NO_FORMAT: [u8; 3] = [0, 0, 0];
@@ -34,7 +36,9 @@ const SOME_FORMAT: u8 = 1;
 
 const _: () = prove!(FEED == 1 && TICK == 2 && SET == 3);
 
-const _: () = prove!(REMOVE == 4 && DELAY == 5 && PLAIN == 6 && TURN == 9 && REFUSE == 10);
+const _: () = prove!(
+    REMOVE == 4 && DELAY == 5 && PLAIN == 6 && TURN == 9 && REFUSE == 10 && FORGET == 11
+);
 
 fn put_text<A: Allocator>(out: &mut Vec<u8, A>, bytes: &[u8]) -> Result<(), AllocError>
     requires { length bytes.now < 2 ^ 32 }
@@ -113,6 +117,16 @@ pub fn refuse_bytes<A: Allocator + Copy>(
 {
     let mut out = Vec::from_slice(alloc, &[REFUSE, code])?;
     put_feed(&mut out, now, from, bytes, word)?;
+    Ok(out)
+}
+
+/// The bytes of a peer that is forgotten.
+pub fn forget_bytes<A: Allocator + Copy>(alloc: A, peer: Endpoint) -> Result<Vec<u8, A>, AllocError>
+    // A peer that is forgotten is spelled as its endpoint.
+    ensures { IfOk result (λ v. v.items ≡ spelled (Forget peer)) }
+{
+    let mut out = Vec::from_slice(alloc, &[FORGET])?;
+    put_endpoint(&mut out, peer)?;
     Ok(out)
 }
 

@@ -7,7 +7,7 @@ use Rattle.coap_exchange.specs.declared.answerer.Asked.{Asked}
 use Rattle.coap_exchange.specs.declared.answerer.Due.{Due}
 use Rattle.coap_server.specs.Led.{State, Step}
 use Rattle.coap_server.specs.Trace.{Feeds, Handling, NextOut, Ticks}
-use Rattle.coap_journal.specs.Input.{Delay, Feed, Input, Plain, Refuse, Remove, Set, Tick}
+use Rattle.coap_journal.specs.Input.{Delay, Feed, Forget, Input, Plain, Refuse, Remove, Set, Tick}
 use Rattle.coap_replay.specs.Replaying.{Gives, Takes}
 use Rattle.coap_journaled.specs.Runs.{end_gives, end_takes}
 
@@ -32,6 +32,7 @@ takes_is old new (Remove now path) is = absurd is
 takes_is old new (Delay path ms) is = absurd is
 takes_is old new (Plain path) is = absurd is
 takes_is old new (Refuse now from bytes word code) is = absurd is
+takes_is old new (Forget peer) is = absurd is
 
 abbrev pub waits : State → List Packet
 waits s = s.layer.queue

@@ -3,7 +3,7 @@ use Rattle.std.specs.Prelude.{◌≡◌, ◌⊎◌, ◌+◌, ◌-◌, ◌^◌, �
 use Rattle.std.specs.Prelude.{Bool, true, false, not, ◌&&◌, Option, Some, None}
 use Rattle.std.specs.Prelude.{List, [], ◌∷◌, ◌++◌, length}
 use Rattle.coap_journal.specs.Frames.{frame}
-use Rattle.coap_journal.specs.Input.{Delay, Feed, Input, Plain, Refuse, Remove, Set, Tick, spelled}
+use Rattle.coap_journal.specs.Input.{Delay, Feed, Forget, Input, Plain, Refuse, Remove, Set, Tick, spelled}
 use Rattle.coap_journal.specs.Numbers.{number}
 use Rattle.coap_journaled.specs.Due.{IsNotYet}
 
@@ -41,6 +41,7 @@ moment_of (Remove now path) = now
 moment_of (Delay path ms) = 0
 moment_of (Plain path) = 0
 moment_of (Refuse now from bytes word code) = now
+moment_of (Forget peer) = 0
 
 -- An input is noted: the next frame will hold it.
 pub record IsNoted {S F : Type 0} (old : Journal S F) (input : Input) (new : Journal S F) : Type 0 where

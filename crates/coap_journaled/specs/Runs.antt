@@ -2,7 +2,7 @@
 use Rattle.std.specs.Prelude.{◌≡◌, ◌≢◌, ◌<◌, ℕ, Bool, true, false, List, [], ◌∷◌, ◌++◌, Result, Ok, Err}
 use Rattle.coap_layer.specs.Trace.{Packet}
 use Rattle.coap_types.specs.declared.endpoint.Endpoint.{Endpoint}
-use Rattle.coap_journal.specs.Input.{Delay, Feed, Input, Plain, Refuse, Remove, Set, Tick}
+use Rattle.coap_journal.specs.Input.{Delay, Feed, Forget, Input, Plain, Refuse, Remove, Set, Tick}
 use Rattle.coap_journaled.specs.Journal.{IsFull, IsNoted, IsTaken, Journal, ended_with, most}
 use Rattle.coap_journaled.specs.Journal.{next_frame, synced_to}
 use Rattle.coap_journaled.specs.declared.journaled.CommitError.{CommitError}
@@ -48,6 +48,7 @@ end_takes feeds ticks s (Remove now path) n = ⊥
 end_takes feeds ticks s (Delay path ms) n = ⊥
 end_takes feeds ticks s (Plain path) n = ⊥
 end_takes feeds ticks s (Refuse now from bytes word code) n = ⊥
+end_takes feeds ticks s (Forget peer) n = ⊥
 
 -- what a datagram that is taken makes of it (`waiting` and `gives` are its own words): the first that waited
 abbrev pub end_gives : {S : Type 0} → (S → List Packet) → (S → Packet → S → Type 0) → S → Packet → S → Type 0

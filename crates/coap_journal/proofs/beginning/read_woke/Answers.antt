@@ -1,4 +1,4 @@
-use Rattle.std.proofs.Common.{◌∷◌, ap, arith, ◌≡◌, ℕ, List, length, ◌∙◌, sym}
+use Rattle.std.proofs.Common.{◌∷◌, ap, arith, ℕ, List, length, ◌∙◌}
 use Rattle.coap_journal.specs.Records.{life_bytes}
 use Rattle.coap_journal.proofs.Written.{all_taken, length-life, none_life}
 use Rattle.coap_journal.proofs.beginning.read_woke.Goals as goal

@@ -1,4 +1,3 @@
-use Rattle.std.proofs.Common.{rules}
 use Rattle.coap_journal.specs.Input.{text}
 use Rattle.coap_journal.proofs.Written.{after_path}
 use Rattle.coap_journal.proofs.reading.read_content.Goals as goal

@@ -1,4 +1,4 @@
-use Rattle.std.proofs.Common.{[], ◌∷◌, ◌++◌, arith, rules}
+use Rattle.std.proofs.Common.{[], ◌∷◌, ◌++◌, arith}
 use Rattle.std.proofs.lemmas.List.{length-append}
 use Rattle.coap_journal.proofs.Appended.{framed_more, rest_is_less}
 use Rattle.coap_journal.proofs.Written.{short_more}
