@@ -4,7 +4,8 @@ use Rattle.std.proofs.Common.{arith}
 use Rattle.std.proofs.lemmas.List.{append-nil}
 use Rattle.coap_replay.specs.Doing.{Does, GivesOut, Replays, TakesAll, bodies}
 use Rattle.coap_journal.specs.Frames.{frame, frames}
-use Rattle.coap_journal.specs.Input.{Delay, Feed, Input, Plain, Refuse, Remove, Set, Tick, all_spelled, spelled}
+use Rattle.coap_journal.specs.Input.{Delay, Feed, Forget, Input, Plain, Refuse, Remove, Set, Tick, all_spelled}
+use Rattle.coap_journal.specs.Input.{spelled}
 use Rattle.coap_journal.specs.Records.{Record, record_bytes}
 use Rattle.coap_journal.proofs.Facts.{frames_more}
 
@@ -25,6 +26,7 @@ spelled_some (Remove now path) = omega arith
 spelled_some (Delay path ms) = omega arith
 spelled_some (Plain path) = omega arith
 spelled_some (Refuse now from bytes word code) = omega arith
+spelled_some (Forget peer) = omega arith
 
 -- frames of records, and one more after them
 pub bodies_more : (records : List Record) (r : Record)

@@ -1,16 +1,22 @@
 -- Why a journal is not replayed.
-use Rattle.std.specs.Prelude.{◌≡◌, ◌<◌, ◌+◌, ℕ, List, [], ◌∷◌, ◌++◌, length}
+use Rattle.std.specs.Prelude.{◌≡◌, ◌<◌, ◌+◌, ℕ, false, None, List, [], ◌∷◌, ◌++◌, length}
+use Rattle.coap_types.specs.declared.endpoint.Endpoint.{Endpoint}
+use Rattle.coap_layer.specs.Trace as L
 use Rattle.coap_layer.specs.Trace.{Packet}
-use Rattle.coap_server.specs.Led.{State}
+use Rattle.coap_server.specs.Led.{State, Step}
+use Rattle.coap_server.specs.Refusing.{is_error}
+use Rattle.coap_server.specs.Trace.{Feeds, Silent}
 use Rattle.coap_journal.specs.Frames.{frame, frames}
+use Rattle.coap_journal.specs.Input.{Input, IsInput, Refuse, all_spelled, spelled}
 use Rattle.coap_journal.specs.Numbers.{number}
-use Rattle.coap_journal.specs.Records.{Record}
+use Rattle.coap_journal.specs.Records.{Record, Woke, record_bytes}
+use Rattle.coap_journal.specs.declared.beginning.Life.{Life}
 use Rattle.coap_journal.specs.declared.reading.ReadError.{ReadError}
 use Rattle.coap_journal.specs.declared.reading.ReadError.TheVariants as read
 use Rattle.coap_replay.specs.declared.replay.ReplayError.{ReplayError}
 use Rattle.coap_replay.specs.declared.replay.ReplayError.TheVariants.{Memory, Unreadable}
 use Rattle.coap_replay.specs.Doing.{bodies}
-use Rattle.coap_replay.specs.Replaying.{GivesOut, Replays}
+use Rattle.coap_replay.specs.Replaying.{GivesOut, Replays, TakesAll}
 
 -- what it is where a record can't be read
 abbrev pub refusal_of : ReadError → ReplayError
@@ -32,6 +38,38 @@ pub record IsOfOther (old : State) (bytes : List ℕ) : Type 0 where
   pub inputs : List ℕ
   pub turn_is : bytes ≡ 9 ∷ (number moment ++ (number taken ++ inputs))
   pub few : GivesTooFew old taken
+
+-- no input that was written stands at the front of the bytes
+abbrev pub BeginsNone : List ℕ → Type 0
+BeginsNone bytes = (input : Input) (rest : List ℕ) → IsInput input → bytes ≡ spelled input ++ rest → ⊥
+
+-- What the bytes begin with is nothing that the server can take. No input that was written stands there; or a datagram
+-- whose request was to be refused does, and the code is no error, or the datagram brings the server no request.
+pub data IsNoInput (old : State) (bytes : List ℕ) : Type 0 where
+  unwritten : BeginsNone bytes → IsNoInput old bytes
+  no_error : (now : ℕ) (from : Endpoint) (xs : List ℕ) (word code : ℕ) (rest : List ℕ)
+      → bytes ≡ spelled (Refuse now from xs word code) ++ rest → is_error code ≡ false → IsNoInput old bytes
+  no_request : (now : ℕ) (from : Endpoint) (xs : List ℕ) (word code : ℕ) (rest : List ℕ) (up below : L.Answer)
+      (new : State) → bytes ≡ spelled (Refuse now from xs word code) ++ rest
+      → Step old (Feeds now from xs word up None Silent below) new → IsNoInput old bytes
+
+-- The server takes the first inputs that the bytes spell. More bytes follow, which begin with nothing that it can take.
+pub record StopsInside (old : State) (bytes : List ℕ) : Type 0 where
+  pub inputs : List Input
+  pub between : State
+  pub takes : TakesAll old inputs between
+  pub rest : List ℕ
+  pub bytes_are : bytes ≡ all_spelled inputs ++ rest
+  pub more : 0 < length rest
+  pub none : IsNoInput between rest
+
+-- The bytes are no turn, and no further life; or a turn with something among its inputs that the server can't take.
+pub data IsUnreadable (old : State) (bytes : List ℕ) : Type 0 where
+  no_record : ((moment taken : ℕ) (inputs : List ℕ) → bytes ≡ 9 ∷ (number moment ++ (number taken ++ inputs)) → ⊥)
+      → ((life : Life) → bytes ≡ record_bytes (Woke life) → ⊥) → IsUnreadable old bytes
+  no_inputs : (moment taken : ℕ) (inputs : List ℕ) (out : List Packet) (between : State)
+      → bytes ≡ 9 ∷ (number moment ++ (number taken ++ inputs)) → GivesOut old out between → length out ≡ taken
+      → StopsInside between inputs → IsUnreadable old bytes
 
 -- The server does the records of the first frames, and then a frame holds what it is refused for.
 pub record StopsAt (Refused : State → List ℕ → Type 0) (place : ℕ) (old : State) (bytes : List ℕ) : Type 0 where

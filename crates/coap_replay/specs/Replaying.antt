@@ -4,8 +4,8 @@ use Rattle.coap_types.specs.declared.endpoint.Endpoint.{Endpoint}
 use Rattle.coap_layer.specs.Trace.{Packet}
 use Rattle.coap_server.specs.Led.{State, Step}
 use Rattle.coap_server.specs.Trace.{Call, Delays, Feeds, Gets, NextOut, Plains, Refuses, Removes, Sets, TellsApplied}
-use Rattle.coap_server.specs.Trace.{Ticks}
-use Rattle.coap_journal.specs.Input.{Delay, Feed, Input, Plain, Refuse, Remove, Set, Tick}
+use Rattle.coap_server.specs.Trace.{Forgets, Ticks}
+use Rattle.coap_journal.specs.Input.{Delay, Feed, Forget, Input, Plain, Refuse, Remove, Set, Tick}
 use Rattle.coap_journal.specs.Records.{Begun, Record, Turn, Woke}
 use Rattle.coap_journal.specs.declared.beginning.Life.{Life}
 use Rattle.coap_replay.specs.Doing as D
@@ -22,6 +22,7 @@ input_of (Ticks now word below room due passed h id answer) = Some (Tick now wor
 input_of (NextOut answer) = None
 input_of (Gets path answer) = None
 input_of (TellsApplied answer) = None
+input_of (Forgets peer) = Some (Forget peer)
 
 -- A datagram whose request is to be refused is handed in as such where it brings one, and else as one that is fed.
 abbrev pub refused_as : Bool → ℕ → Endpoint → List ℕ → (word code : ℕ) → Input

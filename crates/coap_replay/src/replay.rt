@@ -10,15 +10,15 @@ ghost use Rattle.coap_journal.specs.Frames.{BeginsFrame, frames};
 ghost use Rattle.coap_journal.specs.Input.{Delay, Feed, Input, Plain, Remove, Set, Tick, all_spelled, spelled};
 ghost use Rattle.coap_journal.specs.Records.{Record, Turn, record_bytes};
 ghost use Rattle.coap_replay.specs.Doing.{bodies};
-ghost use Rattle.coap_replay.specs.declared.replay.ReplayError.TheVariants.{OtherServer};
-ghost use Rattle.coap_replay.specs.Refusing.{GivesTooFew, IsOfOther, StopsAt};
+ghost use Rattle.coap_replay.specs.declared.replay.ReplayError.TheVariants.{OtherServer, Unreadable};
+ghost use Rattle.coap_replay.specs.Refusing.{GivesTooFew, IsNoInput, IsOfOther, IsUnreadable, StopsAt, StopsInside};
 ghost use Rattle.coap_replay.specs.Replaying.{Does, GivesOut, Replays, Takes, TakesAll, Turned};
 ghost use Rattle.coap_replay.specs.Replaying.{last_life, latest_moment};
 
 use coap_journal::{
-    DELAY, FEED, Life, PLAIN, REFUSE, REMOVE, ReadError, SET, TICK, TURN, WOKE, read_feed,
-    read_frame, read_numbered_path, read_path, read_refuse, read_set, read_tick, read_turn,
-    read_woke,
+    DELAY, FEED, FORGET, Life, PLAIN, REFUSE, REMOVE, ReadError, SET, TICK, TURN, WOKE, read_feed,
+    read_forget, read_frame, read_numbered_path, read_path, read_refuse, read_set, read_tick,
+    read_turn, read_woke,
 };
 use coap_resource::{Store, StoreRefusal};
 use coap_server::{DelayRefusal, ErrorCode, PlainRefusal, Server};
@@ -85,6 +85,8 @@ fn replay_feed<'a, S: Store<A>, A: Allocator + Copy, H: BuildHasher>(
     ensures done { IfOk result (λ rest. (input : Input) × (FEED ∷ bytes.now ≡ spelled input ++ rest.now)
         × Takes (state_of S.content server.old) input (state_of S.content server.new)) }
     ensures same { IfErr result (λ why. why ≢ OtherServer) }
+    ensures unread { IfErr result (λ why. why ≡ Unreadable
+        → IsNoInput (state_of S.content server.old) (FEED ∷ bytes.now)) }
 {
     match read_feed(bytes) {
         Some((fed, rest)) => {
@@ -103,6 +105,8 @@ fn replay_refuse<'a, S: Store<A>, A: Allocator + Copy, H: BuildHasher>(
     ensures done { IfOk result (λ rest. (input : Input) × (REFUSE ∷ bytes.now ≡ spelled input ++ rest.now)
         × Takes (state_of S.content server.old) input (state_of S.content server.new)) }
     ensures same { IfErr result (λ why. why ≢ OtherServer) }
+    ensures unread { IfErr result (λ why. why ≡ Unreadable
+        → IsNoInput (state_of S.content server.old) (REFUSE ∷ bytes.now)) }
 {
     let Some((number, fed, rest)) = read_refuse(bytes) else {
         return Err(ReplayError::Unreadable);
@@ -118,6 +122,26 @@ fn replay_refuse<'a, S: Store<A>, A: Allocator + Copy, H: BuildHasher>(
     }
 }
 
+// What is of a peer that was forgotten: its Reset stands before it, as a datagram that was fed.
+fn replay_forget<'a, S: Store<A>, A: Allocator + Copy, H: BuildHasher>(
+    server: &mut Server<S, A, H>,
+    bytes: &'a [u8],
+) -> Result<&'a [u8], ReplayError>
+    ensures done { IfOk result (λ rest. (input : Input) × (FORGET ∷ bytes.now ≡ spelled input ++ rest.now)
+        × Takes (state_of S.content server.old) input (state_of S.content server.new)) }
+    ensures same { IfErr result (λ why. why ≢ OtherServer) }
+    ensures unread { IfErr result (λ why. why ≡ Unreadable
+        → IsNoInput (state_of S.content server.old) (FORGET ∷ bytes.now)) }
+{
+    match read_forget(bytes) {
+        Some((peer, rest)) => {
+            server.let_go(peer);
+            Ok(rest)
+        }
+        None => Err(ReplayError::Unreadable),
+    }
+}
+
 // A tick.
 fn replay_tick<'a, S: Store<A>, A: Allocator + Copy, H: BuildHasher>(
     server: &mut Server<S, A, H>,
@@ -126,6 +150,8 @@ fn replay_tick<'a, S: Store<A>, A: Allocator + Copy, H: BuildHasher>(
     ensures done { IfOk result (λ rest. (input : Input) × (TICK ∷ bytes.now ≡ spelled input ++ rest.now)
         × Takes (state_of S.content server.old) input (state_of S.content server.new)) }
     ensures same { IfErr result (λ why. why ≢ OtherServer) }
+    ensures unread { IfErr result (λ why. why ≡ Unreadable
+        → IsNoInput (state_of S.content server.old) (TICK ∷ bytes.now)) }
 {
     match read_tick(bytes) {
         Some((now, word, rest)) => {
@@ -181,6 +207,8 @@ fn replay_set<'a, S: Store<A>, A: Allocator + Copy, H: BuildHasher>(
     ensures done { IfOk result (λ rest. (input : Input) × (SET ∷ bytes.now ≡ spelled input ++ rest.now)
         × Takes (state_of S.content server.old) input (state_of S.content server.new)) }
     ensures same { IfErr result (λ why. why ≢ OtherServer) }
+    ensures unread { IfErr result (λ why. why ≡ Unreadable
+        → IsNoInput (state_of S.content server.old) (SET ∷ bytes.now)) }
 {
     let (now, format, path, body, rest) = read_set(alloc, bytes)?;
     let lacked = set_lacked(server.set(now, &path, format, body));
@@ -199,6 +227,8 @@ fn replay_remove<'a, S: Store<A>, A: Allocator + Copy, H: BuildHasher>(
     ensures done { IfOk result (λ rest. (input : Input) × (REMOVE ∷ bytes.now ≡ spelled input ++ rest.now)
         × Takes (state_of S.content server.old) input (state_of S.content server.new)) }
     ensures same { IfErr result (λ why. why ≢ OtherServer) }
+    ensures unread { IfErr result (λ why. why ≡ Unreadable
+        → IsNoInput (state_of S.content server.old) (REMOVE ∷ bytes.now)) }
 {
     let (now, path, rest) = read_numbered_path(alloc, bytes)?;
     let _ = server.remove(Moment(now), &path);
@@ -214,6 +244,8 @@ fn replay_delay<'a, S: Store<A>, A: Allocator + Copy, H: BuildHasher>(
     ensures done { IfOk result (λ rest. (input : Input) × (DELAY ∷ bytes.now ≡ spelled input ++ rest.now)
         × Takes (state_of S.content server.old) input (state_of S.content server.new)) }
     ensures same { IfErr result (λ why. why ≢ OtherServer) }
+    ensures unread { IfErr result (λ why. why ≡ Unreadable
+        → IsNoInput (state_of S.content server.old) (DELAY ∷ bytes.now)) }
 {
     let (ms, path, rest) = read_numbered_path(alloc, bytes)?;
     let lacked = delay_lacked(server.set_delay(&path, ms));
@@ -232,6 +264,8 @@ fn replay_plain<'a, S: Store<A>, A: Allocator + Copy, H: BuildHasher>(
     ensures done { IfOk result (λ rest. (input : Input) × (PLAIN ∷ bytes.now ≡ spelled input ++ rest.now)
         × Takes (state_of S.content server.old) input (state_of S.content server.new)) }
     ensures same { IfErr result (λ why. why ≢ OtherServer) }
+    ensures unread { IfErr result (λ why. why ≡ Unreadable
+        → IsNoInput (state_of S.content server.old) (PLAIN ∷ bytes.now)) }
 {
     let (path, rest) = read_path(alloc, bytes)?;
     let lacked = plain_lacked(server.set_plain(&path));
@@ -250,6 +284,7 @@ fn replay_input<'a, S: Store<A>, A: Allocator + Copy, H: BuildHasher>(
     ensures done { IfOk result (λ rest. (input : Input) × (bytes.now ≡ spelled input ++ rest.now)
         × Takes (state_of S.content server.old) input (state_of S.content server.new)) }
     ensures same { IfErr result (λ why. why ≢ OtherServer) }
+    ensures unread { IfErr result (λ why. why ≡ Unreadable → IsNoInput (state_of S.content server.old) bytes.now) }
 {
     match bytes {
         [FEED, rest @ ..] => replay_feed(server, rest),
@@ -259,6 +294,7 @@ fn replay_input<'a, S: Store<A>, A: Allocator + Copy, H: BuildHasher>(
         [DELAY, rest @ ..] => replay_delay(server, alloc, rest),
         [PLAIN, rest @ ..] => replay_plain(server, alloc, rest),
         [REFUSE, rest @ ..] => replay_refuse(server, rest),
+        [FORGET, rest @ ..] => replay_forget(server, rest),
         _ => Err(ReplayError::Unreadable),
     }
 }
@@ -271,6 +307,7 @@ fn take_out<S: Store<A>, A: Allocator + Copy, H: BuildHasher>(
     ensures done { OnOk result ((out : List Packet) × (length out ≡ count)
         × GivesOut (state_of S.content server.old) out (state_of S.content server.new)) }
     ensures few { IfErr result (λ why. why ≡ OtherServer → GivesTooFew (state_of S.content server.old) count) }
+    ensures read { IfErr result (λ why. why ≢ Unreadable) }
 {
     for _ in 0..count {
         match server.next_out() {
@@ -290,6 +327,7 @@ fn replay_inputs<S: Store<A>, A: Allocator + Copy, H: BuildHasher>(
     ensures done { OnOk result ((inputs : List Input) × (bytes.now ≡ all_spelled inputs)
         × TakesAll (state_of S.content server.old) inputs (state_of S.content server.new)) }
     ensures same { IfErr result (λ why. why ≢ OtherServer) }
+    ensures unread { IfErr result (λ why. why ≡ Unreadable → StopsInside (state_of S.content server.old) bytes.now) }
 {
     let mut rest = bytes;
     while !rest.is_empty() {
@@ -310,6 +348,8 @@ fn replay_turn<S: Store<A>, A: Allocator + Copy, H: BuildHasher>(
         × (p.0 ≡ last_life life (done ∷ [])) × ((latest : ℕ) → p.1.0 ≡ latest_moment latest (done ∷ []))) }
     ensures other { IfErr result (λ why. why ≡ OtherServer
         → IsOfOther (state_of S.content server.old) (TURN ∷ bytes.now)) }
+    ensures unread { IfErr result (λ why. why ≡ Unreadable
+        → IsUnreadable (state_of S.content server.old) (TURN ∷ bytes.now)) }
 {
     match read_turn(bytes) {
         Some((moment, taken, inputs)) => {
@@ -331,6 +371,8 @@ fn replay_woke<S: Store<A>, A: Allocator + Copy, H: BuildHasher>(
         × Does (state_of S.content server.now) done out (state_of S.content server.now)
         × (p.0 ≡ last_life life (done ∷ [])) × ((latest : ℕ) → p.1.0 ≡ latest_moment latest (done ∷ []))) }
     ensures same { IfErr result (λ why. why ≢ OtherServer) }
+    ensures unread { IfErr result (λ why. why ≡ Unreadable
+        → IsUnreadable (state_of S.content server.now) (WOKE ∷ bytes.now)) }
 {
     let _before = life;
     let _same = server;
@@ -351,6 +393,7 @@ fn replay_record<S: Store<A>, A: Allocator + Copy, H: BuildHasher>(
         × Does (state_of S.content server.old) done out (state_of S.content server.new)
         × (p.0 ≡ last_life life (done ∷ [])) × ((latest : ℕ) → p.1.0 ≡ latest_moment latest (done ∷ []))) }
     ensures other { IfErr result (λ why. why ≡ OtherServer → IsOfOther (state_of S.content server.old) (bytes.now)) }
+    ensures unread { IfErr result (λ why. why ≡ Unreadable → IsUnreadable (state_of S.content server.old) bytes.now) }
 {
     match bytes {
         [TURN, rest @ ..] => replay_turn(server, alloc, rest, life),
@@ -378,6 +421,10 @@ pub fn replay_frames<'a, S: Store<A>, A: Allocator + Copy, H: BuildHasher>(
     // OtherServer is the answer only where a turn follows before which more datagrams were taken than the server has.
     ensures other { IfErr result (λ why. why ≡ OtherServer
         → StopsAt IsOfOther place (state_of S.content server.old) bytes.now) }
+    // Unreadable is the answer only where a frame follows that spells no turn and no further life, or a turn with
+    // something among its inputs that the server can't take.
+    ensures unreadable { IfErr result (λ why. why ≡ Unreadable
+        → StopsAt IsUnreadable place (state_of S.content server.old) bytes.now) }
     // No frame begins with the rest.
     ensures whole { IfOk result (λ end. BeginsFrame end.0.end end.1.now → ⊥) }
     // The rest stands where the frames end.

@@ -7,7 +7,7 @@ use Rattle.coap_layer.specs.declared.setup.Setup.{Setup}
 use Rattle.coap_resource.specs.Limits.{Limits}
 use Rattle.coap_server.specs.Led.{Led, State, Step}
 use Rattle.coap_server.specs.Trace.{Call, Delays, Feeds, Gets, NextOut, Plains, Refuses, Removes, Sets, TellsApplied}
-use Rattle.coap_server.specs.Trace.{Ticks}
+use Rattle.coap_server.specs.Trace.{Forgets, Ticks}
 use Rattle.coap_server.proofs.Facts.EachCall.{led_further}
 use Rattle.coap_journal.specs.Input.{Delay, Feed, Input, Plain, Remove, Set, Tick}
 use Rattle.coap_journal.specs.Records.{Begun, Record, Turn, Woke}
@@ -37,6 +37,7 @@ some_is (Ticks now word below room due passed h id answer) input e = refl
 some_is (NextOut answer) input e = absurd cc
 some_is (Gets path answer) input e = refl
 some_is (TellsApplied answer) input e = refl
+some_is (Forgets peer) input e = refl
 
 module _ (limits : Limits) (szx : ℕ) (setup : Setup) where
   leads_none : (t : List Call) (old new : State) → Led limits szx setup t old → new ≡ old

@@ -19,9 +19,9 @@ use Rattle.coap_server.specs.Follows.Exact.{IsExact, LeaveAlike}
 use Rattle.coap_server.specs.Law.{ServerLaw, lower_of, own_of}
 use Rattle.coap_server.specs.Led.{Led, State, Step, state_left}
 use Rattle.coap_server.specs.Trace.{Call, Delays, Feeds, Gets, Handling, NextOut, Own, Plains, Removes, Sets}
-use Rattle.coap_server.specs.Trace.{Refuses, TellsApplied, Ticks}
+use Rattle.coap_server.specs.Trace.{Forgets, Refuses, TellsApplied, Ticks}
 use Rattle.coap_server.proofs.Facts.EachCall.{led_further, led_lawful}
-use Rattle.coap_journal.specs.Input.{Input, Feed, Refuse, Tick, Set, Remove, Delay, Plain}
+use Rattle.coap_journal.specs.Input.{Input, Feed, Forget, Refuse, Tick, Set, Remove, Delay, Plain}
 use Rattle.coap_journal.specs.Records.{Begun, Record, Turn, Woke}
 use Rattle.coap_replay.specs.Replaying.{GivesOut, Replays, Takes, TakesAll, Turned, input_of}
 use Rattle.coap_replay_laws.proofs.Leading.{gives_leads, turn_leads}
@@ -64,6 +64,9 @@ ticks_same : (now : ℕ) (word : ℕ) (now' : ℕ) (word' : ℕ) (below : L2.Ans
     (h : Handling) (id : ℕ) (answer : Bool) → Some (Tick now word) ≡ Some (Tick now' word')
     → Ticks now' word' below room due passed h id answer ≡ Ticks now word below room due passed h id answer
 ticks_same now word now' word' below room due passed h id answer e = cc
+
+forgets_same : (peer peer' : Endpoint) → Some (Forget peer) ≡ Some (Forget peer') → Forgets peer ≡ Forgets peer'
+forgets_same peer peer' e = cc
 
 module _ (limits : Limits) (szx : ℕ) (setup : Setup)
     (exact : (past : List Call) → IsExact limits szx setup past)
@@ -256,6 +259,25 @@ module _ (limits : Limits) (szx : ℕ) (setup : Setup)
           one_left past (Refuses now from bytes word code up p response below)
           (Refuses now from bytes word code up' p' response' below') one.3
           ∙ ap (λ (x : Call). state_left limits szx setup (x ∷ past)) (sym same)
+      by (Sets now path format body answer left) (Forgets peer') e s law lawful = absurd cc
+      by (Removes now path answer left) (Forgets peer') e s law lawful = absurd cc
+      by (Delays path ms answer) (Forgets peer') e s law lawful = absurd cc
+      by (Plains path answer) (Forgets peer') e s law lawful = absurd cc
+      by (Feeds now from bytes word up came h below) (Forgets peer') e s law lawful = absurd cc
+      by (Refuses now from bytes word code up p response below) (Forgets peer') e s law lawful = absurd cc
+      by (Ticks now word below room due passed h id answer) (Forgets peer') e s law lawful = absurd cc
+      by (Forgets peer) (Sets now' path' format' body' answer' left') e s law lawful = absurd cc
+      by (Forgets peer) (Removes now' path' answer' left') e s law lawful = absurd cc
+      by (Forgets peer) (Delays path' ms' answer') e s law lawful = absurd cc
+      by (Forgets peer) (Plains path' answer') e s law lawful = absurd cc
+      by (Forgets peer) (Feeds now' from' bytes' word' up' came' h' below') e s law lawful = absurd cc
+      by (Forgets peer) (Refuses now' from' bytes' word' code' up' p' response' below') e s law lawful = absurd cc
+      by (Forgets peer) (Ticks now' word' below' room' due' passed' h' id' answer') e s law lawful = absurd cc
+      by (Forgets peer) (NextOut answer') e s law lawful = absurd cc
+      by (Forgets peer) (Gets path' answer') e s law lawful = absurd cc
+      by (Forgets peer) (TellsApplied answer') e s law lawful = absurd cc
+      by (Forgets peer) (Forgets peer') e s law lawful =
+          ap (λ (x : Call). state_left limits szx setup (x ∷ past)) (forgets_same peer peer' e)
       by (NextOut answer) d e s law lawful = absurd s
       by (Gets path answer) d e s law lawful = absurd s
       by (TellsApplied answer) d e s law lawful = absurd s

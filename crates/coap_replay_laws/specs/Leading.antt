@@ -5,7 +5,7 @@ use Rattle.coap_layer.specs.declared.setup.Setup.{Setup}
 use Rattle.coap_resource.specs.Limits.{Limits}
 use Rattle.coap_server.specs.Led.{Led, State}
 use Rattle.coap_server.specs.Trace.{Call, Delays, Feeds, Gets, NextOut, Plains, Refuses, Removes, Sets, TellsApplied}
-use Rattle.coap_server.specs.Trace.{Ticks}
+use Rattle.coap_server.specs.Trace.{Forgets, Ticks}
 use Rattle.coap_journal.specs.Input.{Input}
 use Rattle.coap_journal.specs.Records.{Begun, Record, Turn, Woke}
 use Rattle.coap_replay.specs.Replaying.{input_of}
@@ -22,6 +22,7 @@ given_by (Ticks now word below room due passed h id answer) = None
 given_by (NextOut answer) = answer
 given_by (Gets path answer) = None
 given_by (TellsApplied answer) = None
+given_by (Forgets peer) = None
 
 -- the inputs of a history, whose newest call stands first, and the datagrams that it gave out; the oldest first
 abbrev pub inputs_of : List Call → List Input

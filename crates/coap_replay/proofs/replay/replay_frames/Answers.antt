@@ -1,4 +1,4 @@
-use Rattle.std.proofs.Common.{[], ◌∷◌, ◌++◌, ◌+◌, ◌∙◌, sym, ap, refl, arith, List, ℕ}
+use Rattle.std.proofs.Common.{[], ◌∷◌, ◌++◌, ◌∙◌, sym, ap, refl, arith, List, ℕ}
 use Rattle.coap_journal.specs.declared.beginning.Life.{Life}
 use Rattle.coap_replay.specs.Replaying.{last_life}
 use Rattle.coap_journal.proofs.Facts.{rest_is_less}
@@ -58,4 +58,22 @@ returns-in_err-further-clause-other g c =
       stands = stands_at c.args.place c.loop-body.at c.args.bytes.now c.loop-body.rest.now so_far.0 so_far.2.bytes
           so_far.2.place;
       refused = c.in_err-further.ensures.other is;
+    })
+
+pub returns-in_err-further-clause-unreadable : goal.returns-in_err-further-clause-unreadable
+returns-in_err-further-clause-unreadable g c =
+    let so_far = c.loop-body.invariant in
+    passed_up c.from_residual.result c.in_err-further.field-0.0 _ c.from_residual.ensures.1 (λ is. record {
+      records = so_far.0;
+      out = so_far.1;
+      between = _;
+      replays = so_far.2.replays;
+      at = c.loop-body.at;
+      body = c.in-Some.body.now;
+      rest = c.in-Some.behind.now;
+      bytes_are = so_far.2.bytes ∙ ap (λ (xs : List ℕ). frames c.args.place (bodies so_far.0) ++ xs)
+          c.in-Some.ensures.some;
+      stands = stands_at c.args.place c.loop-body.at c.args.bytes.now c.loop-body.rest.now so_far.0 so_far.2.bytes
+          so_far.2.place;
+      refused = c.in_err-further.ensures.unread is;
     })
