@@ -1,8 +1,8 @@
 //! The turns of a journal and their inputs, read as far as they name a path.
 
 use coap_journal::{
-    DELAY, FEED, PLAIN, REMOVE, ReadError, SET, TICK, TURN, read_feed, read_frame,
-    read_numbered_path, read_path, read_set, read_tick, read_turn,
+    DELAY, FEED, FORGET, PLAIN, REFUSE, REMOVE, ReadError, SET, TICK, TURN, read_feed, read_forget,
+    read_frame, read_numbered_path, read_path, read_refuse, read_set, read_tick, read_turn,
 };
 use coap_types::Path;
 use std::alloc::{AllocError, Global};
@@ -40,6 +40,18 @@ fn read_or_none<T: Drop>(read: Result<T, ReadError>) -> Result<Option<T>, AllocE
 fn feed_in(bytes: &[u8]) -> Option<(Handed<'_>, &[u8])> {
     let (fed, rest) = read_feed(bytes)?;
     Some((Handed::Datagram(fed.bytes), rest))
+}
+
+// .. one whose request was refused, by which a path holds nothing.
+fn refuse_in(bytes: &[u8]) -> Option<(Handed<'_>, &[u8])> {
+    let (_, _, rest) = read_refuse(bytes)?;
+    Some((Handed::Other, rest))
+}
+
+// .. a peer that was forgotten.
+fn forget_in(bytes: &[u8]) -> Option<(Handed<'_>, &[u8])> {
+    let (_, rest) = read_forget(bytes)?;
+    Some((Handed::Other, rest))
 }
 
 // .. a tick.
@@ -81,6 +93,8 @@ fn first_input(alloc: Global, bytes: &[u8]) -> Result<Option<(Handed<'_>, &[u8])
         [REMOVE, rest @ ..] => numbered_in(alloc, rest),
         [DELAY, rest @ ..] => numbered_in(alloc, rest),
         [PLAIN, rest @ ..] => plain_in(alloc, rest),
+        [REFUSE, rest @ ..] => Ok(refuse_in(rest)),
+        [FORGET, rest @ ..] => Ok(forget_in(rest)),
         _ => Ok(None),
     }
 }

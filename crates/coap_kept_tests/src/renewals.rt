@@ -1,7 +1,9 @@
 //! A server that is begun anew: when, with what, and what stays of the file before.
 use coap_commands::SharedWriter;
 use coap_ends::{End, Server};
-use coap_journal::{Beginning, Configuration, Seed};
+use coap_journal::{
+    Beginning, Configuration, Seed, forget_bytes, frame_bytes, refuse_bytes, set_bytes, turn_bytes,
+};
 use coap_journal_file::{Differing, Wishes};
 use coap_kept::{KeepError, Keeping, KeptServer, RENEWAL_SILENCE_MS, keep};
 use coap_links::{Link, MemoryLink, Timekeeper};
@@ -128,6 +130,37 @@ fn first_life<R: Abort + AllocGlobal + Files<File = File> + RandomSource>(rt: &R
     assert!(rt; journaled.commit().is_ok());
 }
 
+// A turn in which a PUT to /f is refused with 4.03, a peer is forgotten, and /e comes to hold "far".
+fn further_turn<R: Abort + AllocGlobal>(rt: &R) -> Vec<u8> {
+    let alloc = rt.alloc();
+    let put = [0x40, 0x03, 0x00, 0x02, 0xb1, b'f', 0xff, b'y'];
+    let now = Moment(50);
+    let mut inputs = refuse_bytes(alloc, now, PEER, &put, 1, 0x83).expect(rt, "memory");
+    let forgotten = forget_bytes(alloc, PEER).expect(rt, "memory");
+    let changed = set_bytes(alloc, now, &path(rt, "e"), None, b"far").expect(rt, "memory");
+    for input in [forgotten, changed] {
+        inputs
+            .extend_from_slice(input.as_slice())
+            .expect(rt, "memory");
+    }
+    turn_bytes(alloc, now, 0, inputs.as_slice()).expect(rt, "memory")
+}
+
+// Puts that turn at the end of the file of this name.
+fn add_turn<R: Abort + AllocGlobal + Files<File = File>>(rt: &R, name: &str) {
+    let Ok(mut bytes) = fs::read(rt, name) else {
+        assert!(rt; false);
+        return;
+    };
+    let turn = further_turn(rt);
+    assert!(rt; bytes.len() < 1 << 30 && turn.len() < 1 << 30);
+    let framed = frame_bytes(rt.alloc(), bytes.len() as u64, turn.as_slice()).expect(rt, "memory");
+    bytes
+        .extend_from_slice(framed.as_slice())
+        .expect(rt, "memory");
+    assert!(rt; fs::write(rt, name, bytes.as_slice()).is_ok());
+}
+
 // Whether the path holds this body in this format, under a version that follows the base.
 fn holds<R: Abort + AllocGlobal>(
     rt: &R,
@@ -191,6 +224,35 @@ fn what_is_told_of_it(rt: HostRuntime) -> Result<(), AllocError> {
     assert!(rt; kept.is_ok());
     let lines = b"told_anew.journal: 4 frames, 2 turns, 4 inputs replayed\n\
         told_anew.journal: silent for 400000 ms, then begun anew\n";
+    assert!(rt;
+        told.try_borrow()
+            .expect(&rt, "a line")
+            .as_slice()
+            .starts_with(lines)
+    );
+    Ok(())
+}
+
+#[test]
+fn what_stands_behind_a_forgotten_peer_is_held_anew(rt: HostRuntime) -> Result<(), AllocError> {
+    let name = "forgot_anew.journal";
+    first_life(&rt, name);
+    add_turn(&rt, name);
+    let mut link = MemoryLink::new(rt.alloc(), OWN);
+    let told = RefCell::new(Vec::new(rt.alloc()));
+    let keeping = Keeping {
+        name,
+        wishes: NOTHING,
+        drawn: beginning(&rt, NEW),
+        setup: &[],
+        renews: true,
+    };
+    let Ok(kept) = gone_on(&rt, &keeping, &mut link, &told) else {
+        assert!(rt; false);
+        return Ok(());
+    };
+    assert!(rt; holds(&rt, kept.journaled.end(), "e", None, b"far"));
+    let lines = b"forgot_anew.journal: 5 frames, 3 turns, 7 inputs replayed\n";
     assert!(rt;
         told.try_borrow()
             .expect(&rt, "a line")
