@@ -4,6 +4,7 @@
 //! [`open`] reads how the server of a journal began, and [`replay`] makes the server that ran.
 #![tactic(auto)]
 
+mod forgetting;
 mod local;
 mod noted;
 mod notes;

@@ -125,6 +125,34 @@ fn a_refusal_is_told_as_one(rt: HostRuntime) {
     assert!(rt; code_out(&mut server) == 0x83);
 }
 
+// A GET of /t with Observe, and token 9 (RFC 7641, section 2); its answer, 2.05 Content, goes out. Then the peer is
+// forgotten: it rejects the Message ID 0, as nothing is outstanding to it, and is let go.
+const OBSERVE: &str = "41010001 09 60 51 74";
+
+const CONTENT: u8 = 0x45;
+
+const FORGOTTEN: &str = "09 0000000000000064 0000000000000001
+    01 0000000000000000 0000000000000000 0a000009 1633 00000004 70000000
+    0b 0a000009 1633";
+
+#[test]
+fn a_peer_that_is_forgotten_is_told_as_two_inputs(rt: HostRuntime) {
+    let mut server = noting(&rt);
+    let set = server.set(Moment(5), &path(&rt, "t"), None, b"y");
+    assert!(rt; set == Ok(1));
+    feed(&rt, &mut server, 100, OBSERVE);
+    server.begin_anew();
+    assert!(rt; code_out(&mut server) == CONTENT);
+    assert!(rt; server.server.knows(Moment(0), PEER));
+    assert!(rt; server.forget(PEER) == Ok(true));
+    assert!(rt; !server.server.knows(Moment(0), PEER));
+    tells(&rt, &mut server, FORGOTTEN);
+    server.begin_anew();
+    // Of a peer that is not known there is nothing to forget, which is told, too.
+    assert!(rt; server.forget(PEER) == Ok(false));
+    assert!(rt; code_out(&mut server) == 1);
+}
+
 #[test]
 fn without_notes_nothing_is_told(rt: HostRuntime) {
     let mut server = Noted {
