@@ -1,8 +1,8 @@
 //! Records and frames, byte for byte; the bytes were written down by hand, and the sums worked out by another program.
 use coap_journal::{
     BeginError, Beginning, Boot, Configuration, Life, Seed, begun_bytes, delay_bytes, feed_bytes,
-    frame_bytes, plain_bytes, read_begun, refuse_bytes, remove_bytes, set_bytes, tick_bytes,
-    turn_bytes, woke_bytes,
+    forget_bytes, frame_bytes, plain_bytes, read_begun, refuse_bytes, remove_bytes, set_bytes,
+    tick_bytes, turn_bytes, woke_bytes,
 };
 use coap_types::{BodyLimit, Endpoint, Moment, Path, Remembered, Szx};
 use std::alloc::{AllocGlobal, Global};
@@ -97,6 +97,8 @@ fn inputs_are_their_kind_and_their_parts(rt: HostRuntime) {
         refused.as_slice(),
         "0a 83 0000000000000005 0000000000000007 0a000009 1633 00000006 40010001b174",
     );
+    let forgotten = forget_bytes(alloc, PEER).expect(&rt, "memory");
+    is(&rt, forgotten.as_slice(), "0b 0a000009 1633");
     let ticked = tick_bytes(alloc, Moment(2_000), 1).expect(&rt, "memory");
     is(
         &rt,

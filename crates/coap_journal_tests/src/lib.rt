@@ -6,6 +6,8 @@ mod bytes_of_records;
 #[cfg(test)]
 mod files;
 #[cfg(test)]
+mod forgetting;
+#[cfg(test)]
 mod journaled;
 #[cfg(test)]
 mod lives;

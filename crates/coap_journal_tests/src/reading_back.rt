@@ -1,8 +1,8 @@
 //! Inputs and records, read from bytes that were written down by hand: each with a byte behind it.
 use crate::bytes_of_records::{LIFE, PEER, bytes_of, frame, path};
 use coap_journal::{
-    ReadError, journal_law, read_feed, read_frame, read_numbered_path, read_path, read_refuse,
-    read_set, read_tick, read_turn, read_woke,
+    ReadError, journal_law, read_feed, read_forget, read_frame, read_numbered_path, read_path,
+    read_refuse, read_set, read_tick, read_turn, read_woke,
 };
 use std::test::*;
 
@@ -39,6 +39,13 @@ fn what_came_is_read(rt: HostRuntime) {
     assert_eq!(rt; fed.bytes, get.as_slice());
     assert_eq!(rt; rest, BEHIND);
     assert!(rt; read_refuse(&[]).is_none());
+    // A peer that is forgotten; and its port lacks a byte.
+    let bytes = bytes_of(&rt, "0a000009 1633 ff");
+    let (peer, rest) = read_forget(bytes.as_slice()).expect(&rt, "a peer");
+    assert!(rt; peer == PEER);
+    assert_eq!(rt; rest, BEHIND);
+    let short = bytes_of(&rt, "0a000009 16");
+    assert!(rt; read_forget(short.as_slice()).is_none());
 }
 
 #[test]

@@ -10,7 +10,8 @@ use std::alloc::{AllocGlobal, Global};
 use std::process::Abort;
 use std::test::*;
 
-const PEER: Endpoint = Endpoint {
+/// A peer.
+pub(crate) const PEER: Endpoint = Endpoint {
     ip: [10, 0, 0, 9],
     port: 40_001,
 };
@@ -27,12 +28,14 @@ const CREATED: u8 = 0x41;
 
 const CONTENT: u8 = 0x45;
 
-// The first frame would end here.
-const PLACE: u64 = 109;
+/// The first frame would end here.
+pub(crate) const PLACE: u64 = 109;
 
-type OurServer = Server<MapStore, Global>;
+/// A server over a map of paths.
+pub(crate) type OurServer = Server<MapStore, Global>;
 
-fn fresh_server<R: Abort + AllocGlobal>(rt: &R) -> OurServer {
+/// A server that begins.
+pub(crate) fn fresh_server<R: Abort + AllocGlobal>(rt: &R) -> OurServer {
     let store = MapStore::new(rt.alloc(), MAX_CHANGES_PER_WINDOW).expect(rt, "a store");
     let szx = Szx::new(6).expect(rt, "a block size");
     Server::new(rt.alloc(), store, szx, 9)
@@ -68,13 +71,13 @@ fn next_bytes<R: Abort + AllocGlobal>(rt: &R, server: &mut OurServer) -> Vec<u8>
     }
 }
 
-// Where a journal ends whose first frame is not among these bytes.
-fn end_of(journal: &[u8]) -> u64 {
+/// Where a journal ends whose first frame is not among these bytes.
+pub(crate) fn end_of(journal: &[u8]) -> u64 {
     PLACE.saturating_add(journal.len() as u64)
 }
 
-// Puts a frame of a record at the end of a journal.
-fn add<R: Abort + AllocGlobal>(rt: &R, journal: &mut Vec<u8>, body: &[u8]) {
+/// Puts a frame of a record at the end of a journal.
+pub(crate) fn add<R: Abort + AllocGlobal>(rt: &R, journal: &mut Vec<u8>, body: &[u8]) {
     let place = end_of(journal.as_slice());
     journal
         .extend_from_slice(frame(rt, place, body).as_slice())
@@ -96,7 +99,8 @@ fn add_turn<R: Abort + AllocGlobal>(
     add(rt, journal, turn.as_slice());
 }
 
-fn replay<R: Abort + AllocGlobal>(
+/// Replays a journal whose first frame is not among these bytes.
+pub(crate) fn replay<R: Abort + AllocGlobal>(
     rt: &R,
     server: &mut OurServer,
     journal: &[u8],
@@ -237,6 +241,15 @@ fn a_frame_of_no_record_is_refused(rt: HostRuntime) {
         ("", Err(ReplayError::Unreadable)),
         // A turn without inputs; one with a kind that is none; one before which more was taken than there was.
         ("09 0000000000000007 0000000000000000", Ok(7)),
+        // A peer is forgotten of whom there is nothing; the same, which lacks a byte.
+        (
+            "09 0000000000000007 0000000000000000 0b 0a000009 9c41",
+            Ok(7),
+        ),
+        (
+            "09 0000000000000007 0000000000000000 0b 0a000009 9c",
+            Err(ReplayError::Unreadable),
+        ),
         (
             "09 0000000000000007 0000000000000000 09",
             Err(ReplayError::Unreadable),
