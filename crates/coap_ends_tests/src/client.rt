@@ -6,6 +6,7 @@ mod downloads;
 pub(crate) mod fetches;
 mod flooding;
 mod limits;
+mod load;
 mod observations;
 mod refusals;
 mod uploads;

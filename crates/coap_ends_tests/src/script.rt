@@ -28,6 +28,11 @@
 //! | `told 3 body 01 0 = hi` · `told nothing` | that is reported next of that number: tag, format, body · nothing is |
 //! | `asked 3 01` · `asked nothing` | the last input sent a request for the first time, of this number and with this
 //! token · none |
+//! | `load 0 remembered=1 queued=0` | the end has these counts at that moment |
+//! | `would 0 C 40010001 taken` | a datagram that is not fed would be this |
+//! | `knows 0 C yes` | the server has something of this peer at that moment, or `no` |
+//! | `ended C 01 notification` · `ended nothing` | the last input ended this notification, or `response` · none |
+//! | `forget-peer C yes` | the server forgets this peer, of which it had something, or `no` |
 //! | `watch /t` | from now on a step that wants memory leaves both ends as they were, with what this path holds |
 //! | `notified 9` | the server sets `t` so often at 0, and each time the notification is acknowledged |
 //! | `not-found 9` | the client gets `t` so often at 0, and each time the answer is 4.04 |
@@ -43,6 +48,7 @@ mod asking;
 mod changing;
 mod delivery;
 mod ends;
+mod loads;
 mod reports;
 mod rounds;
 mod serving;

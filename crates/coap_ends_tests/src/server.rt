@@ -3,8 +3,10 @@
 mod deferring;
 mod ending;
 mod flooding;
+mod forgetting;
 mod identifiers;
 mod limits;
+mod load;
 mod observing;
 mod plain;
 pub(crate) mod replies;

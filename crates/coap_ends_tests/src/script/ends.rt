@@ -113,6 +113,10 @@ impl<A: Allocator + Copy> Ends<A> {
             "notified" => self.notified(words),
             "not-found" => self.not_found(words),
             "watch" => self.watch(words),
+            "load" => self.load(words),
+            "would" => self.would(words),
+            "knows" => self.knows(words),
+            "ended" => self.ended(words),
             _ => self.serve(verb, words, text, answer),
         }
     }

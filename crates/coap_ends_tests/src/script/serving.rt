@@ -22,6 +22,7 @@ impl<A: Allocator + Copy> Ends<A> {
             "plain" => self.plain(words, answer),
             "holds" => self.holds(words, text),
             "applied" => self.applied(words),
+            "forget-peer" => self.forget_peer(words),
             _ => Err(Wrong::Because("there is no such step")),
         }
     }
@@ -100,6 +101,13 @@ impl<A: Allocator + Copy> Ends<A> {
             return Err(Wrong::Because("it holds another body"));
         }
         Ok(())
+    }
+
+    fn forget_peer(&mut self, words: &str) -> Result<(), Wrong> {
+        self.is_quiet()?;
+        let (port, wanted) = first(words);
+        let known = self.server.forget(endpoint(port_of(port)?));
+        self.is_same(if known { "yes" } else { "no" }, wanted)
     }
 
     pub(super) fn applied(&mut self, words: &str) -> Result<(), Wrong> {
