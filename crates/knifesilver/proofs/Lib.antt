@@ -3,6 +3,7 @@ pub mod AsReplayed
 pub mod BlockSizes
 pub mod Carried
 pub mod Either
+pub mod Forgotten
 pub mod HandleValues
 pub mod NeverBoth
 pub mod ReleasedValues

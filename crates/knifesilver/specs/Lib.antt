@@ -5,6 +5,7 @@ pub mod ClientCalls
 pub mod ClientHeld
 pub mod Configs
 pub mod Endings
+pub mod Forgetting
 pub mod Formats
 pub mod Fresh
 pub mod Journals
