@@ -514,6 +514,13 @@ int32_t ks_server_ended(ks_server *handle, ks_ended *ended);
  * by itself, 247 s after the peer's last message. After both, a name of the peer can be given to another. */
 int32_t ks_server_knows(ks_server *handle, uint64_t now, const ks_address *peer);
 
+/* Forgets a peer from which nothing comes any more, as one whose session is closed: its observations, its uploads that are
+ * not whole, its requests that wait for their delay, and what it did not acknowledge. What waits for ks_server_next_out
+ * stays: take that first. What tells repeats stays, too, so a copy of a request that was served is not served again. Like a
+ * feed it empties what ks_server_applied tells, and ks_server_ended tells what it ended. KS_DONE: there was something, as
+ * ks_server_knows tells it; KS_OK: there was nothing; KS_NO_MEMORY, of a server with a journal alone; KS_NOT_LIVE. */
+int32_t ks_server_forget(ks_server *handle, const ks_address *peer);
+
 /* ---- Names for peers --------------------------------------------------------------------------------------------- */
 
 /* An end compares addresses and reads nothing in them. So a ks_address can be the name of anything that sends datagrams:
@@ -580,7 +587,8 @@ int32_t ks_names_hold(ks_names *handle, const ks_address *name);
 int32_t ks_names_release(ks_names *handle, uint64_t now, const ks_address *name);
 
 /* Forgets a name at once. Only where nothing can come from its peer any more, as from a DTLS session that is closed; the
- * key may come again, and gets another name. KS_DONE; KS_OK where it is nobody's; KS_NOT_LIVE. */
+ * key may come again, and gets another name. Where the name is that of a server's peer, ks_server_forget comes first. KS_DONE;
+ * KS_OK where it is nobody's; KS_NOT_LIVE. */
 int32_t ks_names_retire(ks_names *handle, const ks_address *name);
 
 /* How many peers have a name: KS_OK with *taken written; KS_NOT_LIVE. */

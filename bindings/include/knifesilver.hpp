@@ -358,6 +358,12 @@ public:
         keep_applied();
         return was;
     }
+
+    // Forgets a peer from which nothing comes any more, but for what tells repeats; whether there was anything of it. Take
+    // what is out first: that stays.
+    bool forget(const Address &peer) {
+        return detail::done("ks_server_forget", ks_server_forget(raw_.get(), &peer));
+    }
 #endif
 
     // Does all that is due.

@@ -467,6 +467,17 @@ int32_t ks_server_refuse(ks_server *h, uint64_t now, const ks_address *from, con
     return answer;
 }
 
+int32_t ks_server_forget(ks_server *h, const ks_address *peer) {
+    loans l = {.e = begin(&h->handle)};
+    if (l.e == NULL) return KS_NOT_LIVE;
+    u32 a = keep(&l, lent_address(l.e, peer));
+    int32_t answer = KS_NO_MEMORY;
+    if (!l.lacks) answer = (int32_t)Z_knifesilverZ_ks_server_forget(MODULE, HANDLE, a);
+    give_back(&l);
+    leave(&h->handle, l.e);
+    return answer;
+}
+
 /* ---- The client ---- */
 
 int32_t ks_client_new(ks_client *h, const ks_address *server, const ks_config *config, const ks_seed *seed) {

@@ -155,7 +155,7 @@ static void of_server(void) {
     size_t path_len = strlen(path), len = draw_body();
     uint64_t version = 7;
     ks_representation shown;
-    switch (draw() % 6) {
+    switch (draw() % 7) {
     case 0:
         answered(ks_server_set(&server, now, path, path_len, (int32_t)(draw() % 3) - 1, room, len, &version));
         break;
@@ -169,6 +169,7 @@ static void of_server(void) {
         }
         break;
     case 4: answered(ks_server_set_delay(&server, path, path_len, draw() % 3000)); break;
+    case 5: answered(draw() % 9 ? KS_OK : ks_server_forget(&server, draw() % 2 ? &here : &there)); break;
     default: answered(draw() % 9 ? KS_OK : ks_server_set_plain(&server, path, path_len));
     }
     tell_number(version);

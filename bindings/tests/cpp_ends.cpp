@@ -124,7 +124,12 @@ static void of_observations() {
     it.client.cancel(it.now, id);
     WANT(it.await().kind == KS_CANCELLED && !it.client.forget(id));
     const auto other = it.client.observe(it.now, "temperature");
+    WANT(!it.server.forget(there));
     WANT(it.await().id == other && it.client.forget(other));
+    // The server still has the observation: that goes with its peer.
+    WANT(it.server.forget(here) && !it.server.forget(here));
+    it.server.set(it.now, "temperature", "3"), it.server.tick(it.now);
+    WANT(!it.server.next_out());
 }
 
 static void of_refusals() {

@@ -1,7 +1,8 @@
 /* All of it at once, without sockets: one server and its clients under dtls.c, over a network that loses, repeats and
  * delays; clients close their sessions, or die, and begin anew at the same UDP address or another; half of them may not
  * write. What must hold: each request is applied at most once; after KS_SUCCESS it was, after KS_FAILED never; nothing
- * is applied of who may not; no name comes twice. dtls_ends [SECONDS] [SEED] */
+ * is applied of who may not; no name comes twice; of a session that is closed the server has nothing. dtls_ends
+ * [SECONDS] [SEED] */
 #define _GNU_SOURCE
 #include "dtls.h"
 #include "knifesilver_easy.h"
@@ -11,6 +12,7 @@
 
 #define CLIENTS 12
 #define MOST 200000
+#define MOST_GONE 64
 
 static uint64_t s = 88172645463325252u, now;
 static uint64_t rnd(void) { return s ^= s << 13, s ^= s >> 7, s ^= s << 17; }
@@ -47,10 +49,21 @@ static dtls *sessions_of;
 static ks_server server;
 static uint8_t applied[MOST], ended[MOST], writer[MOST];
 static long asked, sessions, died, full, told[16];
+static ks_address gone[MOST_GONE];
+static size_t gone_len, forgotten;
 
 static size_t key_of(void *of, const char *identity, uint8_t *key, size_t room) {
     (void)of, (void)room;
     return strncmp(identity, "user", 4) == 0 ? (memcpy(key, identity, strlen(identity)), strlen(identity)) : 0;
+}
+
+/* What the server has of a session goes with it. */
+static void forget(void *of, const ks_address *name) {
+    (void)of;
+    int32_t had = ks_server_forget(&server, name);
+    if (had < 0 || gone_len == MOST_GONE) exit(2);
+    forgotten += had == KS_DONE;
+    gone[gone_len++] = *name;
 }
 
 static void ask_applied(void) {
@@ -120,7 +133,8 @@ static void live(struct caller *c) {
             ended[c->call] = r.kind, told[r.kind]++, c->runs = false;
             if (r.kind == KS_SUCCESS && applied[c->call] != 1) broken("a success that was not applied once", c->call);
             if (r.kind == KS_FAILED && applied[c->call] != 0) broken("a failure that was applied", c->call);
-            /* (a body in blocks whose session is gone keeps one of 16 places for 247 s: then others are told 5.03) */
+            /* (a body in blocks whose caller died without a word keeps one of 16 places until its session is closed, or
+             * for 247 s: then others are told 5.03) */
             if (r.kind == KS_FAILED && writer[c->call] && r.code != KS_CODE(5, 3))
                 broken("a writer was refused", r.code);
             if (r.kind == KS_FAILED && r.code == KS_CODE(5, 3)) full++;
@@ -154,6 +168,9 @@ static void serve(void) {
     while (ks_server_tick(&server, now, rnd()) == KS_DONE) ask_applied();
     while (ks_server_next_out(&server, &name, out, sizeof out, &len) == KS_DONE)
         dtls_send(sessions_of, now, &name, out, len);
+    for (size_t i = 0; i < gone_len; i++)
+        if (ks_server_knows(&server, now, &gone[i]) != KS_OK) broken("something is left of a session", (long)i);
+    gone_len = 0;
     while (dtls_next_cipher(sessions_of, peer, &peer_len, out, sizeof out, &len)) {
         uint64_t to;
         memcpy(&to, peer, 8);
@@ -167,8 +184,13 @@ int main(int argc, char **argv) {
     if (argc > 2) s ^= strtoull(argv[2], NULL, 10) * 0x9e3779b97f4a7c15u;
     ks_config config = {.size = sizeof config, .remembered = 100000};
     ks_seed seed = {rnd(), rnd(), rnd()};
-    sessions_of = dtls_new(
-        &(dtls_config){.sessions = 64, .psk = key_of, .first_ms = 1, .handshake_ms = 30000, .idle_ms = 400000}, secret);
+    sessions_of = dtls_new(&(dtls_config){.sessions = 64,
+                                          .psk = key_of,
+                                          .closed = forget,
+                                          .first_ms = 1,
+                                          .handshake_ms = 30000,
+                                          .idle_ms = 400000},
+                           secret);
     if (sessions_of == NULL || ks_server_new(&server, &config, &seed) != KS_OK
         || ks_server_set_delay(&server, "p/3", 3, 700) != KS_OK)
         return 2;
@@ -206,10 +228,10 @@ int main(int argc, char **argv) {
     const dtls_counts *t = dtls_told(sessions_of);
     printf("%.0f s, %ld calls in %ld sessions (%ld left): %ld success, %ld refused (%ld by 5.03), %ld timeouts, %ld "
            "more; %ld applied, each once; %lu ciphertexts, "
-           "%lu handshakes of which %lu opened, %lu closed, %lu idle\n",
+           "%lu handshakes of which %lu opened, %lu closed, %lu idle; of %zu something was forgotten\n",
            (double)until / 1000, asked, sessions, died, told[KS_SUCCESS], refused, full, told[KS_TIMEOUT],
            asked - told[KS_SUCCESS] - refused - told[KS_TIMEOUT], once, passed, t->begun, t->opened, t->closed,
-           t->idle);
+           t->idle, forgotten);
     for (long i = 0; i < CLIENTS; i++)
         if (callers[i].d != NULL) leave(&callers[i]);
     ks_server_free(&server), dtls_free(sessions_of);

@@ -179,6 +179,47 @@ static bool a_life(long n) {
     return more;
 }
 
+/* A peer that is forgotten is noted as its Reset and that it is let go, and is not there after a replay, either. Without
+ * memory for both it stays. */
+static void a_forgotten_peer(void) {
+    enum { RESET = 31, FORGET = 7 };
+    static const uint8_t observe[] = {0x41, 1, 0, 9, 9, 0x60, 0x51, 't'};
+    uint64_t version;
+    size_t len = 0;
+    begin_file();
+    IS(ks_server_replay(&server, file, size, &replayed), KS_OK);
+    IS(ks_server_set(&server, 100, P("t"), 0, P("y"), &version), KS_OK);
+    IS(ks_server_feed(&server, 100, &here, observe, sizeof observe, 0), KS_OK);
+    IS(ks_server_feed(&server, 100, &there, observe, sizeof observe, 0), KS_OK);
+    IS(keep(), KS_DONE);
+    while (take_out(&len) == KS_DONE) {}
+    long n = 1;
+    for (int32_t answer = KS_NO_MEMORY; answer == KS_NO_MEMORY; n++) {
+        allocated = 0, refuse_at = n;
+        answer = ks_server_forget(&server, &here);
+        refuse_at = -1;
+        IS(answer, allocated < n ? KS_DONE : KS_NO_MEMORY);
+        IS(ks_server_knows(&server, 0, &here), answer == KS_DONE ? KS_OK : KS_DONE);
+        if (answer != KS_DONE) IS(ks_server_noted(&server, told, sizeof told, &len), KS_OK);
+    }
+    IS(n > 2, true);
+    IS(take_out(&len), KS_UNTOLD);
+    IS(ks_server_noted(&server, told, 1, &len), KS_SMALL_ROOM);
+    IS(len, TURN + RESET + FORGET);
+    IS(keep(), KS_DONE);
+    IS(told[TURN], 1);
+    IS(told[TURN + RESET], 11);
+    IS(told[TURN + RESET + 1], here.ip[0]);
+    for (int life = 0; life < 2; life++) {
+        IS(ks_server_knows(&server, 0, &here), KS_OK);
+        IS(ks_server_knows(&server, 0, &there), KS_DONE);
+        IS(ks_server_forget(&server, &here), KS_OK);
+        IS(ks_server_replay(&server, file, size, &replayed), KS_OK);
+        IS(replayed.end, size);
+        while (take_out(&len) == KS_DONE) {}
+    }
+}
+
 /* A replay that is refused memory leaves the server that is there. */
 static void replays_without_memory(void) {
     long n = 1, refusals = 0;
@@ -204,6 +245,7 @@ int main(void) {
     other_files();
     lives();
     replays_without_memory();
+    a_forgotten_peer();
     long n = 1;
     while (a_life(n)) n++;
     printf("a life with each of %ld refused; a file of %zu bytes\n", n - 1, size);

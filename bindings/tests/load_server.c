@@ -257,6 +257,20 @@ static void at_home(void) {
     put(path, body);
 }
 
+/* At times a peer that has something at the server, and which goes on to send. */
+static void forgets(void) {
+    ks_ended ended;
+    uint8_t peer = word() % 4 && observing > 0 ? observers[word() % observing].peer : (uint8_t)(word() % PEERS);
+    ks_address at = address_of(peer);
+    bool known = is_known(peer), waited = open_to(peer) != NULL;
+    IS(ks_server_knows(&server, clock_ms, &at), known ? KS_DONE : KS_OK);
+    IS(ks_server_forget(&server, &at), known ? KS_DONE : KS_OK);
+    IS(ks_server_ended(&server, &ended), waited ? KS_DONE : KS_OK);
+    forget(peer);
+    IS(ks_server_knows(&server, clock_ms, &at), is_known(peer) ? KS_DONE : KS_OK);
+    kinds[FORGOTTEN] += known;
+}
+
 /* The last moment of something that lives for some time, or the one after it. */
 static uint64_t edge(void) {
     uint64_t by = word() % 2;
@@ -278,6 +292,7 @@ static void step(void) {
     else if (by < 19) empties();
     else if (by < 20) responds_to_nothing();
     else if (by < 21 && word() % 4 == 0) chooses();
+    else if (by < 21 && word() % 8 == 0) forgets();
     else if (by < 26) take_outs(1 + word() % 4);
     else for (uint64_t n = word() % 4 ? 1 : QUEUED; n > 0 && tick(); n--) compare(clock_ms);
     compare(word() % 8 ? now : word() % 2 ? handed() : edge());

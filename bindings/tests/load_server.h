@@ -52,7 +52,7 @@ static uint64_t twice;
 /* Calls that were of each kind: at the end none may be missing. */
 enum kind {
     SERVED, REPEATED, NO_PLACE, NO_ID, REGISTERED, LEFT, CON_NOTIFIED, PLAIN_NOTIFIED, ENDED_BY_RESET, PLAIN_ENDED,
-    EXPIRED, COPIED, DEFERRED, RESPONDED, JOINED, JOINED_WHOLE, NO_UPLOAD, RATE, FULL_PATHS, OUT_OF_IDS, KINDS
+    EXPIRED, COPIED, DEFERRED, RESPONDED, JOINED, JOINED_WHOLE, NO_UPLOAD, RATE, FULL_PATHS, OUT_OF_IDS, FORGOTTEN, KINDS
 };
 static uint64_t kinds[KINDS];
 
@@ -285,6 +285,28 @@ static void take(const struct asked *q) {
     if (q->in_block && !q->refused && q->method != PUT && q->method != POST) answer(q, BAD_REQUEST, false);
     else if (q->in_block && !q->refused) take_block(*q);
     else take_whole(q);
+}
+
+/* ---- A peer that never comes again ---- */
+
+static bool is_known(uint8_t peer) {
+    bool is = open_to(peer) != NULL;
+    for (size_t i = 0; i < observing; i++) is |= observers[i].peer == peer;
+    for (size_t i = 0; i < uploading; i++) is |= uploads[i].peer == peer && is_open(&uploads[i], clock_ms);
+    for (size_t i = 0; i < waiting; i++) is |= waits[i].asked.peer == peer;
+    for (size_t i = queue_first; i < queue_len; i++) is |= queue[i % QUEUED].peer == peer;
+    return is;
+}
+
+/* What is remembered of its messages stays, and what waits to go out. */
+static void forget(uint8_t peer) {
+    for (size_t i = observing; i-- > 0;)
+        if (observers[i].peer == peer) drop(peer, observers[i].token);
+    for (size_t i = uploading; i-- > 0;)
+        if (uploads[i].peer == peer && !is_wrong(18)) end_upload(&uploads[i]);
+    for (size_t i = waiting; i-- > 0;)
+        if (waits[i].asked.peer == peer) memmove(&waits[i], &waits[i + 1], (--waiting - i) * sizeof *waits);
+    if (open_to(peer) != NULL) close_one(open_to(peer));
 }
 
 /* ---- What goes out by ticks ---- */

@@ -1,4 +1,4 @@
-/* loads: how much an end has, row by row; what a datagram would be against what its feed then did, for random datagrams and
+/* loads: how much an end has, row by row; a peer that is forgotten; what a datagram would be against what its feed then did, for random datagrams and
  * changed ones at each end; and the text of ks_stats.h. Ends with status 0, or says what differs. */
 #include "both_ends.h"
 #include "ks_stats.h"
@@ -97,6 +97,93 @@ static void a_server(void) {
     IS(of_server(0).observers, 0);
     IS(ks_server_tick(&server, 1, 0), KS_OK);
     IS(ks_server_ended(&server, &ended), KS_OK);
+    end();
+}
+
+/* An observation of /t, a request that waits for the delay of /u, and the first block of an upload to /w. */
+static void has_some_of_each(const ks_address *peer) {
+    IS(ks_server_feed(&server, now, peer, B(0x41, 1, 0, 1, 9, 0x60, 0x51, 't'), 0), KS_OK);
+    IS(ks_server_feed(&server, now, peer, B(0x41, 1, 0, 2, 8, 0xb1, 'u'), 0), KS_OK);
+    IS(ks_server_feed(&server, now, peer, B(0x41, 3, 0, 3, 7, 0xb1, 'w', 0xd1, 3, 8, 0xff, 1, 2, 3, 4, 5, 6, 7, 8, 9, 10,
+                                            11, 12, 13, 14, 15, 16), 0), KS_OK);
+}
+
+static void take_all_out(uint64_t *out, const ks_address *peer) {
+    ks_address to;
+    size_t len;
+    for (*out = 0; ks_server_next_out(&server, &to, datagram, sizeof datagram, &len) == KS_DONE; *out += 1)
+        if (peer != NULL) IS(to.port, peer->port);
+}
+
+/* So many peers have each of these at the server; seven messages are remembered. */
+static void has_of_each(uint64_t peers) {
+    ks_end_load load = of_server(0);
+    IS(load.observers, peers);
+    IS(load.deferred, peers);
+    IS(load.partial, peers);
+    IS(load.outstanding, peers);
+    IS(load.remembered, 7);
+    IS(load.queued, 0);
+}
+
+/* A peer that is forgotten: what is of it goes, and takes no memory. What is of another stays, and what tells repeats. */
+static void a_forgotten_peer(void) {
+    static const uint8_t put[] = {0x41, 3, 0, 4, 6, 0xb1, 'x', 0xff, 'y'};
+    ks_server empty = {{0}};
+    ks_representation shown;
+    ks_ended ended;
+    uint64_t version, out;
+    begin();
+    IS(ks_server_forget(&empty, &here), KS_NOT_LIVE);
+    IS(ks_server_set_delay(&server, P("u"), 1000), KS_OK);
+    IS(ks_server_set(&server, 0, P("t"), 0, P("hi"), &version), KS_OK);
+    has_some_of_each(&here);
+    has_some_of_each(&there);
+    fed(put, sizeof put);
+    IS(ks_server_get(&server, P("x"), &shown, room, sizeof room), KS_DONE);
+    take_all_out(&out, NULL);
+    IS(out, 7);
+    IS(ks_server_set(&server, 0, P("t"), 0, P("ha"), &version), KS_OK);
+    while (ks_server_tick(&server, 0, 0) == KS_DONE) {}
+    take_all_out(&out, NULL);
+    IS(out, 2);
+    has_of_each(2);
+    allocated = 0;
+    IS(ks_server_forget(&server, &here), KS_DONE);
+    IS(allocated, 0);
+    IS(ks_server_ended(&server, &ended), KS_DONE);
+    IS(ended.to.port, here.port);
+    IS(ended.observe, true);
+    has_of_each(1);
+    IS(ks_server_knows(&server, 0, &here), KS_OK);
+    IS(ks_server_knows(&server, 0, &there), KS_DONE);
+    IS(ks_server_forget(&server, &here), KS_OK);
+    IS(ks_server_ended(&server, &ended), KS_OK);
+    /* A copy of a request that was served has its stored reply, and is not served again. */
+    IS(ks_server_would(&server, 0, &here, put, sizeof put), KS_WOULD_REPEAT);
+    fed(put, sizeof put);
+    take_all_out(&out, &here);
+    IS(out, 1);
+    IS(datagram[1], 0x41);
+    version = shown.version;
+    IS(ks_server_get(&server, P("x"), &shown, room, sizeof room), KS_DONE);
+    IS(shown.version, version);
+    /* What waits to be taken stays, and is of the peer until then. */
+    fed(B(0x41, 1, 0, 5, 5, 0xb1, 't'));
+    IS(ks_server_forget(&server, &here), KS_DONE);
+    IS(ks_server_knows(&server, 0, &here), KS_DONE);
+    take_all_out(&out, &here);
+    IS(out, 1);
+    IS(ks_server_knows(&server, 0, &here), KS_OK);
+    /* All that goes out from now on goes to the other peer: copies, the response that waited, what changed. */
+    uint64_t sent = 0;
+    for (; now < 200000; now += 500, sent += out) {
+        IS(ks_server_set(&server, now, P("t"), 0, P("he"), &version), KS_OK);
+        while (ks_server_tick(&server, now, 0) == KS_DONE) {}
+        take_all_out(&out, &there);
+    }
+    IS(sent > 1, true);
+    IS(of_server(now).deferred, 0);
     end();
 }
 
@@ -307,6 +394,7 @@ static void stats(void) {
 int main(void) {
     sizes();
     a_server();
+    a_forgotten_peer();
     a_client();
     random_ones(true);
     random_ones(false);

@@ -248,9 +248,20 @@ class Server(_AnyEnd):
         with self._lock:
             return answered(self._call("knows", _moment(now), ctypes.byref(raw_address(peer)))) == _DONE
 
+    def forget(self, peer: Address) -> bool:
+        """Forgets a peer from which nothing comes any more: its observations, its uploads that are not whole, its
+        requests that wait, and what it did not acknowledge. Whether there was anything. Take what is out first, which
+        stays. What tells repeats stays, too."""
+        with self._lock:
+            name = raw_address(peer)
+            self._begins()
+            known = answered(self._call("forget", ctypes.byref(name))) == _DONE
+            self._took()
+            return known
+
     def ended(self) -> List[Ended]:
-        """The separate responses and notifications that the last feed or tick ended, in order, by a Reset or for want
-        of an acknowledgement."""
+        """The separate responses and notifications that the last feed, tick or forget ended, in order, by a Reset or
+        for want of an acknowledgement."""
         with self._lock:
             return list(self._ended)
 

@@ -56,6 +56,26 @@ class Loads(unittest.TestCase):
             server.tick(0)
             self.assertEqual(server.ended(), [])
 
+    def test_a_forgotten_peer_has_nothing_left_but_what_tells_repeats(self):
+        with Server() as server:
+            server.set(0, "t", b"x")
+            for peer in (CLIENT_AT, SERVER_AT):
+                server.feed(0, peer, self.OBSERVE)
+                server.next_out()
+            server.set(0, "t", b"y")
+            server.tick(0)
+            while server.next_out():
+                pass
+            self.assertEqual((server.forget(CLIENT_AT), server.knows(0, CLIENT_AT)), (True, False))
+            self.assertEqual(server.ended(), [(CLIENT_AT, bytes([9]), True)])
+            load = server.load(0)
+            self.assertEqual((load.observers, load.outstanding, load.remembered), (1, 1, 2))
+            self.assertEqual((server.forget(CLIENT_AT), server.knows(0, SERVER_AT)), (False, True))
+            self.assertEqual(server.ended(), [])
+            self.assertEqual(server.would(0, CLIENT_AT, self.OBSERVE), Would.REPEAT)
+        with self.assertRaises(Closed):
+            server.forget(CLIENT_AT)
+
     def test_a_client_tells_how_much_it_has(self):
         with Client(SERVER_AT) as client:
             client.observe(0, "t")

@@ -283,6 +283,7 @@ extern "C" {
     fn ks_server_would(handle: *mut ks_server, now: u64, from: *const ks_address, datagram: *const c_void, datagram_len: usize) -> i32;
     fn ks_client_would(handle: *mut ks_client, now: u64, from: *const ks_address, datagram: *const c_void, datagram_len: usize) -> i32;
     fn ks_server_knows(handle: *mut ks_server, now: u64, peer: *const ks_address) -> i32;
+    fn ks_server_forget(handle: *mut ks_server, peer: *const ks_address) -> i32;
     fn ks_server_ended(handle: *mut ks_server, ended: *mut ks_ended) -> i32;
     fn ks_names_new(handle: *mut ks_names, places: u32, this_network: bool, seed: *const ks_seed) -> i32;
     fn ks_names_free(handle: *mut ks_names);
@@ -440,6 +441,10 @@ impl Server {
 
     pub fn knows(&self, now: u64, peer: &ks_address) -> i32 {
         unsafe { ks_server_knows(self.0.get(), now, peer) }
+    }
+
+    pub fn forget(&mut self, peer: &ks_address) -> i32 {
+        unsafe { ks_server_forget(self.0.get_mut(), peer) }
     }
 
     pub fn ended(&self, ended: &mut ks_ended) -> i32 {

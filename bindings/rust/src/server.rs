@@ -302,8 +302,38 @@ impl<P: Peer> Server<P> {
         self.names.len()
     }
 
-    /// Forgets a peer at once, from which nothing can come any more, as a DTLS session that is closed. Whether it was known.
-    /// A request of it that still waits for its delay is carried out, and not told. An IPv4 address is never forgotten so.
+    /// Forgets what the server has of a peer from which nothing comes any more: its observations, its uploads that are not
+    /// whole, its requests that wait, and what it did not acknowledge. Whether there was anything. Take `poll_transmit`
+    /// first: what is out stays. What tells repeats stays, too, so that a copy of a request is not served again. It takes
+    /// memory where the server has a journal, and nowhere else.
+    ///
+    /// ```
+    /// # use knifesilver::{Config, Server, MAX_DATAGRAM};
+    /// # use std::net::SocketAddr;
+    /// # use std::time::Instant;
+    /// # let now = Instant::now();
+    /// # let mut server: Server = Server::new(&Config::default(), now).unwrap();
+    /// # let there: SocketAddr = "127.0.0.1:40001".parse().unwrap();
+    /// # let mut buffer = [0; MAX_DATAGRAM];
+    /// // A GET of `t` with Observe (RFC 7641, section 2).
+    /// server.set(now, "t", None, b"1").unwrap();
+    /// server.handle(now, there, b"\x41\x01\x00\x01\x09\x60\x51t").unwrap();
+    /// while server.poll_transmit(&mut buffer).is_some() {}
+    /// assert!(server.knows(now, there));
+    /// assert_eq!((server.forget(there), server.forget(there)), (Ok(true), Ok(false)));
+    /// assert!(!server.knows(now, there));
+    /// ```
+    pub fn forget(&mut self, peer: impl Into<P>) -> Result<bool, OutOfMemory> {
+        let Some(name) = self.names.find(&peer.into()) else { return Ok(false) };
+        self.ended.clear();
+        let was = ticked(self.raw.forget(&name))?;
+        self.keep_ended();
+        Ok(was)
+    }
+
+    /// Forgets the name of a peer at once, from which nothing can come any more, as a DTLS session that is closed. Whether
+    /// it was known. [`forget`](Server::forget) comes first: else a request of it that still waits for its delay is carried
+    /// out, and not told. An IPv4 address is never forgotten so.
     pub fn retire(&mut self, peer: &P) -> bool {
         let Some(name) = self.names.find(peer).filter(is_name) else { return false };
         self.held.retain(|held| *held != name);
@@ -377,7 +407,7 @@ impl<P: Peer> Server<P> {
         name.is_some_and(|name| self.raw.knows(self.around.moment(now), &name) == raw::KS_DONE)
     }
 
-    /// What the last `handle`, `refuse` or `handle_timeout` ended, in order.
+    /// What the last `handle`, `refuse`, `forget` or `handle_timeout` ended, in order.
     pub fn ended(&self) -> &[Ended<P>] {
         &self.ended
     }

@@ -73,12 +73,31 @@ fn what_was_kept_is_there_in_the_next_life() {
 }
 
 #[test]
+fn a_peer_that_was_forgotten_is_not_known_in_the_next_life() {
+    let file = Named::new("forgotten");
+    let mut buffer = [0; MAX_DATAGRAM];
+    let (mut server, mut journal) = file.begin();
+    server.set(Instant::now(), "t", None, b"x").unwrap();
+    server.handle(Instant::now(), HERE, &[0x41, 1, 0, 1, 9, 0x60, 0x51, b't']).unwrap();
+    journal.keep(&mut server).unwrap();
+    while server.poll_transmit(&mut buffer).is_some() {}
+    assert_eq!(server.forget(HERE), Ok(true));
+    journal.keep(&mut server).unwrap();
+    drop((server, journal));
+    let (server, _journal) = file.begin();
+    assert!(!server.knows(Instant::now(), HERE));
+    assert_eq!(server.load(Instant::now()).observers, 0);
+}
+
+#[test]
 fn a_torn_end_is_cut_off_and_other_files_are_left_as_they_are() {
     let file = Named::new("torn");
     drop(file.begin());
     let whole = fs::read(&file.0).unwrap();
     fs::write(&file.0, [&whole[..], b"torn"].concat()).unwrap();
-    let replayed = Replayed::open(file.open(), &Config::default(), BOOT).unwrap();
+    // (a life begins some time after its boot was told: on a busy machine that is a millisecond and more)
+    let later = Boot { uptime: 2 * BOOT.uptime, ..BOOT };
+    let replayed = Replayed::open(file.open(), &Config::default(), later).unwrap();
     assert_eq!((replayed.torn(), replayed.silence()), (4, Duration::ZERO));
     assert_eq!(fs::read(&file.0).unwrap(), whole);
     // After another boot it is silent first.

@@ -1,4 +1,4 @@
-//! What ends tell of themselves: how much they have, what a datagram would be, what ended.
+//! What ends tell of themselves: how much they have, what a datagram would be, what ended; and a peer that is forgotten.
 
 use knifesilver::{Client, Config, Server, Would, MAX_DATAGRAM};
 use std::net::{Ipv4Addr, SocketAddrV4};
@@ -67,4 +67,28 @@ fn a_client_tells_how_much_it_has() {
     client.handle(now, THERE, &acknowledgement).unwrap();
     assert_eq!(client.would(now, THERE, &acknowledgement), Would::Ignore);
     assert_eq!(client.load(now).outstanding, 0);
+}
+
+#[test]
+fn a_forgotten_peer_has_nothing_left_but_what_tells_repeats() {
+    let now = Instant::now();
+    let mut buffer = [0; MAX_DATAGRAM];
+    let mut server = Server::new(&Config::default(), now).unwrap();
+    server.set(now, "t", None, b"x").unwrap();
+    for peer in [HERE, THERE] {
+        server.handle(now, peer, &OBSERVE).unwrap();
+        assert!(server.poll_transmit(&mut buffer).is_some());
+    }
+    server.set(now, "t", None, b"y").unwrap();
+    server.handle_timeout(now).unwrap();
+    while server.poll_transmit(&mut buffer).is_some() {}
+    assert_eq!((server.load(now).observers, server.load(now).outstanding), (2, 2));
+    assert_eq!((server.forget(HERE), server.knows(now, HERE)), (Ok(true), false));
+    let ended = &server.ended()[0];
+    assert_eq!((ended.to, ended.token.as_slice(), ended.observe), (HERE.into(), [9].as_slice(), true));
+    let load = server.load(now);
+    assert_eq!((load.observers, load.outstanding, load.remembered), (1, 1, 2));
+    assert_eq!((server.forget(HERE), server.knows(now, THERE)), (Ok(false), true));
+    assert!(server.ended().is_empty());
+    assert_eq!(server.would(now, HERE, &OBSERVE), Would::Repeat);
 }

@@ -164,3 +164,20 @@ fn who_observes_keeps_its_place_and_a_retired_one_is_unknown() {
     // A copy of what was told goes nowhere.
     assert_eq!(server.poll_transmit(&mut buffer), None);
 }
+
+#[test]
+fn a_forgotten_session_is_retired_with_all_that_it_had() {
+    let mut now = Instant::now();
+    let mut server = Server::<Session>::of_peers(&config(9).with_peers(2), now).unwrap();
+    let mut buffer = [0; MAX_DATAGRAM];
+    server.set_delay("t", Duration::from_secs(5)).unwrap();
+    server.handle(now, session(1), &[0x40, 3, 0, 1, 0xb1, b't', 0xff, b'1']).unwrap();
+    assert_eq!(server.poll_transmit(&mut buffer).unwrap().destination, session(1));
+    // Of whom nothing is known there is nothing to forget.
+    assert_eq!(server.forget(session(2)), Ok(false));
+    assert_eq!(server.forget(session(1)), Ok(true));
+    assert!(server.retire(&session(1)));
+    now += Duration::from_secs(6);
+    server.handle_timeout(now).unwrap();
+    assert_eq!((server.poll_applied(), server.get("t"), server.peers()), (None, None, 0));
+}

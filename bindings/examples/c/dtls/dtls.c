@@ -47,6 +47,7 @@ static void file_by(dtls *d, session *s, enum role role) {
 static void close_session(dtls *d, session *s) {
     if (s->open) SSL_shutdown(s->ssl); /* close_notify is queued */
     else d->begun--;
+    if (s->open && d->config.closed != NULL) d->config.closed(d->config.of, &s->name);
     SSL_free(s->ssl);
     ks_places_retire(&d->names, &s->name);
     ks_places_retire(&d->peers, &s->by);

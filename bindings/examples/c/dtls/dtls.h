@@ -49,6 +49,9 @@ typedef struct {
     const char *hint;           /* the server's identity hint, or NULL */
     /* A server's: the key of an identity, its length, or 0 for none. NULL: no server. */
     size_t (*psk)(void *of, const char *identity, uint8_t *key, size_t room);
+    /* Told of each session that was open and is closed, while its name is still its own; or NULL. It calls nothing of
+     * dtls.h. A server forgets the name here (ks_server_forget), which no other session gets. */
+    void (*closed)(void *of, const ks_address *name);
     void *of;
 } dtls_config;
 

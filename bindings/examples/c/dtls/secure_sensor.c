@@ -31,6 +31,12 @@ static size_t key_of(void *of, const char *identity, uint8_t *key, size_t room) 
     return strlen(it->key);
 }
 
+/* What the server has of a session goes with it: its observations, its uploads, its requests that wait. */
+static void forget(void *of, const ks_address *name) {
+    (void)of;
+    ks_server_forget(&server, name);
+}
+
 static void send_all(void) {
     static uint8_t out[DTLS_ROOM];
     uint8_t peer[KS_KEY_ROOM];
@@ -95,7 +101,7 @@ static bool take_users(int count, char **words) {
 }
 
 static bool begin_all(char **words) {
-    dtls_config of_dtls = {.psk = key_of, .hint = "sensor"};
+    dtls_config of_dtls = {.psk = key_of, .closed = forget, .hint = "sensor"};
     uint64_t secret[DTLS_SECRET / 8];
     ks_config config = {.size = sizeof config, .base = ks_base(random_word())};
     ks_seed seed = random_seed();
