@@ -1,12 +1,14 @@
 //! `sim`: a script is run, and what comes of it is printed.
-ghost use Rattle.std.specs.Prelude.{◌≡◌, ◌≢◌, [], ℕ, List, Err, IfOk, OnOk, map};
+ghost use Rattle.std.specs.Prelude.{◌≡◌, ◌≢◌, [], ℕ, List, Err, IfOk, IfSome, OnOk, map};
+ghost use Rattle.std.specs.Io.KnownBytes.{Appends};
 ghost use Rattle.coap_types.specs.declared.remembered.TheConstants.{DEFAULT_REMEMBERED as default_remembered};
 ghost use Rattle.coap_record.specs.Events.{Event as EventSpec, usual_addresses};
 ghost use Rattle.coap_run.specs.Run.Happening.{event_of};
 ghost use Rattle.coap_run.specs.Run.Runs.{IsFirstWrong, IsRunOf};
 ghost use Rattle.coap_run.specs.declared.running.RunRefusal.TheVariants.{NotLegal};
-ghost use Rattle.coap_scripts.specs.Sims.{IsSim, sim_config};
-ghost use Rattle.coap_scripts.specs.declared.status.Status.TheVariants.{Done, Refused};
+ghost use Rattle.coap_scripts.specs.Sims.{AreTooMany, IsSim, IsSimOf, IsUnset, bad_line_text, not_legal_text};
+ghost use Rattle.coap_scripts.specs.Sims.{sim_config};
+ghost use Rattle.coap_scripts.specs.declared.status.Status.TheVariants.{Done, Refused, Words};
 
 use crate::capture::capture_run;
 use crate::script::{ScriptRefusal, events_of};
@@ -46,11 +48,14 @@ pub fn sim_to<A: Allocator + Copy, R: Read, W: Write>(
     script: &mut R,
     out: &mut W,
 ) -> Result<Status, Stop>
-    // Some list of events, which nothing here ties to the text, runs to its end with status 0, between ends at the
-    // usual addresses, which remember the usual number of messages, and without a plain path; one of them is not legal
-    // with status 1.
-    ensures { IfOk result (λ status. (events : List EventSpec)
+    // Some list of events runs to its end with status 0, between ends at the usual addresses, which remember the usual
+    // number of messages, and without a plain path; one of them is not legal with status 1.
+    ensures runs { IfOk result (λ status. (events : List EventSpec)
         × IsSim (sim_config usual_addresses default_remembered []) events status) }
+    // Where it is known what a reader has, the events are those that the lines of this text say, and the first line
+    // that says none is told by its number.
+    ensures said { IfOk result (λ status. IfSome (R.remaining script.old) (λ text. IsSimOf (W.contents out.old)
+        (W.contents out.new) usual_addresses default_remembered [] text status)) }
 {
     let no_path: [Path<A>; 0] = [];
     sim_with(
@@ -79,11 +84,14 @@ pub fn sim_with<A: Allocator + Copy, R: Read, W: Write>(
     printing: Printing,
     out: &mut W,
 ) -> Result<Status, Stop>
-    // Some list of events, which nothing here ties to the text, runs to its end with status 0, between ends at these
-    // addresses that remember so many messages, and with these plain paths, over either store; one of them is not legal
-    // with status 1.
-    ensures { IfOk result (λ status. (events : List EventSpec)
+    // Some list of events runs to its end with status 0, between ends at these addresses that remember so many
+    // messages, and with these plain paths, over either store; one of them is not legal with status 1.
+    ensures runs { IfOk result (λ status. (events : List EventSpec)
         × IsSim (sim_config ends remembered plains.now) events status) }
+    // Of a script whose text is known, the events between ends at these addresses are those that its lines say, and the
+    // first line that says none is told.
+    ensures said { IfOk result (λ status. IfSome (R.remaining script.old) (λ text. IsSimOf (W.contents out.old)
+        (W.contents out.new) ends remembered plains.now text status)) }
 {
     let mut uncaptured = None;
     sim_captured(
@@ -114,14 +122,46 @@ pub fn sim_captured<A: Allocator + Copy, R: Read, W: Write>(
 ) -> Result<Status, Stop>
     // Whether a run is captured changes nothing of what it comes to: some list of events runs to its end with status 0,
     // or one of them is not legal with status 1.
-    ensures { IfOk result (λ status. (events : List EventSpec)
+    ensures runs { IfOk result (λ status. (events : List EventSpec)
         × IsSim (sim_config ends remembered plains.now) events status) }
+    // Nor does it change which events those are: the ones that the lines of the text say, where that is known.
+    ensures said { IfOk result (λ status. IfSome (R.remaining script.old) (λ text. IsSimOf (W.contents out.old)
+        (W.contents out.new) ends remembered plains.now text status)) }
 {
     let mut text = Vec::new(alloc);
-    if let Err(error) = script.read_to_end(&mut text) {
-        return Err(stop_of(&error));
+    match script.read_to_end(&mut text) {
+        Ok(_len) => sim_text(
+            alloc,
+            text.as_slice(),
+            store,
+            plains,
+            remembered,
+            ends,
+            printing,
+            capture,
+            out,
+        ),
+        Err(error) => Err(stop_of(&error)),
     }
-    match events_of(alloc, text.as_slice()) {
+}
+
+// Runs a script of this text.
+fn sim_text<A: Allocator + Copy, W: Write>(
+    alloc: A,
+    text: &[u8],
+    store: StoreKind,
+    plains: &[Path<A>],
+    remembered: Remembered,
+    ends: Addresses,
+    printing: Printing,
+    capture: &mut Option<Vec<u8, A>>,
+    out: &mut W,
+) -> Result<Status, Stop>
+    ensures runs { IfOk result (λ status. (events : List EventSpec)
+        × IsSim (sim_config ends remembered plains.now) events status) }
+    ensures said { IfOk result (IsSimOf (W.contents out.old) (W.contents out.new) ends remembered plains.now text.now) }
+{
+    match events_of(alloc, text) {
         Ok(events) => run_events(
             alloc,
             events.as_slice(),
@@ -133,11 +173,21 @@ pub fn sim_captured<A: Allocator + Copy, R: Read, W: Write>(
             capture,
             out,
         ),
-        Err(ScriptRefusal::Line(number)) => {
+        Err(refusal) => tell_bad_line(refusal, out),
+    }
+}
+
+// Prints which line says no event.
+fn tell_bad_line<W: Write>(refusal: ScriptRefusal, out: &mut W) -> Result<Status, Stop>
+    ensures { IfOk result (λ status. (status ≡ Words) × (number : ℕ) × (refusal ≡ ScriptRefusal.Line number)
+        × Appends (W.contents out.old) (W.contents out.new) (bad_line_text number)) }
+{
+    match refusal {
+        ScriptRefusal::Line(number) => {
             writeln!(out, "bad line {number}")?;
             Ok(Status::Words)
         }
-        Err(ScriptRefusal::Memory) => Err(Stop::Memory),
+        ScriptRefusal::Memory => Err(Stop::Memory),
     }
 }
 
@@ -159,12 +209,15 @@ fn config_with<A: Allocator + Copy>(
     plains: &[Path<A>],
     remembered: Remembered,
 ) -> Result<WorldConfig<A>, PlainRefusal>
-    ensures { IfOk result (λ config. config ≡ sim_config usual_addresses remembered plains.now) }
+    ensures with { IfOk result (λ config. config ≡ sim_config usual_addresses remembered plains.now) }
+    ensures full { result ≡ Err PlainRefusal.Full → AreTooMany plains.now }
 {
     let mut config = usual_config(alloc);
     config.remembered(remembered, remembered);
     for path in plains {
-        config.plain(path)?;
+        if let Err(refusal) = config.plain(path) {
+            return Err(refusal);
+        }
     }
     Ok(config)
 }
@@ -186,6 +239,7 @@ fn config_at<A: Allocator + Copy>(
 ) -> Result<WorldConfig<A>, NoConfig>
     ensures at { IfOk result (λ config. config ≡ sim_config ends remembered plains.now) }
     ensures two { OnOk result (ends.client ≢ ends.server) }
+    ensures words { result ≡ Err NoConfig.Words → IsUnset ends plains.now }
 {
     let mut config = match config_with(alloc, plains, remembered) {
         Ok(config) => config,
@@ -201,7 +255,8 @@ fn config_at<A: Allocator + Copy>(
 
 // Prints which event is not legal.
 fn tell_refusal<W: Write>(refusal: RunRefusal, out: &mut W) -> Result<Status, Stop>
-    ensures { IfOk result (λ status. (status ≡ Refused) × (number : ℕ) × (refusal ≡ NotLegal number)) }
+    ensures { IfOk result (λ status. (status ≡ Refused) × (number : ℕ) × (refusal ≡ NotLegal number)
+        × Appends (W.contents out.old) (W.contents out.new) (not_legal_text number)) }
 {
     match refusal {
         RunRefusal::NotLegal(number) => {
@@ -262,7 +317,8 @@ fn run_by<A: Allocator + Copy, W: Write>(
     capture: &mut Option<Vec<u8, A>>,
     out: &mut W,
 ) -> Result<Status, Stop>
-    ensures { IfOk result (IsSim config.now (map event_of events.now)) }
+    ensures runs { IfOk result (IsSim config.now (map event_of events.now)) }
+    ensures run { IfOk result (λ status. status ≢ Words) }
 {
     match run_over(store, events, config) {
         Ok(record) => print_run(alloc, ends, events, &record, printing, capture, out),
@@ -282,7 +338,8 @@ fn run_events<A: Allocator + Copy, W: Write>(
     capture: &mut Option<Vec<u8, A>>,
     out: &mut W,
 ) -> Result<Status, Stop>
-    ensures { IfOk result (IsSim (sim_config ends remembered plains.now) (map event_of events.now)) }
+    ensures runs { IfOk result (IsSim (sim_config ends remembered plains.now) (map event_of events.now)) }
+    ensures unset { IfOk result (λ status. status ≡ Words → IsUnset ends plains.now) }
 {
     match config_at(alloc, plains, remembered, ends) {
         Ok(config) => run_by(alloc, events, store, &config, ends, printing, capture, out),

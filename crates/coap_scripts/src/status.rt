@@ -1,5 +1,6 @@
 //! How a run of the program ends.
-ghost use Rattle.std.specs.Prelude.{◌≡◌};
+ghost use Rattle.std.specs.Prelude.{◌≡◌, ◌≢◌};
+ghost use Rattle.std.specs.IoError.{error_kind};
 ghost use Rattle.coap_scripts.specs.StatusNumbers.{status_number};
 ghost use Rattle.coap_scripts.specs.declared.status.Stop.TheVariants.{Failed, Memory};
 
@@ -64,7 +65,12 @@ impl From<AllocError> for Stop {
 }
 
 /// Why a run stops whose file can't be read.
-pub fn stop_of(error: &io::Error) -> Stop {
+pub fn stop_of(error: &io::Error) -> Stop
+    // An error of a file that is want of memory stops a run for want of memory.
+    ensures memory { error_kind error.now ≡ ErrorKind.OutOfMemory → result ≡ Memory }
+    // Every other error of a file stops a run as a failure.
+    ensures failed { error_kind error.now ≢ ErrorKind.OutOfMemory → result ≡ Failed }
+{
     match error.kind() {
         ErrorKind::OutOfMemory => Stop::Memory,
         _ => Stop::Failed,
