@@ -26,6 +26,7 @@ use Rattle.coap_commands.specs.Kept.{HoldsEach, HoldsMissing, IsGoneOn, IsRefuse
 use Rattle.coap_commands.specs.Kept.{RefusesMissing}
 use Rattle.coap_commands.specs.Printed.{refused_text, served_text}
 use Rattle.coap_commands.specs.Served.{FedFrom}
+use Rattle.coap_commands.specs.ToldChanges.{IsToldIf}
 use Rattle.coap_scripts.specs.declared.status.Status.{Status}
 use Rattle.coap_scripts.specs.declared.status.Status.TheVariants as status
 use Rattle.coap_scripts.specs.declared.status.Stop.{Stop}
@@ -81,15 +82,33 @@ module _ {F : Type 0} (appends : F → List ℕ → Bool → F → Type 0) (sync
             fed_call 0 old.end is.0.end (Ticks now word k.0 k.1 k.2 k.3 k.4 k.5 did) tt (omega arith) k.6
       ])
 
-  module _ {L : Type 0} (sends : L → Endpoint → List ℕ → L → Type 0) (receives : L → Option Packet → L → Type 0)
-      (faults : L → ℕ) where
-    -- a turn
-    pub kept_turn : (e : Journal State F) (l : L) (now : ℕ) (t : Tally) (f : Journal State F) (m : L) (u : Tally)
-        → Turns waiting gives sends receives faults quiet_feed feeds quiet_tick ticks e l now t f m u
-        → FedMost t.fed u.fed e.end f.end
-    kept_turn e l now t f m u turn =
-        turn_fed (λ (j : Journal State F). j.end) waiting gives sends receives faults quiet_feed feeds quiet_tick ticks
-        given is_fed ticked e l now t f m u turn
+  -- .. and of which it is told what it applies: what is seen of the teller stands beside it
+  module _ {X : Type 0} (told : ℕ → Journal State F × X → Journal State F × X → Type 0) where
+    abbrev told_gives : Journal State F × X → layer.Packet → Journal State F × X → Type 0
+    told_gives s packet n = gives s.0 packet n.0 × (n.1 ≡ s.1)
+
+    abbrev told_feeds : Journal State F × X → ℕ → Endpoint → List ℕ → ℕ → Journal State F × X → Type 0
+    told_feeds s now from bytes word n = feeds s.0 now from bytes word n.0 × told now s n
+
+    abbrev told_ticks : Journal State F × X → ℕ → ℕ → Bool → Journal State F × X → Type 0
+    told_ticks s now word did n = ticks s.0 now word did n.0 × IsToldIf did (told now) s n
+
+    module _ {L : Type 0} (sends : L → Endpoint → List ℕ → L → Type 0) (receives : L → Option Packet → L → Type 0)
+        (faults : L → ℕ) where
+      -- a turn
+      pub kept_turn : (e : Journal State F × X) (l : L) (now : ℕ) (t : Tally) (f : Journal State F × X) (m : L)
+          (u : Tally)
+          → Turns (λ (s : Journal State F × X). waiting s.0) told_gives sends receives faults
+          (λ (s : Journal State F × X) now from bytes. quiet_feed s.0 now from bytes) told_feeds
+          (λ (s : Journal State F × X) now. quiet_tick s.0 now) told_ticks e l now t f m u
+          → FedMost t.fed u.fed e.0.end f.0.end
+      kept_turn e l now t f m u turn =
+          turn_fed (λ (s : Journal State F × X). s.0.end) (λ (s : Journal State F × X). waiting s.0) told_gives sends
+          receives faults (λ (s : Journal State F × X) now from bytes. quiet_feed s.0 now from bytes) told_feeds
+          (λ (s : Journal State F × X) now. quiet_tick s.0 now) told_ticks
+          (λ old p new is. given old.0 p new.0 is.0)
+          (λ old now from bytes word new is. is_fed old.0 now from bytes word new.0 is.0)
+          (λ old now word did new is. ticked old.0 now word did new.0 is.0) e l now t f m u turn
 
 -- so many were fed
 pub enough_fed : (count fed : ℕ) (old new : State) → count ≤ fed → FedMost 0 fed old new → FedFrom count old new

@@ -14,3 +14,5 @@ pub mod TurnCalls
 pub mod WaitedTurns
 pub mod WatchedCalls
 pub mod WhatBecomes
+pub mod DumpedLines
+pub mod LinkTexts

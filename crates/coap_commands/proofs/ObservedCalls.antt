@@ -1,7 +1,9 @@
 -- What becomes of an observation, from the calls of its client to how it ends.
-use Rattle.std.proofs.Common.{◌≡◌, ◌≤◌, ◌+◌, ◌++◌, ◌∷◌, [], ℕ, List, Option, Some, None, Result, Ok, Err, IfOk, true}
+use Rattle.std.proofs.Common.{◌≡◌, ◌≤◌, ◌+◌, ◌++◌, ◌∷◌, [], ℕ, List, Option, Some, None, Result, Ok, Err, IfOk, OnOk}
+use Rattle.std.proofs.Common.{Bool, true}
 use Rattle.std.proofs.Common.{inl, inr, refl, subst, arith}
 use Rattle.coap_types.specs.declared.endpoint.Endpoint.{Endpoint}
+use Rattle.coap_types.specs.declared.endpoint.Moment.{Moment}
 use Rattle.coap_layer.specs.declared.setup.Setup.{Setup}
 use Rattle.coap_block.specs.Sizes.{Sizes}
 use Rattle.coap_client.specs.Led.{Led, State, Step}
@@ -16,9 +18,14 @@ use Rattle.coap_client.proofs.Facts.EachCall.{led_client}
 use Rattle.coap_arguments.specs.declared.orders.AskOptions.{AskOptions}
 use Rattle.coap_commands.specs.Asks.{AsksNothing, Each, Turned, takes_report}
 use Rattle.coap_commands.specs.Observes.{AllObserving, HasAll, IsOver, ObserveBecomes, ObserveComes, Observed}
-use Rattle.coap_commands.specs.Observes.{Observing, value_in, values_in}
+use Rattle.coap_commands.specs.Observes.{Decides, Observing, WritesTaken, observed_status, value_in, values_in}
+use Rattle.coap_commands.specs.JsonLines.{WritesEnd}
+use Rattle.coap_commands.specs.JsonValues.{WritesTook, WritesValue, form_of}
+use Rattle.coap_commands.specs.declared.observe.Form.{Form}
+use Rattle.coap_commands.specs.ObservedTurns.{Observes, ObservesFrom}
 use Rattle.coap_commands.specs.declared.calling.Outcome.{Outcome}
 use Rattle.coap_commands.specs.declared.calling.Outcome.TheVariants.{GaveUp, Refused, Reported}
+use Rattle.coap_scripts.specs.declared.status.Status.{Status}
 use Rattle.coap_scripts.specs.declared.status.Stop.{Stop}
 use Rattle.coap_commands.proofs.TurnCalls.{chain_join}
 use Rattle.coap_commands.proofs.WhatBecomes.{led_on}
@@ -149,3 +156,27 @@ taken_observes Leads options now path answer id s (Ok came) is led h = λ server
     (subst (λ (a : Result CallId CallRefusal). Led server sizes w (observes now path (number_of a) ∷ []) s) is
     (led server sizes w leads)) h
 taken_observes Leads options now path answer id s (Err stop) is led h = tt
+
+-- ---- what is written
+
+-- of what is taken, in the form that the options say
+pub written_taken : (options : AskOptions) (begin values : ℕ) (now : Moment) (old new : Option (List ℕ))
+    (took : Option Report) (form : Form) (is_over : Bool) → Decides options begin values now.0 is_over
+    → form ≡ form_of options now → WritesTook form is_over old new took
+    → WritesTaken options begin values now old new took
+written_taken options begin values now old new None form is_over over is h = h
+written_taken options begin values now old new (Some report) form is_over over is h =
+    (is_over, over, subst (λ (f : Form). WritesValue f is_over old new report) is h)
+
+-- the values are written, and then how it ended
+pub told_observed : (fresh : State) (path : List (List ℕ)) (options : AskOptions)
+    (old written new : Option (List ℕ)) (outcome : Outcome) (ended : Result Status Stop)
+    → ((server : Endpoint) (sizes : Sizes) (w : Setup) → Led server sizes w [] fresh
+    → ObserveBecomes server sizes w path options outcome)
+    → ObservesFrom fresh path options old outcome written → IfOk ended (λ s. s ≡ observed_status outcome)
+    → OnOk ended (WritesEnd options.json written new outcome)
+    → IfOk ended (λ s. (server : Endpoint) (sizes : Sizes) (w : Setup) → Led server sizes w [] fresh
+    → Observes old new server sizes w path options s)
+told_observed fresh path options old written new outcome (Ok s) becomes from is end = λ server sizes w led.
+    (outcome, becomes server sizes w led, is, fresh, led, written, from, end)
+told_observed fresh path options old written new outcome (Err stop) becomes from is end = tt

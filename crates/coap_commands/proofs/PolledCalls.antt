@@ -15,7 +15,7 @@ use Rattle.coap_client.specs.declared.client.report.Report as R
 use Rattle.coap_client.specs.declared.refusals.CallRefusal.{CallRefusal}
 use Rattle.std.specs.declared.alloc.Global.{Global}
 use Rattle.coap_arguments.specs.declared.orders.AskOptions.{AskOptions}
-use Rattle.coap_commands.specs.Asks.{AsksNothing, Chain, Turned, got_status, takes_report}
+use Rattle.coap_commands.specs.Asks.{AsksNothing, Chain, Each, Turned, TurnsAt, TurnsInTime, got_status, takes_report}
 use Rattle.coap_commands.specs.Polls.{Closes, Follows, Goes, HasCome, HasRead, IsLeft, IsNext, IsPending}
 use Rattle.coap_commands.specs.Polls.{AreWritten, IsThrough, Polls, Reading, Reads, WritesAs, calls_of, pending_after}
 use Rattle.coap_commands.specs.Polls.{read_status}
@@ -25,6 +25,7 @@ use Rattle.coap_commands.specs.declared.calling.Outcome.TheVariants.{GaveUp, Ref
 use Rattle.coap_scripts.specs.declared.status.Status.{Status}
 use Rattle.coap_scripts.specs.declared.status.Stop.{Stop}
 use Rattle.coap_commands.proofs.TurnCalls.{chain_join, each_join}
+use Rattle.coap_commands.proofs.WaitedTurns.{each_as, nothing_at, nothing_in_time}
 use Rattle.coap_commands.proofs.WhatBecomes.{led_on}
 
 -- ---- calls that are added
@@ -32,12 +33,24 @@ use Rattle.coap_commands.proofs.WhatBecomes.{led_on}
 contains_first : (c : Call) (earlier : List Call) → Contains (c ∷ earlier) c
 contains_first c earlier = (0, omega arith, refl)
 
-come_on : (give_up : Option ℕ) (answer : Result ℕ CallRefusal) (more earlier : List Call) (came : Outcome)
-    → HasCome give_up answer earlier came → HasCome give_up answer (more ++ earlier) came
-come_on give_up answer more earlier (Refused why) h = h
-come_on give_up answer more earlier (Reported report) h =
-    (h.0, h.1, Contains-append_right more earlier (takes_report h.0 (shown_report report)) h.2)
-come_on give_up answer more earlier (GaveUp seconds) h = h
+-- .. behind others
+on_top : (more later behind calls : List Call) → later ≡ behind ++ calls → more ++ later ≡ (more ++ behind) ++ calls
+on_top more later behind calls is = ap (λ t. more ++ t) is ∙ sym (append_assoc more behind calls)
+
+come_on : (give_up : Option ℕ) (begin : ℕ) (answer : Result ℕ CallRefusal) (more earlier : List Call) (came : Outcome)
+    → HasCome give_up begin answer earlier came → HasCome give_up begin answer (more ++ earlier) came
+come_on give_up begin answer more earlier (Refused why) h = h
+come_on give_up begin answer more earlier (Reported report) h = (
+  h.0,
+  h.1,
+  more ++ h.2,
+  h.3,
+  on_top more earlier h.2 (takes_report h.0 (shown_report report) ∷ h.3) h.4,
+  h.5,
+  h.6,
+)
+come_on give_up begin answer more earlier (GaveUp seconds) h =
+    (h.0, h.1, more ++ h.2, h.3, on_top more earlier h.2 h.3 h.4, h.5, h.6, h.7, h.8)
 
 through_on : (answer : Result ℕ CallRefusal) (more earlier : List Call) → IsThrough answer earlier
     → IsThrough answer (more ++ earlier)
@@ -62,34 +75,53 @@ closes_now (Some id) more earlier h = (h.0, Contains-append_left more earlier (t
 
 -- ---- one reading
 
--- a report of the call comes
-pub come_report : (give_up : Option ℕ) (id : CallId) (report : R.Report Global) (old mid new : State)
-    → Turned AsksNothing old mid → Step mid (takes_report id.0 (shown_report report)) new
-    → Goes (λ calls. HasCome give_up (Ok id.0) calls (Reported report)) old new
-come_report give_up id report old mid new turned step = (
-  takes_report id.0 (shown_report report) ∷ turned.0,
-  (tt, turned.1),
-  (id.0, refl, contains_first (takes_report id.0 (shown_report report)) turned.0),
-  (mid, turned.2, step),
-)
+-- turns in time, and then one more, ask the client for nothing
+nothing_asked : (give_up : Option ℕ) (begin at : ℕ) (old waited turned : State)
+    (h : Turned (TurnsInTime give_up begin) old waited) (k : Turned (TurnsAt at) waited turned)
+    → Each AsksNothing (k.0 ++ h.0)
+nothing_asked give_up begin at old waited turned h k =
+    each_join AsksNothing k.0 h.0 (each_as (TurnsAt at) AsksNothing (nothing_at at) k.0 k.1)
+    (each_as (TurnsInTime give_up begin) AsksNothing (nothing_in_time give_up begin) h.0 h.1)
 
--- .. or it is given up
-pub come_given_up : (give_up : Option ℕ) (id : CallId) (seconds : ℕ) (old new : State) → give_up ≡ Some seconds
-    → Turned AsksNothing old new → Goes (λ calls. HasCome give_up (Ok id.0) calls (GaveUp seconds)) old new
-come_given_up give_up id seconds old new is turned = (turned.0, turned.1, (id.0, refl, is), turned.2)
+module _ (give_up : Option ℕ) (begin : ℕ) (id : CallId) where
+  -- a report of the call comes
+  pub come_report : (report : R.Report Global) (old waited turned new : State) (at : ℕ)
+      → Turned (TurnsInTime give_up begin) old waited → Turned (TurnsAt at) waited turned
+      → Step turned (takes_report id.0 (shown_report report)) new
+      → Goes (λ calls. HasCome give_up begin (Ok id.0) calls (Reported report)) old new
+  come_report report old waited turned new at h k step = (
+    takes_report id.0 (shown_report report) ∷ (k.0 ++ h.0),
+    (tt, nothing_asked give_up begin at old waited turned h k),
+    (id.0, refl, [], k.0 ++ h.0, refl, at, (k.0, h.0, refl, k.1, h.1)),
+    (turned, chain_join old waited turned k.0 h.0 h.2 k.2, step),
+  )
 
-is_pending : (give_up : Option ℕ) (id : CallId) (answer : Result ℕ CallRefusal) (later : List Call) (came : Outcome)
-    → answer ≡ Ok id.0 → HasCome give_up answer later came → IsPending (pending_after came id) answer later
-is_pending give_up id answer later (Refused why) is h = absurd (cc (sym is, h))
-is_pending give_up id answer later (Reported report) is h =
-    subst (λ a. IsThrough a later) (sym h.1) (shown_report report, h.2)
-is_pending give_up id answer later (GaveUp seconds) is h = is
+  -- .. or it is given up
+  pub come_given_up : (seconds : ℕ) (old waited turned : State) (at : ℕ) → give_up ≡ Some seconds
+      → HasPassed seconds begin at → Turned (TurnsInTime give_up begin) old waited → Turned (TurnsAt at) waited turned
+      → Goes (λ calls. HasCome give_up begin (Ok id.0) calls (GaveUp seconds)) old turned
+  come_given_up seconds old waited turned at is passed h k = (
+    k.0 ++ h.0,
+    nothing_asked give_up begin at old waited turned h k,
+    (id.0, refl, [], k.0 ++ h.0, refl, is, at, passed, (k.0, h.0, refl, k.1, h.1)),
+    chain_join old waited turned k.0 h.0 h.2 k.2,
+  )
+
+  is_pending : (answer : Result ℕ CallRefusal) (later : List Call) (came : Outcome) → answer ≡ Ok id.0
+      → HasCome give_up begin answer later came → IsPending (pending_after came id) answer later
+  is_pending answer later (Refused why) is h = absurd (cc (sym is, h))
+  is_pending answer later (Reported report) is h =
+      let taken : Call = takes_report h.0 (shown_report report) in
+      let there = subst (λ calls. Contains calls taken) (sym h.4)
+      (Contains-append_right h.2 (taken ∷ h.3) taken (contains_first taken h.3)) in
+      subst (λ a. IsThrough a later) (sym h.1) (shown_report report, there)
+  is_pending answer later (GaveUp seconds) is h = is
 
 module _ (give_up : Option ℕ) (request : Request) (now : ℕ) (answer : Result CallId CallRefusal) (old : State) where
   -- the call is taken
   pub reads_taken : (id : CallId) (came : Outcome) (mid new : State) → answer ≡ Ok id
       → Step old (Calls now request (number_of answer)) mid
-      → Goes (λ calls. HasCome give_up (Ok id.0) calls came) mid new
+      → Goes (λ calls. HasCome give_up now (Ok id.0) calls came) mid new
       → Reads give_up request now came (pending_after came id) old new
   reads_taken id came mid new is step goes =
       let taken = subst (λ (a : Result CallId CallRefusal). Step old (Calls now request (number_of a)) mid) is step in (
@@ -97,7 +129,7 @@ module _ (give_up : Option ℕ) (request : Request) (now : ℕ) (answer : Result
         refl,
         refl,
         (goes.1, goes.2),
-        is_pending give_up id (Ok id.0) goes.0 came refl goes.2,
+        is_pending give_up now id (Ok id.0) goes.0 came refl goes.2,
         chain_join old mid new goes.0 (Calls now request (Ok id.0) ∷ []) (old, refl, taken) goes.3,
       )
 
@@ -117,7 +149,7 @@ module _ (give_up : Option ℕ) (request : Request) (now : ℕ) (answer : Result
 pub reads_ended : (give_up : Option ℕ) (request asked : Request) (now : ℕ) (answer : Result CallId CallRefusal)
     (id : CallId) (old mid new : State) (ended : Result (Outcome × Option CallId) Stop) → request ≡ asked
     → answer ≡ Ok id → Step old (Calls now request (number_of answer)) mid
-    → IfOk ended (λ made. Goes (λ calls. HasCome give_up (Ok id.0) calls made.0) mid new
+    → IfOk ended (λ made. Goes (λ calls. HasCome give_up now (Ok id.0) calls made.0) mid new
     × (made.1 ≡ pending_after made.0 id))
     → IfOk ended (λ made. Reads give_up asked now made.0 made.1 old new)
 reads_ended give_up request asked now answer id old mid new (Ok made) same is step h =
@@ -245,7 +277,7 @@ module _ (options : AskOptions) (every : ℕ) (request : Request) (count now : �
             (
               (
                 each_join AsksNothing goes.0 r.later goes.1 reads.3.0,
-                come_on options.give_up r.answer goes.0 r.later r.outcome reads.3.1,
+                come_on options.give_up r.now r.answer goes.0 r.later r.outcome reads.3.1,
               ),
               follows,
               before.3.0,

@@ -34,6 +34,7 @@ use Rattle.coap_commands.specs.Served.{not_set_up_status}
 use Rattle.coap_commands.specs.Serves.{Serves, Turning, nothing_fed}
 use Rattle.coap_commands.specs.Serves.{further as more, none as no_turn}
 use Rattle.coap_commands.specs.SettingUp.{IsRefusedAfter, IsServerAfter}
+use Rattle.coap_commands.specs.ToldChanges.{IsToldIf}
 use Rattle.coap_scripts.specs.Settings.{Setting}
 use Rattle.coap_scripts.specs.declared.status.Status.{Status}
 use Rattle.coap_scripts.specs.declared.status.Status.TheVariants as status
@@ -202,30 +203,47 @@ server_ticks s now word did n =
     (below : Answer) × (room : Bool) × (due : Due) × (passed : ℕ) × (h : Handling) × (id : ℕ)
     × Step s (Ticks now word below room due passed h id did) n
 
-module _ {L : Type 0} (waiting : State → List layer.Packet) (sends : L → Endpoint → List ℕ → L → Type 0)
-    (receives : L → Option Packet → L → Type 0) (faults : L → ℕ) (quiet_feed : State → ℕ → Endpoint → List ℕ → Type 0)
-    (quiet_tick : State → ℕ → Type 0)
-  where
-    server_fed : (count word : ℕ) (e : State) (l : L) (f : State) (m : L)
-        → Serves (Turns waiting server_gives sends receives faults quiet_feed server_feeds quiet_tick server_ticks)
-        (λ g k f m. SendsAll server_gives sends g k (waiting g) f m) count word e l f m → FedFrom count e f
-    server_fed count word e l f m h =
-        serves_fed (λ s. s) waiting server_gives sends receives faults quiet_feed server_feeds quiet_tick server_ticks
-        (λ old p new k. fed_call 0 old new (NextOut (Some p)) tt (omega arith) k)
-        (λ old now from bytes word new k. fed_call 1 old new (FedIn now from bytes word k.0 k.1 k.2 k.3) tt
-        (omega arith) k.4)
-        (λ old now word did new k. fed_call 0 old new (Ticks now word k.0 k.1 k.2 k.3 k.4 k.5 did) tt (omega arith) k.6)
-        count word e l f m h
+-- .. and those of one of which it is told what it applies: what is seen of the teller stands beside the server
+module _ {X : Type 0} (told : ℕ → State × X → State × X → Type 0) where
+  abbrev told_gives : State × X → layer.Packet → State × X → Type 0
+  told_gives s packet n = server_gives s.0 packet n.0 × (n.1 ≡ s.1)
 
-    -- .. from where it was
-    pub served_from : (count word : ℕ) (own first last : State) (l m : L) (ended : Result Status Stop) → first ≡ own
-        → IfOk ended (λ s. (s ≡ status.Done)
-        × Serves (Turns waiting server_gives sends receives faults quiet_feed server_feeds quiet_tick server_ticks)
-        (λ g k f m. SendsAll server_gives sends g k (waiting g) f m) count word first l last m)
-        → IfOk ended (λ s. (s ≡ status.Done) × (end : State) × FedFrom count own end)
-    served_from count word own first last l m (Ok s) is h =
-        (h.0, last, subst (λ (at : State). FedFrom count at last) is (server_fed count word first l last m h.1))
-    served_from count word own first last l m (Err stop) is h = tt
+  abbrev told_feeds : State × X → ℕ → Endpoint → List ℕ → ℕ → State × X → Type 0
+  told_feeds s now from bytes word n = server_feeds s.0 now from bytes word n.0 × told now s n
+
+  abbrev told_ticks : State × X → ℕ → ℕ → Bool → State × X → Type 0
+  told_ticks s now word did n = server_ticks s.0 now word did n.0 × IsToldIf did (told now) s n
+
+  module _ {L : Type 0} (waiting : State × X → List layer.Packet) (sends : L → Endpoint → List ℕ → L → Type 0)
+      (receives : L → Option Packet → L → Type 0) (faults : L → ℕ)
+      (quiet_feed : State × X → ℕ → Endpoint → List ℕ → Type 0) (quiet_tick : State × X → ℕ → Type 0)
+    where
+      server_fed : (count word : ℕ) (e : State × X) (l : L) (f : State × X) (m : L)
+          → Serves (Turns waiting told_gives sends receives faults quiet_feed told_feeds quiet_tick told_ticks)
+          (λ g k f m. SendsAll told_gives sends g k (waiting g) f m) count word e l f m → FedFrom count e.0 f.0
+      server_fed count word e l f m h =
+          serves_fed (λ (s : State × X). s.0) waiting told_gives sends receives faults quiet_feed told_feeds quiet_tick
+          told_ticks
+          (λ old p new k. fed_call 0 old.0 new.0 (NextOut (Some p)) tt (omega arith) k.0)
+          (λ old now from bytes word new k. fed_call 1 old.0 new.0
+          (FedIn now from bytes word k.0.0 k.0.1 k.0.2 k.0.3) tt (omega arith) k.0.4)
+          (λ old now word did new k. fed_call 0 old.0 new.0 (Ticks now word k.0.0 k.0.1 k.0.2 k.0.3 k.0.4 k.0.5 did) tt
+          (omega arith) k.0.6)
+          count word e l f m h
+
+      -- .. from where it was
+      pub served_from : (count word : ℕ) (own : State) (first last : State × X) (l m : L) (ended : Result Status Stop)
+          → first.0 ≡ own
+          → IfOk ended (λ s. (s ≡ status.Done)
+          × Serves (Turns waiting told_gives sends receives faults quiet_feed told_feeds quiet_tick told_ticks)
+          (λ g k f m. SendsAll told_gives sends g k (waiting g) f m) count word first l last m)
+          → IfOk ended (λ s. (s ≡ status.Done) × (end : State) × FedFrom count own end)
+      served_from count word own first last l m (Ok s) is h = (
+        h.0,
+        last.0,
+        subst (λ (at : State). FedFrom count at last.0) is (server_fed count word first l last m h.1),
+      )
+      served_from count word own first last l m (Err stop) is h = tt
 
 -- it serves as its words and its settings say
 pub served_by : (old new : Option (List ℕ)) (count : ℕ) (options : ServeOptions) (settings : List Setting)

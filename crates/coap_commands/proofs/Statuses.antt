@@ -267,33 +267,36 @@ left_carried (Ended (outcome.Reported r)) is_over s h = reported_carried r is_ov
 left_carried (Ended (outcome.GaveUp seconds)) is_over s h = inr (cc h)
 
 -- a task that a client is handed
-does_carried : (Stands : Endpoint → Type 0) (options : AskOptions) (word : ℕ) (task : Task) (s : Status)
-    → Does Stands options word task s → IsCarriedOut s
-does_carried Stands options word (tasks.Request made) s h =
-    let asks = h.2.2 in
+does_carried : (old new : Option (List ℕ)) (Stands : Endpoint → Type 0) (options : AskOptions) (word : ℕ) (task : Task)
+    (s : Status)
+    → Does old new Stands options word task s → IsCarriedOut s
+does_carried old new Stands options word (tasks.Request made) s h =
+    let asks = h.2 in
     subst IsCarriedOut (sym asks.2) (after_carried (shown_request made).method asks.0)
-does_carried Stands options word (tasks.Observation of) s h =
-    let observes = h.2.2 in
+does_carried old new Stands options word (tasks.Observation of) s h =
+    let observes = h.2 in
     subst IsCarriedOut (sym observes.2) (observed_ends observes.0)
-does_carried Stands options word (tasks.Watch of again) s h =
-    let followed = h.1.9 in
-    left_carried h.1.4 followed.1 s followed.3
-does_carried Stands options word (tasks.Polling of every) s h =
-    let polls = h.2.2 in
+does_carried old new Stands options word (tasks.Watch of again) s h =
+    let followed = h.1.11 in
+    left_carried h.1.5 followed.1 s followed.3
+does_carried old new Stands options word (tasks.Polling of every) s h =
+    let polls = h.2 in
     subst IsCarriedOut (sym polls.3) (read_ends polls.0)
-does_carried Stands options word (tasks.Discovery made) s h =
-    let discovers = h.2.2 in
+does_carried old new Stands options word (tasks.Discovery made) s h =
+    let discovers = h.2 in
     links_carried discovers.0 s discovers.2
 
-asked_carried : (ended : Result Status Stop) (server : ServerSpec) (path : List (List ℕ)) (what : What)
-    (options : AskOptions) → IfOk ended (IsAsked server path what options) → IfOk ended IsCarriedOut
-asked_carried (Ok s) server path what options h = does_carried (IsServer server) options h.0 h.2 s h.4
-asked_carried (Err stop) server path what options h = tt
+asked_carried : (old new : Option (List ℕ)) (ended : Result Status Stop) (server : ServerSpec) (path : List (List ℕ))
+    (what : What)
+    (options : AskOptions) → IfOk ended (IsAsked old new server path what options) → IfOk ended IsCarriedOut
+asked_carried old new (Ok s) server path what options h = does_carried old new (IsServer server) options h.0 h.2 s h.4
+asked_carried old new (Err stop) server path what options h = tt
 
-discovered_carried : (ended : Result Status Stop) (server : ServerSpec) (options : AskOptions)
-    → IfOk ended (IsDiscovered server options) → IfOk ended IsCarriedOut
-discovered_carried (Ok s) server options h = does_carried (IsServer server) options h.0 h.2 s h.4
-discovered_carried (Err stop) server options h = tt
+discovered_carried : (old new : Option (List ℕ)) (ended : Result Status Stop) (server : ServerSpec)
+    (options : AskOptions)
+    → IfOk ended (IsDiscovered old new server options) → IfOk ended IsCarriedOut
+discovered_carried old new (Ok s) server options h = does_carried old new (IsServer server) options h.0 h.2 s h.4
+discovered_carried old new (Err stop) server options h = tt
 
 paired_done : (old new : Option (List ℕ)) (ended : Result Status Stop) (path : List (List ℕ)) (body : List ℕ)
     (word : WordChoice)
@@ -374,9 +377,9 @@ text_only old new (Pair path body word limit remembered) ended c h =
 text_only old new (Serve port count options script pcap journal) ended c h =
     as_said old new ended count options script journal c h
 text_only old new (Ask server path what options pcap) ended c h =
-    absurd (carried_out ended (asked_carried ended server path what options c) h)
+    absurd (carried_out ended (asked_carried old new ended server path what options c) h)
 text_only old new (Discover server options pcap) ended c h =
-    absurd (carried_out ended (discovered_carried ended server options c) h)
+    absurd (carried_out ended (discovered_carried old new ended server options c) h)
 text_only old new (Ping server options pcap) ended c h = absurd (carried_out ended c h)
 text_only old new (Sim file store plains remembered chart client server pcap) ended c h = tt
 

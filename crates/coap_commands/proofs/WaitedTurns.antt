@@ -3,7 +3,7 @@ use Rattle.std.proofs.Common.{◌≡◌, ◌-◌, ℕ, List, [], ◌∷◌, Opti
 use Rattle.coap_client.specs.Led.{State}
 use Rattle.coap_client.specs.Trace.{Asked, Call, Calls, Cancels, Feeds, Forgets, NextOut, NextReport, Ticks}
 use Rattle.coap_client.specs.Trace.{Observes as observes}
-use Rattle.coap_commands.specs.Asks.{Each, Turned, TurnsAt, TurnsInTime}
+use Rattle.coap_commands.specs.Asks.{AsksNothing, Each, Turned, TurnsAt, TurnsInTime}
 use Rattle.coap_commands.specs.Waiting.{HasLasted, HasPassed}
 
 pub not_lasted : (give_up : Option ℕ) (begin now : ℕ)
@@ -37,3 +37,32 @@ pub turned_in_time : (give_up : Option ℕ) (begin now : ℕ) (old new : State)
     → Turned (TurnsInTime give_up begin) old new
 turned_in_time give_up begin now old new none h =
     (h.0, each_in_time give_up begin now (not_lasted give_up begin now none) h.0 h.1, h.2)
+
+-- ---- such turns ask the client for nothing
+
+pub nothing_at : (now : ℕ) (c : Call) → TurnsAt now c → AsksNothing c
+nothing_at now (Calls n request answer) h = absurd h
+nothing_at now (observes n path answer) h = absurd h
+nothing_at now (Cancels n of answer) h = absurd h
+nothing_at now (Forgets of kept answer) h = absurd h
+nothing_at now (Feeds n from bytes word up settled event sent token kept) h = tt
+nothing_at now (Ticks n word below turn sent token kept answer) h = tt
+nothing_at now (NextOut answer) h = tt
+nothing_at now (NextReport answer) h = tt
+nothing_at now (Asked answer) h = absurd h
+
+pub nothing_in_time : (give_up : Option ℕ) (begin : ℕ) (c : Call) → TurnsInTime give_up begin c → AsksNothing c
+nothing_in_time give_up begin (Calls n request answer) h = absurd h
+nothing_in_time give_up begin (observes n path answer) h = absurd h
+nothing_in_time give_up begin (Cancels n of answer) h = absurd h
+nothing_in_time give_up begin (Forgets of kept answer) h = absurd h
+nothing_in_time give_up begin (Feeds n from bytes word up settled event sent token kept) h = tt
+nothing_in_time give_up begin (Ticks n word below turn sent token kept answer) h = tt
+nothing_in_time give_up begin (NextOut answer) h = tt
+nothing_in_time give_up begin (NextReport answer) h = tt
+nothing_in_time give_up begin (Asked answer) h = absurd h
+
+pub each_as : (like other : Call → Type 0) → ((c : Call) → like c → other c) → (calls : List Call) → Each like calls
+    → Each other calls
+each_as like other on [] h = tt
+each_as like other on (c ∷ calls) h = (on c h.0, each_as like other on calls h.1)

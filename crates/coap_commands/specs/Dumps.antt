@@ -1,7 +1,10 @@
 -- With which status a datagram is shown, and a line that may have one in hex (RFC 7252, section 3).
-use Rattle.std.specs.Prelude.{◌≡◌, ◌≢◌, ℕ, List, Ok}
+use Rattle.std.specs.Prelude.{◌≡◌, ◌≢◌, ℕ, List, [], ◌∷◌, Ok, map, max}
+use Rattle.std.specs.Io.BufRead.{strip_last}
 use Rattle.coap_codec.specs.Message.{Message, Spells}
 use Rattle.hex.specs.Hex.{decode_of}
+use Rattle.coap_scripts.specs.Script.{EachOf, lines_of}
+use Rattle.coap_scripts.specs.StatusNumbers.{status_number}
 use Rattle.coap_scripts.specs.declared.status.Status.{Status}
 use Rattle.coap_scripts.specs.declared.status.Status.TheVariants.{Done, Refused, Words, Failed, Memory}
 
@@ -20,3 +23,17 @@ IsLineStatus line Refused = (datagram : List ℕ) × (decode_of line ≡ Ok data
 IsLineStatus line Words = (datagram : List ℕ) → decode_of line ≢ Ok datagram
 IsLineStatus line Failed = ⊥
 IsLineStatus line Memory = ⊥
+
+-- the lines of a text, each without the carriage return (13) that may stand before its end
+abbrev pub dump_lines : List ℕ → List (List ℕ)
+dump_lines text = map (strip_last 13) (lines_of text)
+
+-- the greatest of these statuses, as a number; with none nothing is at fault
+abbrev pub worst_of : List Status → ℕ
+worst_of [] = 0
+worst_of (s ∷ statuses) = max (status_number s) (worst_of statuses)
+
+-- each line of the text has its status, and this is the worst of them
+abbrev pub IsDumped : List ℕ → Status → Type 0
+IsDumped text status = (statuses : List Status) × EachOf (λ s line. IsLineStatus line s) (dump_lines text) statuses
+    × (status_number status ≡ worst_of statuses)

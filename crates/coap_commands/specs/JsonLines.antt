@@ -38,6 +38,11 @@ abbrev pub WritesRequest : Bool → Method → (old new : Option (List ℕ)) →
 WritesRequest true method old new outcome = WritesOutcome true old new outcome
 WritesRequest false method old new outcome = WritesInWords method old new outcome
 
+-- how an observation ended is written in JSON, where that is wanted, and else nothing is
+abbrev pub WritesEnd : Bool → (old new : Option (List ℕ)) → Outcome → Type 0
+WritesEnd true old new ended = WritesOutcome true old new ended
+WritesEnd false old new ended = new ≡ old
+
 -- a client is asked this, the status is that of what becomes of it, and this is written
 abbrev pub Tells : Bool → (old new : Option (List ℕ)) → Endpoint → (sizes : Sizes) → Setup → Option ℕ → Request
     → Status → Type 0

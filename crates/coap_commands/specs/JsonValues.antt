@@ -1,5 +1,5 @@
 -- How the values of an observation are printed (docs/PROTOCOL.md): each by a line of its own, until it is over.
-use Rattle.std.specs.Prelude.{◌≡◌, ℕ, Bool, true, false, List, Option, if◌then◌else◌}
+use Rattle.std.specs.Prelude.{◌≡◌, ℕ, Bool, true, false, List, Option, None, Some, if◌then◌else◌}
 use Rattle.coap_client.specs.Trace.{Report, is_value}
 use Rattle.coap_json.specs.ReportObjects.{report_object}
 use Rattle.coap_types.specs.declared.endpoint.Moment.{Moment}
@@ -23,3 +23,8 @@ abbrev pub WritesValue : Form → Bool → (old new : Option (List ℕ)) → Rep
 WritesValue Bytes is_over old new report = WritesLine false is_over old new report
 WritesValue Hex is_over old new report = WritesLine true is_over old new report
 WritesValue (Json at) is_over old new report = WritesReport (is_value report) is_over at.0 old new report
+
+-- .. where one is taken
+abbrev pub WritesTook : Form → Bool → (old new : Option (List ℕ)) → Option Report → Type 0
+WritesTook form is_over old new None = new ≡ old
+WritesTook form is_over old new (Some report) = WritesValue form is_over old new report

@@ -14,6 +14,7 @@ pub mod JsonLines
 pub mod JsonValues
 pub mod Kept
 pub mod KeptWords
+pub mod ObservedTurns
 pub mod Observes
 pub mod Pairs
 pub mod Pinged

@@ -1,19 +1,21 @@
 -- What becomes of an observation that a client is handed, and with which status a program ends that observes (RFC 7641,
 -- section 3).
-use Rattle.std.specs.Prelude.{◌≡◌, ◌≤◌, ◌⊎◌, ⊤, ℕ, ◌+◌, false, List, [], ◌∷◌, ◌++◌, Option}
+use Rattle.std.specs.Prelude.{◌≡◌, ◌≤◌, ◌⊎◌, ◌↔◌, ⊤, ℕ, Bool, ◌+◌, true, false, List, [], ◌∷◌, ◌++◌, Option}
 use Rattle.std.specs.Prelude.{None, Some, Ok, Err, if◌then◌else◌}
 use Rattle.std.specs.declared.alloc.Global.{Global}
 use Rattle.coap_types.specs.declared.endpoint.Endpoint.{Endpoint}
+use Rattle.coap_types.specs.declared.endpoint.Moment.{Moment}
 use Rattle.coap_layer.specs.declared.setup.Setup.{Setup}
 use Rattle.coap_block.specs.Sizes.{Sizes}
 use Rattle.coap_client.specs.Led.{Led, State, Step}
 use Rattle.coap_client.specs.Object.Shown.{shown_report}
-use Rattle.coap_client.specs.Trace.{Call, Cancels, Feeds, NextOut, NextReport, Reported, Ticks, is_value}
+use Rattle.coap_client.specs.Trace.{Call, Cancels, Feeds, NextOut, NextReport, Report, Reported, Ticks, is_value}
 use Rattle.coap_client.specs.Trace.{Observes as observes}
 use Rattle.coap_client.specs.declared.client.report.Report as R
 use Rattle.coap_client.specs.declared.client.report.Report.TheVariants as report
 use Rattle.coap_arguments.specs.declared.orders.AskOptions.{AskOptions}
 use Rattle.coap_commands.specs.Asks.{Chain, takes_report}
+use Rattle.coap_commands.specs.JsonValues.{WritesValue, form_of}
 use Rattle.coap_commands.specs.declared.calling.Outcome.{Outcome}
 use Rattle.coap_commands.specs.declared.calling.Outcome.TheVariants as outcome
 use Rattle.coap_scripts.specs.declared.status.Status.{Status}
@@ -39,6 +41,19 @@ IsOver options begin values now = HasAll options.times values ⊎ IsLate options
 abbrev pub HasGivenUp : AskOptions → (begin values now : ℕ) → Type 0
 HasGivenUp options begin values now =
     (seconds : ℕ) × (options.give_up ≡ Some seconds) × (values ≡ 0) × HasPassed seconds begin now
+
+-- the observation is over at this moment, after so many values, or it is not
+abbrev pub Decides : AskOptions → (since values now : ℕ) → Bool → Type 0
+Decides options since values now is_over = (is_over ≡ true) ↔ IsOver options since values now
+
+-- what is taken in a turn at this moment, after so many values, is written as its form says: a value once, whole, where
+-- the observation was not over by then, and else nothing
+abbrev pub WritesTaken : AskOptions → (begin values : ℕ) → Moment → (old new : Option (List ℕ)) → Option Report
+    → Type 0
+WritesTaken options begin values now old new None = new ≡ old
+WritesTaken options begin values now old new (Some report) =
+    (is_over : Bool) × Decides options begin values now.0 is_over
+    × WritesValue (form_of options now) is_over old new report
 
 -- how many values are taken
 abbrev pub value_of : Option Reported → ℕ
@@ -108,8 +123,3 @@ abbrev pub observed_status : Outcome → Status
 observed_status (outcome.Refused why) = status.Refused
 observed_status (outcome.Reported report) = observed_report report
 observed_status (outcome.GaveUp seconds) = status.Refused
-
--- a client observes this, and the status is that of what becomes of it
-abbrev pub Observes : Endpoint → (sizes : Sizes) → Setup → List (List ℕ) → AskOptions → Status → Type 0
-Observes server sizes setup path options status =
-    (outcome : Outcome) × ObserveBecomes server sizes setup path options outcome × (status ≡ observed_status outcome)

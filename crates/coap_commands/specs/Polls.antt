@@ -12,7 +12,7 @@ use Rattle.coap_client.specs.Trace.{Call, Calls, Report, Request}
 use Rattle.coap_client.specs.declared.client.report.CallId.{CallId}
 use Rattle.coap_client.specs.declared.refusals.CallRefusal.{CallRefusal}
 use Rattle.coap_arguments.specs.declared.orders.AskOptions.{AskOptions}
-use Rattle.coap_commands.specs.Asks.{AsksNothing, Chain, Each, got_status, takes_report}
+use Rattle.coap_commands.specs.Asks.{AsksNothing, Chain, Each, TurnsAt, TurnsInTime, got_status, takes_report}
 use Rattle.coap_commands.specs.JsonLines.{WritesOutcome}
 use Rattle.coap_commands.specs.Printed.{WritesReading}
 use Rattle.coap_commands.specs.Waiting.{HasPassed}
@@ -29,18 +29,27 @@ pub record Reading : Type 0 where
   pub later : List Call
   pub outcome : Outcome
 
--- the client refused the call; or took it under a number, and this was reported of that; or it was given up, where so
--- many seconds may pass
-abbrev pub HasCome : Option ℕ → Result ℕ CallRefusal → List Call → Outcome → Type 0
-HasCome give_up answer later (outcome.Refused why) = answer ≡ Err why
-HasCome give_up answer later (outcome.Reported report) =
-    (number : ℕ) × (answer ≡ Ok number) × Contains later (takes_report number (shown_report report))
-HasCome give_up answer later (outcome.GaveUp seconds) =
-    (number : ℕ) × (answer ≡ Ok number) × (give_up ≡ Some seconds)
+-- these calls are turns before as many seconds had passed since that moment as may pass, and then one at this moment
+abbrev pub AreInTime : Option ℕ → (begin at : ℕ) → List Call → Type 0
+AreInTime give_up begin at calls =
+    (last : List Call) × (earlier : List Call) × (calls ≡ last ++ earlier) × Each (TurnsAt at) last
+    × Each (TurnsInTime give_up begin) earlier
+
+-- The client refused the call, at this moment; or took it under a number, and behind turns in time this was reported of
+-- that; or it was given up in the first turn after as many seconds as may pass.
+abbrev pub HasCome : Option ℕ → ℕ → Result ℕ CallRefusal → List Call → Outcome → Type 0
+HasCome give_up begin answer later (outcome.Refused why) = answer ≡ Err why
+HasCome give_up begin answer later (outcome.Reported report) =
+    (number : ℕ) × (answer ≡ Ok number) × (behind : List Call) × (calls : List Call)
+    × (later ≡ behind ++ takes_report number (shown_report report) ∷ calls)
+    × (at : ℕ) × AreInTime give_up begin at calls
+HasCome give_up begin answer later (outcome.GaveUp seconds) =
+    (number : ℕ) × (answer ≡ Ok number) × (behind : List Call) × (calls : List Call) × (later ≡ behind ++ calls)
+    × (give_up ≡ Some seconds) × (at : ℕ) × HasPassed seconds begin at × AreInTime give_up begin at calls
 
 -- between its call and the next one the client is asked for nothing
 abbrev pub IsReading : Option ℕ → Reading → Type 0
-IsReading give_up r = Each AsksNothing r.later × HasCome give_up r.answer r.later r.outcome
+IsReading give_up r = Each AsksNothing r.later × HasCome give_up r.now r.answer r.later r.outcome
 
 -- the client is through with the call: it refused it, or a report of its number was taken
 abbrev pub IsThrough : Result ℕ CallRefusal → List Call → Type 0

@@ -43,8 +43,8 @@ ReadsText (DumpCapture file chart) = ⊤
 ReadsText (Serve port count options script pcap journal) = IsSome script
 ReadsText _ = ⊥
 
--- what this order comes to, carried out to its end; what a pair and a server print is written behind what standard
--- output has
+-- what this order comes to, carried out to its end; what a pair, a server and a client print is written behind what
+-- standard output has
 abbrev pub CarriesOut : (old new : Option (List ℕ)) → Order → Status → Type 0
 CarriesOut old new (Sim file store plains remembered chart client server pcap) s = (events : List Event)
     × IsSim (sim_config (record { client = client; server = server }) remembered plains.items) events s
@@ -54,8 +54,8 @@ CarriesOut old new Version s = s ≡ status.Done
 CarriesOut old new (Pair path body word limit remembered) s = IsPaired old new path body.now word limit remembered s
 CarriesOut old new (Serve port count options script pcap journal) s =
     IsServedAsSaid old new count options script journal s
-CarriesOut old new (Ask server path what options pcap) s = IsAsked server path what options s
-CarriesOut old new (Discover server options pcap) s = IsDiscovered server options s
+CarriesOut old new (Ask server path what options pcap) s = IsAsked old new server path what options s
+CarriesOut old new (Discover server options pcap) s = IsDiscovered old new server options s
 CarriesOut old new _ s = IsCarriedOut s
 
 -- what telling of a wrong comes to: bad hex is told on standard output, which may fail

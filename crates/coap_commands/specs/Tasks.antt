@@ -10,7 +10,7 @@ use Rattle.coap_commands.specs.Asked.{IsBody, IsWord, asked_request, is_observe,
 use Rattle.coap_commands.specs.Discovers.{Discovers, IsCore}
 use Rattle.coap_commands.specs.Hosts.{IsServer}
 use Rattle.coap_commands.specs.JsonLines.{Tells}
-use Rattle.coap_commands.specs.Observes.{Observes}
+use Rattle.coap_commands.specs.ObservedTurns.{Observes}
 use Rattle.coap_commands.specs.Polls.{Polls}
 use Rattle.coap_commands.specs.Terms.{asked_terms, setup_of, sizes_of}
 use Rattle.coap_commands.specs.Watches.{Watches}
@@ -46,16 +46,17 @@ IsDiscovery options task = ⊥
 
 -- a client of this server, with this word and by these options, is handed the task, and this is the status of what
 -- becomes of it; an observation that may be made anew is handed to several; what became of a request, and of each
--- reading, is written behind what a writer has
+-- reading, the links that came and the values of an observation are written behind what a writer has
 abbrev pub DoesAt : (old new : Option (List ℕ)) → Endpoint → AskOptions → ℕ → Task → Status → Type 0
 DoesAt old new server options word (Request made) status =
     Tells options.json old new server (sizes_of (asked_terms word options)) (setup_of (asked_terms word options))
     options.give_up (shown_request made) status
 DoesAt old new server options word (Discovery made) status =
-    Discovers server (sizes_of (asked_terms word options)) (setup_of (asked_terms word options)) options.give_up
-    (shown_request made) status
+    Discovers options.json old new server (sizes_of (asked_terms word options)) (setup_of (asked_terms word options))
+    options.give_up (shown_request made) status
 DoesAt old new server options word (Observation of) status =
-    Observes server (sizes_of (asked_terms word options)) (setup_of (asked_terms word options)) of.now options status
+    Observes old new server (sizes_of (asked_terms word options)) (setup_of (asked_terms word options)) of.now options
+    status
 DoesAt old new server options word (Polling of every) status =
     Polls old new server (sizes_of (asked_terms word options)) (setup_of (asked_terms word options))
     (asked_request Get of.now options []) every options status
@@ -64,30 +65,24 @@ DoesAt old new server options word (Watch of again) status = ⊥
 abbrev pub IsDoneTo : (old new : Option (List ℕ)) → Endpoint → Asked → Status → Type 0
 IsDoneTo old new server asked status = DoesAt old new server asked.options.now asked.word asked.task status
 
--- .. whatever that writer is
-abbrev pub DoneAt : Endpoint → AskOptions → ℕ → Task → Status → Type 0
-DoneAt server options word task status =
-    (old new : Option (List ℕ)) × DoesAt old new server options word task status
-
-abbrev pub IsDoneAt : Endpoint → Asked → Status → Type 0
-IsDoneAt server asked status = DoneAt server asked.options.now asked.word asked.task status
-
 -- the same, of a server for which these endpoints stand
-abbrev pub Does : (Endpoint → Type 0) → AskOptions → ℕ → Task → Status → Type 0
-Does Stands options word (Watch of again) status = Watches Stands word of.now options again status
-Does Stands options word task status = (server : Endpoint) × Stands server × DoneAt server options word task status
+abbrev pub Does : (old new : Option (List ℕ)) → (Endpoint → Type 0) → AskOptions → ℕ → Task → Status → Type 0
+Does old new Stands options word (Watch of again) status =
+    Watches old new Stands word of.now options again status
+Does old new Stands options word task status =
+    (server : Endpoint) × Stands server × DoesAt old new server options word task status
 
-abbrev pub IsDone : (Endpoint → Type 0) → Asked → Status → Type 0
-IsDone Stands asked status = Does Stands asked.options.now asked.word asked.task status
+abbrev pub IsDone : (old new : Option (List ℕ)) → (Endpoint → Type 0) → Asked → Status → Type 0
+IsDone old new Stands asked status = Does old new Stands asked.options.now asked.word asked.task status
 
 -- what the words ask for is done at the server that they say
-abbrev pub IsAsked : Server → List (List ℕ) → What → AskOptions → Status → Type 0
-IsAsked server path what options status =
+abbrev pub IsAsked : (old new : Option (List ℕ)) → Server → List (List ℕ) → What → AskOptions → Status → Type 0
+IsAsked old new server path what options status =
     (word : ℕ) × IsWord options.word word × (task : Task) × IsTask what path options task
-    × Does (IsServer server) options word task status
+    × Does old new (IsServer server) options word task status
 
 -- .. and what the server has is asked for there
-abbrev pub IsDiscovered : Server → AskOptions → Status → Type 0
-IsDiscovered server options status =
+abbrev pub IsDiscovered : (old new : Option (List ℕ)) → Server → AskOptions → Status → Type 0
+IsDiscovered old new server options status =
     (word : ℕ) × IsWord options.word word × (task : Task) × IsDiscovery options task
-    × Does (IsServer server) options word task status
+    × Does old new (IsServer server) options word task status

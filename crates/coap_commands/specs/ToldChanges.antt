@@ -1,5 +1,5 @@
 -- What is told of a request that is applied: that request, once; what could not be told is counted.
-use Rattle.std.specs.Prelude.{ℕ, Bool, List, [], ◌∷◌, Option, Some, None, ◌≡◌, if◌then◌else◌}
+use Rattle.std.specs.Prelude.{ℕ, Bool, true, false, List, [], ◌∷◌, Option, Some, None, ◌≡◌, if◌then◌else◌}
 use Rattle.coap_types.specs.declared.request.Method.{Method}
 use Rattle.coap_resource.specs.Content.{Held}
 use Rattle.coap_links.specs.Faults.{raised}
@@ -28,3 +28,16 @@ IsToldWhere tells at applied bodies None n u m = (u ≡ None) × (m ≡ n)
 IsToldWhere tells at [] bodies (Some t) n u m = (u ≡ Some t) × (m ≡ n)
 IsToldWhere {T} tells at (a ∷ more) bodies (Some t) n u m = (v : T) × (u ≡ Some v)
     × IsToldOnce (λ x told y. tells x at a.method a.path a.version (bodies a.path) told y) t n v m
+
+-- A step of an end around another one (`s` and `n` are what is seen of it before and after: of the end inside, its
+-- teller and the count): what the end inside then has applied last is told of.
+abbrev pub IsToldAfter : {E S T : Type 0} → (E → S) → (E → List Applied) → (E → List (List ℕ) → List ℕ)
+    → (T → ℕ → Method → List (List ℕ) → ℕ → List ℕ → Bool → T → Type 0) → ℕ → S × (Option T × ℕ) → S × (Option T × ℕ)
+    → Type 0
+IsToldAfter {E} state applies bodies tells at s n = (e : E) × (state e ≡ n.0)
+    × IsToldWhere tells at (applies e) (bodies e) s.1.0 s.1.1 n.1.0 n.1.1
+
+-- .. where it did something, and else nothing is told of
+abbrev pub IsToldIf : {S X : Type 0} → Bool → (S × X → S × X → Type 0) → S × X → S × X → Type 0
+IsToldIf true told s n = told s n
+IsToldIf false told s n = n.1 ≡ s.1

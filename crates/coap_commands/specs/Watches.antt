@@ -1,10 +1,11 @@
 -- What becomes of a path that is observed, and observed anew where nothing comes for long or the server ended that
 -- (RFC 7641, sections 3.3.1 and 3.6). Each registration is made by a client of its own, which asks for nothing else.
-use Rattle.std.specs.Prelude.{◌≡◌, ◌↔◌, ⊤, ℕ, ◌+◌, ◌%◌, ◌^◌, Bool, true, false, List, [], Option, None, Some}
+use Rattle.std.specs.Prelude.{◌≡◌, ⊤, ℕ, ◌+◌, ◌%◌, ◌^◌, Bool, true, false, List, [], Option, None, Some}
 use Rattle.std.specs.Prelude.{Ok, Err}
 use Rattle.std.specs.Prelude.{Result, ◌-◌, if◌then◌else◌, min}
 use Rattle.std.specs.declared.alloc.Global.{Global}
 use Rattle.coap_types.specs.declared.endpoint.Endpoint.{Endpoint}
+use Rattle.coap_types.specs.declared.endpoint.Moment.{Moment}
 use Rattle.coap_layer.specs.declared.setup.Setup.{Setup}
 use Rattle.coap_block.specs.Sizes.{Sizes}
 use Rattle.coap_client.specs.Led.{Led, State, Step}
@@ -17,7 +18,8 @@ use Rattle.coap_client.specs.declared.refusals.CallRefusal.{CallRefusal}
 use Rattle.coap_client.specs.declared.refusals.CancelRefusal.{CancelRefusal}
 use Rattle.coap_arguments.specs.declared.orders.AskOptions.{AskOptions}
 use Rattle.coap_commands.specs.Asks.{AsksNothing, Turned, TurnsAt, takes_report}
-use Rattle.coap_commands.specs.Observes.{HasGivenUp, IsOver}
+use Rattle.coap_commands.specs.JsonLines.{WritesEnd}
+use Rattle.coap_commands.specs.Observes.{Decides, HasGivenUp, IsOver, WritesTaken}
 use Rattle.coap_commands.specs.Terms.{asked_terms, setup_of, sizes_of}
 use Rattle.coap_commands.specs.Waiting.{HasPassed}
 use Rattle.coap_commands.specs.declared.calling.Outcome.{Outcome}
@@ -86,46 +88,56 @@ LeavesAt options again since number values heard now s (Some (left.Ended other))
 
 -- Turns of an observation that was registered at this moment, after each of which it goes on. At the end so many values
 -- were taken of all registrations, of which there were so many before, and the last of this one at that moment, or none
--- since it was registered.
-pub data Goes (options : AskOptions) (again since number begin before : ℕ) (s : State) : ℕ → ℕ → State → Type 0 where
-  registered : Goes options again since number begin before s before begin s
-  further : (values heard : ℕ) (m : State) (now : ℕ) (took : Option Report) (n : State) (more last : ℕ) (o : State)
-      → Goes options again since number begin before s values heard m → Takes number now took m n → IsNoEnd took
-      → more ≡ values + taken took → last ≡ heard_at now took heard
-      → LeavesAt options again since number more last now n None o
-      → Goes options again since number begin before s more last o
+-- since it was registered; and what was taken is written behind what a writer had at the start.
+pub data Goes (options : AskOptions) (again since number begin before : ℕ) (s : State) (start : Option (List ℕ))
+    : ℕ → ℕ → State → Option (List ℕ) → Type 0 where
+  registered : Goes options again since number begin before s start before begin s start
+  further : (values heard : ℕ) (m : State) (held : Option (List ℕ)) (now : Moment) (took : Option Report) (n : State)
+      (more last : ℕ) (o : State) (new : Option (List ℕ))
+      → Goes options again since number begin before s start values heard m held → Takes number now.0 took m n
+      → IsNoEnd took → more ≡ values + taken took → last ≡ heard_at now.0 took heard
+      → WritesTaken options since values now held new took
+      → LeavesAt options again since number more last now.0 n None o
+      → Goes options again since number begin before s start more last o new
 
 -- such turns, and a last one at this moment, in which no last report is taken
-abbrev pub LastTurn : AskOptions → (again since number begin before : ℕ) → State → (values heard now : ℕ) → State
-    → Type 0
-LastTurn options again since number begin before s values heard now n =
-    (earlier last : ℕ) × (m : State) × Goes options again since number begin before s earlier last m
-    × (took : Option Report) × Takes number now took m n × IsNoEnd took
-    × (values ≡ earlier + taken took) × (heard ≡ heard_at now took last)
+abbrev pub LastTurn : AskOptions → (again since number begin before : ℕ) → State → Option (List ℕ)
+    → (values heard : ℕ) → Moment → State → Option (List ℕ) → Type 0
+LastTurn options again since number begin before s start values heard now n new =
+    (earlier last : ℕ) × (m : State) × (held : Option (List ℕ))
+    × Goes options again since number begin before s start earlier last m held
+    × (took : Option Report) × Takes number now.0 took m n × IsNoEnd took
+    × (values ≡ earlier + taken took) × (heard ≡ heard_at now.0 took last)
+    × WritesTaken options since earlier now held new took
 
--- It is left with its last report, or so; and so many values were taken then.
-abbrev pub IsLeft : AskOptions → (again since number begin before : ℕ) → State → Left → ℕ → Type 0
-IsLeft options again since number begin before s (left.Ended (outcome.Reported r)) values =
-    (heard : ℕ) × (m : State) × Goes options again since number begin before s values heard m
-    × (now : ℕ) × (n : State) × Takes number now (Some (shown_report r)) m n × (is_value (shown_report r) ≡ false)
-IsLeft options again since number begin before s ended values =
-    (heard now : ℕ) × (n : State) × LastTurn options again since number begin before s values heard now n
-    × (o : State) × LeavesAt options again since number values heard now n (Some ended) o
+-- It is left with its last report, or so; and so many values were taken then, and are written.
+abbrev pub IsLeft : AskOptions → (again since number begin before : ℕ) → State → Option (List ℕ) → Left → ℕ
+    → Option (List ℕ) → Type 0
+IsLeft options again since number begin before s start (left.Ended (outcome.Reported r)) values new =
+    (heard : ℕ) × (m : State) × (held : Option (List ℕ))
+    × Goes options again since number begin before s start values heard m held
+    × (now : Moment) × (n : State) × Takes number now.0 (Some (shown_report r)) m n
+    × (is_value (shown_report r) ≡ false) × WritesTaken options since values now held new (Some (shown_report r))
+IsLeft options again since number begin before s start ended values new =
+    (heard : ℕ) × (now : Moment) × (n : State)
+    × LastTurn options again since number begin before s start values heard now n new
+    × (o : State) × LeavesAt options again since number values heard now.0 n (Some ended) o
 
 -- by what the client answered
-abbrev pub IsLeftBy : AskOptions → (again since begin before : ℕ) → Result ℕ CallRefusal → State → Left → ℕ → Type 0
-IsLeftBy options again since begin before (Err why) s ended values =
-    (ended ≡ left.Ended (outcome.Refused why)) × (values ≡ before)
-IsLeftBy options again since begin before (Ok number) s ended values =
-    IsLeft options again since number begin before s ended values
+abbrev pub IsLeftBy : AskOptions → (again since begin before : ℕ) → Result ℕ CallRefusal → State → Option (List ℕ)
+    → Left → ℕ → Option (List ℕ) → Type 0
+IsLeftBy options again since begin before (Err why) s start ended values new =
+    (ended ≡ left.Ended (outcome.Refused why)) × (values ≡ before) × (new ≡ start)
+IsLeftBy options again since begin before (Ok number) s start ended values new =
+    IsLeft options again since number begin before s start ended values new
 
 -- A client of this server began with this setup and these sizes, and was called to observe the path at this moment.
 abbrev pub IsRegistered : Endpoint → (sizes : Sizes) → Setup → List (List ℕ) → AskOptions
-    → (again since begin before : ℕ)
-    → Left → ℕ → Type 0
-IsRegistered server sizes setup path options again since begin before ended values =
+    → (again since begin before : ℕ) → Option (List ℕ) → Left → ℕ → Option (List ℕ) → Type 0
+IsRegistered server sizes setup path options again since begin before start ended values new =
     (fresh : State) × Led server sizes setup [] fresh × (answer : Result ℕ CallRefusal) × (s : State)
-    × Step fresh (observes begin path answer) s × IsLeftBy options again since begin before answer s ended values
+    × Step fresh (observes begin path answer) s
+    × IsLeftBy options again since begin before answer s start ended values new
 
 -- the setup of the client after so many
 abbrev pub setup_after : ℕ → ℕ → AskOptions → Setup
@@ -147,9 +159,15 @@ abbrev pub verdict : Left → Bool → Option Status
 verdict left.Silent is_over = if is_over then Some status.Refused else None
 verdict (left.Ended ended) is_over = verdict_of ended is_over
 
--- the observation is over at this moment, after so many values, or it is not
-abbrev pub Decides : AskOptions → (since values now : ℕ) → Bool → Type 0
-Decides options since values now is_over = (is_over ≡ true) ↔ IsOver options since values now
+-- how the last registration was left is written in JSON, where that is wanted
+abbrev pub WritesLast : Bool → (old new : Option (List ℕ)) → Left → Type 0
+WritesLast json old new left.Silent = new ≡ old
+WritesLast json old new (left.Ended ended) = WritesEnd json old new ended
+
+-- .. where it is the last one, and else nothing is
+abbrev pub WritesLeft : Bool → Option Status → (old new : Option (List ℕ)) → Left → Type 0
+WritesLeft json None old new ended = new ≡ old
+WritesLeft json (Some s) old new ended = WritesLast json old new ended
 
 -- what follows a registration that began at this moment and is left so, after so many values: the end of the program,
 -- or
@@ -158,33 +176,43 @@ abbrev pub Follows : (again begin : ℕ) → Option Status → ℕ → Type 0
 Follows again begin (Some s) next = ⊤
 Follows again begin None next = HasPassed again begin next
 
-abbrev pub IsFollowed : AskOptions → (again since begin : ℕ) → Left → ℕ → Option Status → (more next : ℕ) → Type 0
-IsFollowed options again since begin ended values verdicted more next =
+abbrev pub IsFollowed : AskOptions → (again since begin : ℕ) → Left → ℕ → Option Status → (more next : ℕ)
+    → (old new : Option (List ℕ)) → Type 0
+IsFollowed options again since begin ended values verdicted more next old new =
     (now : ℕ) × (is_over : Bool) × Decides options since values now is_over × (verdicted ≡ verdict ended is_over)
-    × (more ≡ values) × Follows again begin verdicted next
+    × (more ≡ values) × Follows again begin verdicted next × WritesLeft options.json verdicted old new ended
 
--- the endpoints that stand for the server
-module _ (IsServer : Endpoint → Type 0) (word : ℕ) (path : List (List ℕ)) (options : AskOptions) (again since : ℕ) where
-  -- the registration after so many, at this moment, where so many values came before: how it is left, and how many
-  -- values came then
-  abbrev pub IsNext : (n begin before : ℕ) → Left → ℕ → Type 0
-  IsNext n begin before ended values =
-      (server : Endpoint) × IsServer server
-      × IsRegistered server (sizes_of (asked_terms ((word + n) % 2 ^ 64) options))
-      (setup_of (asked_terms ((word + n) % 2 ^ 64) options)) path options again since begin before ended values
+-- the registration after so many, at this moment, where so many values came before, at a server for which these
+-- endpoints stand: how it is left, how many values came then, and what is written
+abbrev pub IsRegisteredNext : (Endpoint → Type 0) → ℕ → List (List ℕ) → AskOptions
+    → (again since n begin before : ℕ) → Option (List ℕ) → Left → ℕ → Option (List ℕ) → Type 0
+IsRegisteredNext IsServer word path options again since n begin before old ended values new =
+    (server : Endpoint) × IsServer server
+    × IsRegistered server (sizes_of (asked_terms ((word + n) % 2 ^ 64) options))
+    (setup_of (asked_terms ((word + n) % 2 ^ 64) options)) path options again since begin before old ended values new
 
-  -- one after the other: so many are left, so many values came, and the next one is made at this moment
-  pub data Again : ℕ → ℕ → ℕ → Type 0 where
-    first : Again 0 0 since
-    anew : (n before begin : ℕ) (ended : Left) (values more next : ℕ) → Again n before begin
-        → IsNext n begin before ended values → IsFollowed options again since begin ended values None more next
-        → Again (n + 1) more next
+module _ (IsServer : Endpoint → Type 0) (word : ℕ) (path : List (List ℕ)) (options : AskOptions) (again since : ℕ)
+    (start : Option (List ℕ))
+  where
+    -- one after the other: so many are left, so many values came, the next one is made at this moment, and the writer
+    -- has this
+    pub data Again : ℕ → ℕ → ℕ → Option (List ℕ) → Type 0 where
+      first : Again 0 0 since start
+      anew : (n before begin : ℕ) (old : Option (List ℕ)) (ended : Left) (values : ℕ) (held : Option (List ℕ))
+          (more next : ℕ) (new : Option (List ℕ)) → Again n before begin old
+          → IsRegisteredNext IsServer word path options again since n begin before old ended values held
+          → IsFollowed options again since begin ended values None more next held new
+          → Again (n + 1) more next new
 
-  abbrev pub Ends : Status → Type 0
-  Ends s =
-      (n before begin : ℕ) × Again n before begin × (ended : Left) × (values : ℕ) × IsNext n begin before ended values
-      × (more next : ℕ) × IsFollowed options again since begin ended values (Some s) more next
+    abbrev pub Ends : Option (List ℕ) → Status → Type 0
+    Ends new s =
+        (n before begin : ℕ) × (old : Option (List ℕ)) × Again n before begin old × (ended : Left) × (values : ℕ)
+        × (held : Option (List ℕ))
+        × IsRegisteredNext IsServer word path options again since n begin before old ended values held
+        × (more next : ℕ) × IsFollowed options again since begin ended values (Some s) more next held new
 
--- A path is observed at a server by clients of these options, the first at some moment, and each further one anew.
-abbrev pub Watches : (Endpoint → Type 0) → ℕ → List (List ℕ) → AskOptions → ℕ → Status → Type 0
-Watches IsServer word path options again s = (since : ℕ) × Ends IsServer word path options again since s
+-- A path is observed at a server by clients of these options, the first at some moment, and each further one anew; the
+-- values of all, and how the last one ended, are written behind what a writer has.
+abbrev pub Watches : (old new : Option (List ℕ)) → (Endpoint → Type 0) → ℕ → List (List ℕ) → AskOptions → ℕ → Status
+    → Type 0
+Watches old new IsServer word path options again s = (since : ℕ) × Ends IsServer word path options again since old new s

@@ -1,11 +1,12 @@
 //! What follows where a registration of `observe --again` is left: the end of the program, or another registration.
-ghost use Rattle.std.specs.Prelude.{◌≡◌, IfOk};
+ghost use Rattle.std.specs.Prelude.{◌≡◌, IfOk, OnOk};
 ghost use Rattle.coap_commands.specs.Waiting.{HasPassed};
-ghost use Rattle.coap_commands.specs.Watches.{verdict, verdict_of};
+ghost use Rattle.coap_commands.specs.Watches.{WritesLast, WritesLeft, verdict, verdict_of};
 
 use crate::bearing::bear_in_all;
 use crate::calling::{Outcome, outcome_text};
 use crate::json_lines::write_outcome;
+use crate::screen::make_way;
 use crate::timekeeper::Timekeeper;
 use crate::waiting::passed;
 use coap_ends::Report;
@@ -48,13 +49,8 @@ fn verdict_of(outcome: &Outcome, is_over: bool) -> Option<Status>
     }
 }
 
-/// Says how a registration was left, and that the path is observed anew.
-pub(crate) fn say_anew<E: Write>(
-    alloc: Global,
-    left: &Left,
-    again: u64,
-    err: &mut E,
-) -> Result<(), Stop> {
+// Says how a registration was left, and that the path is observed anew.
+fn say_anew<E: Write>(alloc: Global, left: &Left, again: u64, err: &mut E) -> Result<(), Stop> {
     let text = match left {
         Left::Silent => format!(in alloc; "no value in {again} s")?,
         Left::Ended(outcome) => outcome_text(alloc, outcome)?,
@@ -63,19 +59,22 @@ pub(crate) fn say_anew<E: Write>(
     Ok(())
 }
 
-/// Tells how the last registration was left: in JSON where that is wanted.
-pub(crate) fn tell_last<T: Timekeeper, O: Write, E: Write>(
+// Tells how the last registration was left: in JSON where that is wanted.
+fn tell_last<T: Timekeeper, O: Write, E: Write>(
     alloc: Global,
     left: &Left,
     is_json: bool,
     time: &mut T,
     out: &mut O,
     err: &mut E,
-) -> Result<(), Stop> {
+) -> Result<(), Stop>
+    ensures { OnOk result (WritesLast is_json (O.contents out.old) (O.contents out.new) left.now) }
+{
     match left {
         Left::Silent => {}
         Left::Ended(outcome) if is_json => {
             let at = time.now()?;
+            make_way(err);
             write_outcome(alloc, at, outcome, out)?;
         }
         Left::Ended(outcome) => {
@@ -84,6 +83,26 @@ pub(crate) fn tell_last<T: Timekeeper, O: Write, E: Write>(
         }
     }
     Ok(())
+}
+
+/// Tells how a registration was left: as the last one, where the program ends with this status, and else that the path
+/// is observed anew.
+pub(crate) fn tell_left<T: Timekeeper, O: Write, E: Write>(
+    alloc: Global,
+    left: &Left,
+    verdict: Option<Status>,
+    again: u64,
+    is_json: bool,
+    time: &mut T,
+    out: &mut O,
+    err: &mut E,
+) -> Result<(), Stop>
+    ensures { OnOk result (WritesLeft is_json verdict (O.contents out.old) (O.contents out.new) left.now) }
+{
+    match verdict {
+        Some(_) => tell_last(alloc, left, is_json, time, out, err),
+        None => say_anew(alloc, left, again, err),
+    }
 }
 
 /// Waits until so many seconds have passed since this moment, and drops what comes: the moment at which they have.

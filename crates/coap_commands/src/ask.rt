@@ -22,6 +22,7 @@ use crate::connection::{Connection, Terms};
 use crate::ends::fresh_client;
 use crate::json_lines::write_outcome;
 use crate::put_away::put_away;
+use crate::screen::make_way;
 use crate::timekeeper::Timekeeper;
 use crate::waiting::passed;
 use coap_ends::{CallId, Client, Report};
@@ -191,6 +192,7 @@ fn tell_as<T: Timekeeper, O: Write, E: Write>(
     ensures status { IfOk result (λ status. status ≡ status_after method outcome.now) }
     ensures written { OnOk result (WritesRequest is_json method (O.contents out.old) (O.contents out.new) outcome.now) }
 {
+    make_way(err);
     if !is_json {
         return tell(alloc, method, outcome, out, err);
     }

@@ -2,7 +2,7 @@
 ghost use Rattle.std.specs.Prelude.{◌≡◌, IfOk};
 ghost use Rattle.coap_commands.specs.Asked.{is_observe, period_of};
 ghost use Rattle.coap_commands.specs.Hosts.{IsServer, Knows};
-ghost use Rattle.coap_commands.specs.Tasks.{IsAsked, IsDiscovered, IsDone, IsDoneAt, IsDoneTo, IsObservation};
+ghost use Rattle.coap_commands.specs.Tasks.{IsAsked, IsDiscovered, IsDone, IsDoneTo, IsObservation};
 ghost use Rattle.coap_commands.specs.Tasks.{IsTask};
 ghost use Rattle.coap_commands.specs.declared.hosts.Peer.TheVariants as peers;
 
@@ -17,7 +17,7 @@ use crate::patience::{Patience, PatientLink, patience_on};
 use crate::polling::{Polling, poll_over};
 use crate::progress::progress_on;
 use crate::request::{body_of, request_of};
-use crate::screen::{BesideScreen, Screen, erase};
+use crate::screen::{Screen, erase};
 use crate::silence::{Silence, SilentLink};
 use crate::sources::{Ends, FourSource, MAX_PEERS, SixSource, names_for};
 use crate::terminal::Showing;
@@ -179,7 +179,7 @@ fn ask_on<L: Link + Drop, R: Clock, H: BuildHasher + Drop, O: Write, W: Write>(
     out: &mut O,
     screen: &RefCell<Screen<W>>,
 ) -> Result<Status, Stop>
-    ensures { IfOk result (IsDoneAt server asked.entry) }
+    ensures { IfOk result (IsDoneTo (O.contents out.old) (O.contents out.new) server asked.entry) }
 {
     let len = asked.task.body_len() as u64;
     let progress = progress_on(time.again(), screen, server, len, is_terminal);
@@ -190,10 +190,9 @@ fn ask_on<L: Link + Drop, R: Clock, H: BuildHasher + Drop, O: Write, W: Write>(
     let link = PatientLink::new(link, patience);
     let silence = silence_of(&asked, time.again(), SharedWriter::new(screen));
     let mut link = SilentLink::new(link, silence);
-    let mut out = BesideScreen::new(out, screen);
     let mut err = SharedWriter::new(screen);
     let mut connection = Connection::new(&mut link, time, &mut err);
-    do_once(alloc, &mut connection, server, hasher, asked, &mut out)
+    do_once(alloc, &mut connection, server, hasher, asked, out)
 }
 
 // Who says that nothing is heard of an observation.
@@ -219,7 +218,7 @@ fn ask_from<S: LinkSource, R: Clock, H: BuildHasher + Copy + Drop, O: Write, W: 
     out: &mut O,
     screen: &RefCell<Screen<W>>,
 ) -> Result<Status, Stop>
-    ensures { IfOk result (IsDone (S.reaches source.now) asked.entry) }
+    ensures { IfOk result (IsDone (O.contents out.old) (O.contents out.new) (S.reaches source.now) asked.entry) }
 {
     if let Task::Watch(path, again) = asked.task {
         let watching = Watching {
@@ -228,9 +227,8 @@ fn ask_from<S: LinkSource, R: Clock, H: BuildHasher + Copy + Drop, O: Write, W: 
             options: asked.options,
             word: asked.word,
         };
-        let mut out = BesideScreen::new(out, screen);
         let mut err = SharedWriter::new(screen);
-        return watch_over(alloc, source, time, &mut err, hasher, &watching, &mut out);
+        return watch_over(alloc, source, time, &mut err, hasher, &watching, out);
     }
     let (link, server) = source.open()?;
     ask_on(
@@ -255,7 +253,7 @@ fn ask_told<R: AllocGlobal + Files + Clock + RandomSource, S: Ends + Drop, O: Wr
     out: &mut O,
     err: &mut E,
 ) -> Result<Status, Stop>
-    ensures { IfOk result (IsDone (S.reaches source) asked.entry) }
+    ensures { IfOk result (IsDone (O.contents out.old) (O.contents out.new) (S.reaches source) asked.entry) }
 {
     let mut time = ProgramTime::begin(rt)?;
     let begin = begin_of(rt, time.now()?)?;
@@ -300,7 +298,7 @@ fn ask_six<R: AllocGlobal + Files + Net + Clock + RandomSource, O: Write, E: Wri
     out: &mut O,
     err: &mut E,
 ) -> Result<Status, Stop>
-    ensures { IfOk result (IsDone (Knows (peers.Six server)) asked.entry) }
+    ensures { IfOk result (IsDone (O.contents out.old) (O.contents out.new) (Knows (peers.Six server)) asked.entry) }
 {
     let names = names_for(rt, MAX_PEERS)?;
     let source = SixSource {
@@ -321,7 +319,7 @@ fn ask_at<R: AllocGlobal + Files + Net + Clock + RandomSource, O: Write, E: Writ
     out: &mut O,
     err: &mut E,
 ) -> Result<Status, Stop>
-    ensures { IfOk result (IsDone (IsServer server.entry) asked.entry) }
+    ensures { IfOk result (IsDone (O.contents out.old) (O.contents out.new) (IsServer server.entry) asked.entry) }
 {
     match peer_of(rt, server, err)? {
         Peer::Four(server) => {
@@ -344,7 +342,7 @@ pub(crate) fn ask<R: AllocGlobal + Files + Net + Clock + RandomSource, O: Write,
     out: &mut O,
     err: &mut E,
 ) -> Result<Status, Stop>
-    ensures { IfOk result (IsAsked server.entry path.now what.entry
+    ensures { IfOk result (IsAsked (O.contents out.old) (O.contents out.new) server.entry path.now what.entry
         options.now) }
 {
     let word = word_of(rt, options.word)?;
@@ -366,7 +364,7 @@ pub(crate) fn discover<R: AllocGlobal + Files + Net + Clock + RandomSource, O: W
     out: &mut O,
     err: &mut E,
 ) -> Result<Status, Stop>
-    ensures { IfOk result (IsDiscovered server.entry options.now) }
+    ensures { IfOk result (IsDiscovered (O.contents out.old) (O.contents out.new) server.entry options.now) }
 {
     let word = word_of(rt, options.word)?;
     let path = core_path(rt.alloc())?;

@@ -326,25 +326,31 @@ fn tell_last<A: Allocator + Copy, E: Applies<A>, T: ChangeTeller<A>>(
 
 impl<A: Allocator + Copy, E: End<A> + Applies<A> + Drop, T: ChangeTeller<A> + Drop> End<A>
     for TellingEnd<E, T> {
-    ghost State = { E.State };
+    ghost use Rattle.std.specs.Prelude.{◌≡◌, ℕ, Option};
+    ghost use Rattle.coap_commands.specs.ToldChanges.{IsToldAfter, IsToldIf};
 
-    ghost state = { λ t. E.state t.end };
+    // The end inside; and who tells, and how many requests could not be told of.
+    ghost State = { E.State × (Option T × ℕ) };
 
-    ghost waiting = { E.waiting };
+    ghost state = { λ t. (E.state t.end, (t.teller, t.untold)) };
 
-    ghost latest = { E.latest };
+    ghost waiting = { λ s. E.waiting s.0 };
 
-    ghost work = { E.work };
+    ghost latest = { λ s. E.latest s.0 };
 
-    ghost quiet_feed = { E.quiet_feed };
+    ghost work = { λ s now. E.work s.0 now };
 
-    ghost quiet_tick = { E.quiet_tick };
+    ghost quiet_feed = { λ s now from bytes. E.quiet_feed s.0 now from bytes };
 
-    ghost feeds = { E.feeds };
+    ghost quiet_tick = { λ s now. E.quiet_tick s.0 now };
 
-    ghost ticks = { E.ticks };
+    ghost feeds = { λ s now from bytes word n. E.feeds s.0 now from bytes word n.0
+        × IsToldAfter E.state E.applies E.bodies T.tells_change now s n };
 
-    ghost gives = { E.gives };
+    ghost ticks = { λ s now word did n. E.ticks s.0 now word did n.0
+        × IsToldIf did (λ s n. IsToldAfter E.state E.applies E.bodies T.tells_change now s n) s n };
+
+    ghost gives = { λ s packet n. E.gives s.0 packet n.0 × (n.1 ≡ s.1) };
 
     fn feed(
         &mut self,

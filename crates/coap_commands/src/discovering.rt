@@ -1,11 +1,15 @@
 //! `discover`: which resources a server says that it has (RFC 6690).
-ghost use Rattle.std.specs.Prelude.{◌≡◌, ℕ, [], IfOk, is_some};
+ghost use Rattle.std.specs.Prelude.{◌≡◌, ℕ, [], IfNone, IfOk, IfSome, OnOk, is_some};
+ghost use Rattle.std.specs.Io.KnownBytes.{Appends};
 ghost use Rattle.coap_types.specs.declared.endpoint.Endpoint.{Endpoint as EndpointSpec};
 ghost use Rattle.coap_block.specs.Sizes.{Sizes};
 ghost use Rattle.coap_layer.specs.declared.setup.Setup.{Setup as SetupSpec};
 ghost use Rattle.coap_client.specs.Led.{Led};
 ghost use Rattle.coap_client.specs.Object.CallShown.{shown_request};
-ghost use Rattle.coap_commands.specs.Discovers.{Discovers, IsCore, IsShown, ReadsLinks};
+ghost use Rattle.coap_commands.specs.Discovers.{Discovers, IsCore, IsShown, PrintsLinks, ReadsLinks, WritesShown};
+ghost use Rattle.coap_commands.specs.Discovers.{WritesTold, bad_links_text};
+ghost use Rattle.coap_commands.specs.JsonLines.{WritesObject, outcome_object};
+ghost use Rattle.coap_commands.specs.Printed.{WritesSaid};
 ghost use Rattle.coap_commands.specs.Terms.{setup_of, sizes_of};
 ghost use Rattle.coap_scripts.specs.declared.status.Status.TheVariants.{Refused as refused};
 
@@ -16,6 +20,7 @@ use crate::ends::fresh_client;
 use crate::json_lines::write_outcome;
 use crate::link_lines::write_link;
 use crate::put_away::put_away;
+use crate::screen::make_way;
 use crate::timekeeper::Timekeeper;
 use coap_arguments::path_of_text;
 use coap_ends::{Client, Report};
@@ -48,7 +53,8 @@ fn print_links<W: Write>(
     json: Option<Moment>,
     out: &mut W,
 ) -> Result<Status, Stop>
-    ensures { IfOk result (ReadsLinks text.now) }
+    ensures reads { IfOk result (ReadsLinks text.now) }
+    ensures printed { IfNone json (IfOk result (PrintsLinks (W.contents out.old) (W.contents out.new) text.now)) }
 {
     match links_of(alloc, text) {
         Ok(links) => {
@@ -58,11 +64,21 @@ fn print_links<W: Write>(
             out.flush()?;
             Ok(Status::Done)
         }
-        Err(LinksRefusal::Bad(at)) => {
+        Err(refusal) => tell_bad(refusal, out),
+    }
+}
+
+// Prints where a text is no link format.
+fn tell_bad<W: Write>(refusal: LinksRefusal, out: &mut W) -> Result<Status, Stop>
+    ensures { IfOk result (λ status. (status ≡ refused) × (at : ℕ) × (refusal ≡ LinksRefusal.Bad at)
+        × Appends (W.contents out.old) (W.contents out.new) (bad_links_text at)) }
+{
+    match refusal {
+        LinksRefusal::Bad(at) => {
             writeln!(out, "bad links at {at}")?;
             Ok(Status::Refused)
         }
-        Err(LinksRefusal::Memory) => Err(Stop::Memory),
+        LinksRefusal::Memory => Err(Stop::Memory),
     }
 }
 
@@ -74,7 +90,10 @@ fn say<O: Write, E: Write>(
     out: &mut O,
     err: &mut E,
 ) -> Result<Status, Stop>
-    ensures { IfOk result (λ status. status ≡ refused) }
+    ensures status { IfOk result (λ status. status ≡ refused) }
+    ensures said { IfNone json (OnOk result (WritesSaid (O.contents out.old) (O.contents out.new) outcome.now)) }
+    ensures told { IfSome json (λ at. OnOk result (WritesObject (O.contents out.old) (O.contents out.new)
+        (outcome_object at.0 outcome.now))) }
 {
     if let Some(at) = json {
         write_outcome(alloc, at, outcome, out)?;
@@ -98,8 +117,12 @@ fn tell<O: Write, E: Write>(
     out: &mut O,
     err: &mut E,
 ) -> Result<Status, Stop>
-    ensures { IfOk result (IsShown outcome.now) }
+    ensures shown { IfOk result (IsShown outcome.now) }
+    ensures written { IfNone json (IfOk result (WritesShown (O.contents out.old) (O.contents out.new) outcome.now)) }
+    ensures told { IfSome json (λ at. OnOk result (WritesTold at.0 (O.contents out.old) (O.contents out.new)
+        outcome.now)) }
 {
+    make_way(err);
     if let Outcome::Reported(Report::Body(fetched)) = outcome {
         return print_links(alloc, fetched.body.as_slice(), json, out);
     }
@@ -128,7 +151,8 @@ fn ask_and_tell<H: BuildHasher, L: Carrier, T: Timekeeper, O: Write, E: Write>(
 ) -> Result<Status, Stop>
     ensures { IfOk result (λ status. (server : EndpointSpec) (sizes : Sizes) (w : SetupSpec)
         → Led server sizes w [] client.old
-        → Discovers server sizes w terms.now.give_up (shown_request request) status) }
+        → Discovers terms.now.json (O.contents out.old) (O.contents out.new)
+        server sizes w terms.now.give_up (shown_request request) status) }
 {
     let outcome = outcome_of(client, connection, request, terms)?;
     let json = told_at(terms.json, connection.time)?;
@@ -147,10 +171,11 @@ pub fn discover_over<L: Carrier, T: Timekeeper, H: BuildHasher + Drop, O: Write,
     out: &mut O,
 ) -> Result<Status, Stop>
     // A client of this server, which began by the terms, was handed the request, and nothing else; the status is 0
-    // where
-    // a body was reported of it that spells links (RFC 6690, section 2), and else 1.
-    ensures { IfOk result (Discovers server (sizes_of terms.now) (setup_of terms.now) terms.now.give_up
-        (shown_request request)) }
+    // where a body was reported of it that spells links (RFC 6690, section 2), and else 1. What is written in words is
+    // each of these links on a line, or where the body is no such text; or, on a line, what else became of the request,
+    // unless it was given up; and nothing else. Told in JSON, what else became of it is the line of its object.
+    ensures { IfOk result (Discovers terms.now.json (O.contents out.old) (O.contents out.new)
+        server (sizes_of terms.now) (setup_of terms.now) terms.now.give_up (shown_request request)) }
 {
     let mut client = fresh_client(
         alloc,

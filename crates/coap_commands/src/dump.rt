@@ -1,6 +1,7 @@
 //! Showing the datagrams that a reader has in hex, one a line.
-ghost use Rattle.std.specs.Prelude.{◌≡◌, ◌⊎◌, IfOk, max};
-ghost use Rattle.coap_commands.specs.Dumps.{IsLineStatus, IsShown};
+ghost use Rattle.std.specs.Prelude.{◌≡◌, ◌⊎◌, IfOk, IfSome, max};
+ghost use Rattle.std.specs.Io.BufRead.{strip_last};
+ghost use Rattle.coap_commands.specs.Dumps.{IsDumped, IsLineStatus, IsShown};
 ghost use Rattle.coap_commands.specs.Statuses.{IsOfScript};
 ghost use Rattle.coap_scripts.specs.StatusNumbers.{status_number};
 
@@ -16,10 +17,25 @@ use std::rt::Files;
 // What ends a line.
 const LINE_END: u8 = b'\n';
 
+// What may stand before the end of a line.
+const CARRIAGE_RETURN: u8 = b'\r';
+
+// The bytes without the last one, where that is this.
+fn without_last(bytes: &[u8], last: u8) -> &[u8]
+    ensures { result.now ≡ strip_last last bytes.now }
+{
+    if !bytes.is_empty() && bytes[bytes.len() - 1] == last {
+        &bytes[..bytes.len() - 1]
+    } else {
+        bytes
+    }
+}
+
 // A line without what ends it.
-fn without_end(line: &[u8]) -> &[u8] {
-    let line = line.strip_suffix(b"\n").unwrap_or(line);
-    line.strip_suffix(b"\r").unwrap_or(line)
+fn without_end(line: &[u8]) -> &[u8]
+    ensures { result.now ≡ strip_last CARRIAGE_RETURN (strip_last LINE_END line.now) }
+{
+    without_last(without_last(line, LINE_END), CARRIAGE_RETURN)
 }
 
 // Prints each line of a text behind a number.
@@ -95,7 +111,9 @@ pub fn dump_to<I: BufRead, W: Write>(
     out: &mut W,
 ) -> Result<Status, Stop>
     // A dump is told with status 0, 1 or 2, or stops.
-    ensures { IfOk result IsOfScript }
+    ensures kinds { IfOk result IsOfScript }
+    // Where it is known what a reader has, a dump ends with the worst status of its lines, of which none is left out.
+    ensures worst { IfOk result (λ status. IfSome (I.remaining input.old) (λ text. IsDumped text status)) }
 {
     let mut worst = Status::Done;
     // More lines than a program reads.
@@ -109,7 +127,7 @@ pub fn dump_to<I: BufRead, W: Write>(
         let status = dump_line(alloc, number, without_end(line.as_slice()), out)?;
         worst = worse(worst, status);
     }
-    Ok(worst)
+    Err(Stop::Failed)
 }
 
 /// Prints what the datagrams say that standard input has.

@@ -1,5 +1,6 @@
 //! The line of a link (RFC 6690, section 2).
-ghost use Rattle.std.specs.Prelude.{◌≤◌, length};
+ghost use Rattle.std.specs.Prelude.{◌≡◌, ◌⊎◌, ◌≤◌, ◌++◌, IfNone, OnOk, codes, length, slice_index};
+ghost use Rattle.std.specs.Io.KnownBytes.{Appends};
 
 use coap_json::{Parameter, link_line};
 use coap_link_format::Link;
@@ -20,7 +21,8 @@ const EQUALS: u8 = b'=';
 
 // How far a text goes until such a byte that stands in no quotes.
 fn len_until_semicolon(text: &[u8]) -> usize
-    ensures { result ≤ length text.now }
+    ensures within { result ≤ length text.now }
+    ensures stops { (result ≡ length text.now) ⊎ (slice_index text.now result ≡ SEMICOLON) }
 {
     let mut is_quoted = false;
     let mut is_escaped = false;
@@ -113,7 +115,10 @@ pub(crate) fn write_link<W: Write>(
     link: &Link<'_>,
     json: Option<Moment>,
     out: &mut W,
-) -> Result<(), Stop> {
+) -> Result<(), Stop>
+    ensures words { IfNone json (OnOk result (Appends (W.contents out.old) (W.contents out.new)
+        (link.now.text.now ++ codes "\n"))) }
+{
     match json {
         Some(at) => {
             let line = json_line(alloc, at, link)?;

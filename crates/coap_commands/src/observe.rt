@@ -14,10 +14,11 @@ ghost use Rattle.coap_client.specs.declared.client.report.Report as R;
 ghost use Rattle.coap_client.specs.declared.refusals.CancelRefusal.{CancelRefusal as CancelRefusalSpec};
 ghost use Rattle.coap_arguments.specs.declared.orders.AskOptions.{AskOptions as OptionsSpec};
 ghost use Rattle.coap_commands.specs.Asks.{takes_report};
-ghost use Rattle.coap_commands.specs.JsonLines.{WritesOutcome};
-ghost use Rattle.coap_commands.specs.JsonValues.{WritesValue, form_of};
+ghost use Rattle.coap_commands.specs.JsonLines.{WritesEnd};
+ghost use Rattle.coap_commands.specs.JsonValues.{WritesTook, WritesValue, form_of};
 ghost use Rattle.coap_commands.specs.Observes.{HasAll, IsLate, IsOver, ObserveBecomes, ObserveComes, Observed};
-ghost use Rattle.coap_commands.specs.Observes.{HasGivenUp, Observes};
+ghost use Rattle.coap_commands.specs.Observes.{HasGivenUp};
+ghost use Rattle.coap_commands.specs.ObservedTurns.{IsObserved, Observes, ObservesFrom};
 ghost use Rattle.coap_commands.specs.Observes.{observed_status};
 ghost use Rattle.coap_commands.specs.Printed.{line_of};
 ghost use Rattle.coap_commands.specs.Terms.{asked_terms, setup_of, sizes_of};
@@ -32,6 +33,7 @@ use crate::connection::{Connection, Terms};
 use crate::ends::fresh_client;
 use crate::json_lines::{write_outcome, write_report};
 use crate::put_away::put_away;
+use crate::screen::make_way;
 use crate::timekeeper::Timekeeper;
 use crate::waiting::{MS_PER_SECOND, passed};
 use coap_arguments::AskOptions;
@@ -99,12 +101,13 @@ impl Form {
 
 /// Prints a value on a line, at once; whether the report is one. One that comes when the observation is
 /// over isn't printed.
-pub(crate) fn print_value<W: Write>(
+pub(crate) fn print_value<W: Write, E: Write>(
     alloc: Global,
     report: &Report,
     is_over: bool,
     form: Form,
     out: &mut W,
+    err: &mut E,
 ) -> Result<bool, Stop>
     ensures value { IfOk result (λ is. is ≡ is_value (shown_report report.now)) }
     ensures written { OnOk result (WritesValue form is_over (W.contents out.old) (W.contents out.new)
@@ -116,6 +119,7 @@ pub(crate) fn print_value<W: Write>(
     if is_over {
         return Ok(true);
     }
+    make_way(err);
     match form {
         Form::Bytes => print_line(alloc, fetched.body.as_slice(), false, out)?,
         Form::Hex => print_line(alloc, fetched.body.as_slice(), true, out)?,
@@ -146,7 +150,7 @@ pub(crate) fn print_line<W: Write>(
 
 // Takes the next report of the observation: prints and counts it where it is a value, and else answers it, as it
 // is the last one.
-fn last_report<H: BuildHasher, W: Write>(
+fn last_report<H: BuildHasher, W: Write, E: Write>(
     alloc: Global,
     client: &mut Client<Global, H>,
     id: CallId,
@@ -154,20 +158,23 @@ fn last_report<H: BuildHasher, W: Write>(
     is_over: bool,
     form: Form,
     out: &mut W,
+    err: &mut E,
 ) -> Result<Option<Report>, Stop>
     ensures last { IfOk result (λ last. IfSome last (λ report. Step client.old
         (takes_report id.0 (shown_report report)) client.new × (is_value (shown_report report) ≡ false)
-        × (values.new ≡ values.old))) }
+        × (values.new ≡ values.old)
+        × WritesValue form is_over (W.contents out.old) (W.contents out.new) (shown_report report))) }
     ensures counted { IfOk result (λ last. IfNone last ((took : Option ReportSpec)
         × TakesReport id.0 took client.old client.new × IsNoEnd took
-        × (values.new ≡ counted_with values.old took))) }
+        × (values.new ≡ counted_with values.old took)
+        × WritesTook form is_over (W.contents out.old) (W.contents out.new) took)) }
     ensures more { (options : OptionsSpec) (begin : ℕ) (s : State) → Observed options begin id.0 s values.old client.old
         → IfOk result (λ last. IfNone last (Observed options begin id.0 s values.new client.new)) }
 {
     let Some(report) = next_report_of(client, id) else {
         return Ok(None);
     };
-    if print_value(alloc, &report, is_over, form, out)? {
+    if print_value(alloc, &report, is_over, form, out, err)? {
         *values = values.saturating_add(1);
         return Ok(None);
     }
@@ -221,6 +228,9 @@ fn awaited<H: BuildHasher, L: Link, T: Timekeeper, E: Write, W: Write>(
 ) -> Result<Outcome, Stop>
     ensures comes { IfOk result (ObserveComes options.now begin.0 id.0 client.old) }
     ensures sent { (report : R.Report Global) → result ≡ Ok (Reported report) → client.new.layer.layer.queue ≡ [] }
+    ensures written { IfOk result (λ outcome. IsObserved options.now begin.0 id.0 client.old
+        (W.contents out.old) outcome
+        (W.contents out.new)) }
 {
     let mut tally = fresh_tally(word);
     let mut values = 0;
@@ -237,6 +247,7 @@ fn awaited<H: BuildHasher, L: Link, T: Timekeeper, E: Write, W: Write>(
             is_over,
             Form::of(options, now),
             out,
+            connection.err,
         )? {
             send_all(client, connection.link);
             return Ok(Outcome::Reported(report));
@@ -278,8 +289,10 @@ fn outcome_of<H: BuildHasher, L: Link, T: Timekeeper, E: Write, W: Write>(
     word: u64,
     out: &mut W,
 ) -> Result<Outcome, Stop>
-    ensures { IfOk result (λ outcome. (server : EndpointSpec) (sizes : Sizes) (w : SetupSpec)
+    ensures becomes { IfOk result (λ outcome. (server : EndpointSpec) (sizes : Sizes) (w : SetupSpec)
         → Led server sizes w [] client.old → ObserveBecomes server sizes w path.now options.now outcome) }
+    ensures written { IfOk result (λ outcome. ObservesFrom client.old path.now options.now (W.contents out.old) outcome
+        (W.contents out.new)) }
 {
     let begin = connection.time.now()?;
     match register(client, begin, path)? {
@@ -305,10 +318,11 @@ fn tell<T: Timekeeper, O: Write, E: Write>(
     err: &mut E,
 ) -> Result<Status, Stop>
     ensures status { IfOk result (λ status. status ≡ observed_status outcome.now) }
-    ensures written { OnOk result (WritesOutcome is_json (O.contents out.old) (O.contents out.new) outcome.now) }
+    ensures written { OnOk result (WritesEnd is_json (O.contents out.old) (O.contents out.new) outcome.now) }
 {
     if is_json {
         let at = time.now()?;
+        make_way(err);
         write_outcome(alloc, at, outcome, out)?;
     } else {
         say(alloc, outcome, err)?;
@@ -330,7 +344,8 @@ fn observe_and_tell<H: BuildHasher, L: Link, T: Timekeeper, O: Write, E: Write>(
     out: &mut O,
 ) -> Result<Status, Stop>
     ensures { IfOk result (λ status. (server : EndpointSpec) (sizes : Sizes) (w : SetupSpec)
-        → Led server sizes w [] client.old → Observes server sizes w path.now options.now status) }
+        → Led server sizes w [] client.old → Observes (O.contents out.old) (O.contents out.new) server sizes w path.now
+        options.now status) }
 {
     let outcome = outcome_of(alloc, client, connection, path, options, word, out)?;
     tell(
@@ -358,9 +373,11 @@ pub fn observe_over<L: Link, T: Timekeeper, H: BuildHasher + Drop, O: Write, E: 
 ) -> Result<Status, Stop>
     // A client of this server, which remembers as many messages as the options say, was called to observe the path, and
     // then only to cancel that, once it was over by the options; the status is 0 where it was reported last that it is
-    // cancelled, and else 1.
-    ensures { IfOk result (Observes server (sizes_of (asked_terms word options.now))
-        (setup_of (asked_terms word options.now)) path.now options.now) }
+    // cancelled, and else 1. Each value that came before that is written once, whole, and nothing else but how it
+    // ended, in JSON where that is wanted. It is given up in the first turn after as many seconds as may pass without
+    // a value.
+    ensures { IfOk result (Observes (O.contents out.old) (O.contents out.new) server
+        (sizes_of (asked_terms word options.now)) (setup_of (asked_terms word options.now)) path.now options.now) }
 {
     let terms = Terms::of(options, word);
     let mut client = fresh_client(

@@ -24,6 +24,7 @@ use crate::json_lines::write_outcome;
 use crate::observe::{is_late, print_line};
 use crate::put_away::put_away;
 use crate::request::request_of;
+use crate::screen::make_way;
 use crate::timekeeper::Timekeeper;
 use crate::waiting::passed;
 use bytes::Bytes;
@@ -73,7 +74,7 @@ fn awaited<H: BuildHasher, L: Link, T: Timekeeper, E: Write>(
     give_up: Option<u64>,
     tally: &mut Tally,
 ) -> Result<Outcome, Stop>
-    ensures { IfOk result (λ came. Goes (λ calls. HasCome give_up (Ok id.0) calls came) client.old client.new) }
+    ensures { IfOk result (λ came. Goes (λ calls. HasCome give_up begin.0 (Ok id.0) calls came) client.old client.new) }
 {
     // More turns than a program lives.
     for _turn in 0..u64::MAX {
@@ -99,7 +100,7 @@ fn taken<H: BuildHasher, L: Link, T: Timekeeper, E: Write>(
     give_up: Option<u64>,
     tally: &mut Tally,
 ) -> Result<(Outcome, Option<CallId>), Stop>
-    ensures { IfOk result (λ made. Goes (λ calls. HasCome give_up (Ok id.0) calls made.0) client.old client.new
+    ensures { IfOk result (λ made. Goes (λ calls. HasCome give_up begin.0 (Ok id.0) calls made.0) client.old client.new
         × (made.1 ≡ pending_after made.0 id)) }
 {
     let outcome = awaited(client, connection, id, begin, give_up, tally)?;
@@ -146,6 +147,7 @@ fn tell_as<T: Timekeeper, O: Write, E: Write>(
     ensures written { OnOk result (WritesAs options.now.json options.now.hex (O.contents out.old) (O.contents out.new)
         outcome.now) }
 {
+    make_way(err);
     if !options.json {
         return tell(alloc, outcome, options.hex, out, err);
     }
@@ -310,6 +312,7 @@ pub fn poll_over<L: Link, T: Timekeeper, H: BuildHasher + Drop, O: Write, E: Wri
 ) -> Result<Status, Stop>
     // A client of this server, which began by the options, was called to GET the path as many times as they say, and
     // for nothing else: each time once it was through with the call before, and not before so many seconds had passed.
+    // A call is given up in the first turn after as many seconds as may pass.
     // The status is 0 where a body was reported of the last, or none was called for, and else 1. What is written is,
     // in order, an object of JSON of each time, or each body on a line, and nothing else.
     ensures { IfOk result (Polls (O.contents out.old) (O.contents out.new) server

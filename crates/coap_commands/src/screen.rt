@@ -52,7 +52,9 @@ impl<W: Write> Write for Screen<W> {
         self.out.write(bytes)
     }
 
+    // What is shown is for a while alone, so none of it is left.
     fn flush(&mut self) -> io::Result<()> {
+        self.erase()?;
         self.out.flush()
     }
 }
@@ -64,29 +66,7 @@ pub fn erase<W: Write>(screen: &RefCell<Screen<W>>) {
     }
 }
 
-/// Another writer, as standard output: before anything is written there, what a screen shows is erased.
-#[derive(Drop)]
-pub struct BesideScreen<'a, 'b, O, W> {
-    out: &'a mut O,
-    screen: &'b RefCell<Screen<W>>,
-}
-
-impl<'a, 'b, O: Write, W: Write> BesideScreen<'a, 'b, O, W> {
-    /// This writer, beside this screen.
-    pub fn new(out: &'a mut O, screen: &'b RefCell<Screen<W>>) -> BesideScreen<'a, 'b, O, W> {
-        BesideScreen { out, screen }
-    }
-}
-
-impl<'a, 'b, O: Write, W: Write> Write for BesideScreen<'a, 'b, O, W> {
-    ghost contents = { λ beside. O.contents beside.out.now };
-
-    fn write(&mut self, bytes: &[u8]) -> io::Result<usize> {
-        erase(self.screen);
-        self.out.write(bytes)
-    }
-
-    fn flush(&mut self) -> io::Result<()> {
-        self.out.flush()
-    }
+/// Has standard error erase what it shows for a while, before something is written on standard output.
+pub(crate) fn make_way<E: Write>(err: &mut E) {
+    let _ = err.flush();
 }

@@ -1,12 +1,9 @@
 //! `serve`: a server over a socket.
 ghost use Rattle.std.specs.Prelude.{◌≡◌, ◌↔◌, IfOk, IsTrue, OnOk, map};
 ghost use Rattle.std.specs.Io.KnownBytes.{Appends};
-ghost use Rattle.coap_links.specs.Pumping.{SendsAll};
-ghost use Rattle.coap_links.specs.Turning.{Turns};
 ghost use Rattle.coap_resource.specs.Entries.{content_of};
 ghost use Rattle.coap_server.specs.Led.{State};
 ghost use Rattle.coap_server.specs.Object.Shown.{state_of};
-ghost use Rattle.coap_commands.specs.Serves.{Feeds, Serves};
 ghost use Rattle.coap_scripts.specs.Settings.{setting_of};
 ghost use Rattle.coap_commands.specs.Asked.{IsOrigin};
 ghost use Rattle.coap_commands.specs.Hosts.{IsBoundFor, IsLoopback, IsOfAddress};
@@ -16,7 +13,6 @@ ghost use Rattle.coap_commands.specs.Served.{FedFrom, IsServed, IsServedBy, not_
 ghost use Rattle.coap_commands.specs.Printed.{not_set_up_text, served_text};
 ghost use Rattle.coap_scripts.specs.declared.status.Status.TheVariants.{Done};
 
-use crate::bearing::bear_serving;
 use crate::capturing::{FourStanding, SixStanding, Standing, begin_of, capture_in, capture_on};
 use crate::changes::{ChangeTeller, TellingEnd, changes_on};
 use crate::ends::tell_refusal;
@@ -25,6 +21,7 @@ use crate::keeping::{keep_four, refuse_six};
 use crate::peers::{FourPeers, Peers, SixPeers};
 use crate::put_away::put_away;
 use crate::serve_script::{script_of, tell_bad_line};
+use crate::serving::serve_over;
 use crate::setting_up::{NotSetUp, server_after};
 use crate::sources::{names_for, own_six};
 use crate::terminal::Showing;
@@ -32,12 +29,12 @@ use crate::timekeeper::{ProgramTime, Timekeeper};
 use crate::tracing::{Tracing, teller_on};
 use crate::word::{Origin, origin_of};
 use coap_arguments::{Address, Journal, ServeOptions};
-use coap_ends::{End, Server};
-use coap_links::{Link, Tally, Trace, Udp6Link, UdpLink, fresh_tally, send_all, serve_turn};
+use coap_ends::Server;
+use coap_links::{Link, Trace, Udp6Link, UdpLink};
 use coap_resource::MapStore;
 use coap_scripts::{Setting, Status, Stop};
-use coap_types::{Endpoint, Moment};
-use std::alloc::{Allocator, Global};
+use coap_types::Endpoint;
+use std::alloc::Global;
 use std::cell::RefCell;
 use std::fs::File;
 use std::hash::{BuildHasher, RandomState};
@@ -51,69 +48,6 @@ use std::rt::{Clock, Files};
 const MAX_CLIENTS: u32 = 65_536;
 
 const _: () = prove!(MAX_CLIENTS == 65_536);
-
-/// A turn of a server of so many datagrams, which stops where more failed than the program bears.
-pub(crate) fn serve_once<A: Allocator + Copy, E: End<A>, L: Link>(
-    server: &mut E,
-    link: &mut L,
-    now: Moment,
-    tally: &mut Tally,
-    count: u64,
-) -> Result<(), Stop>
-    ensures { OnOk result (Turns E.waiting E.gives L.sends L.receives L.fault_count E.quiet_feed E.feeds E.quiet_tick
-        E.ticks (E.state server.old) link.old now.0 tally.old (E.state server.new) link.new tally.new) }
-{
-    serve_turn(server, link, now, tally);
-    bear_serving(link, tally, count)
-}
-
-// Takes turns until so many datagrams were fed.
-fn serve_until<A: Allocator + Copy, E: End<A>, L: Link, T: Timekeeper>(
-    server: &mut E,
-    link: &mut L,
-    time: &mut T,
-    count: u64,
-    word: u64,
-) -> Result<(), Stop>
-    ensures { IfOk result (λ _. Feeds
-        (Turns E.waiting E.gives L.sends L.receives L.fault_count E.quiet_feed E.feeds E.quiet_tick E.ticks) count word
-        (E.state server.old) link.old (E.state server.new) link.new) }
-{
-    let mut tally = fresh_tally(word);
-    // More turns than a program lives.
-    for _turn in 0..u64::MAX {
-        if tally.fed >= count {
-            return Ok(());
-        }
-        serve_once(server, link, time.now()?, &mut tally, count)?;
-    }
-    Err(Stop::Failed)
-}
-
-/// Serves until so many datagrams were fed, sends what is out then, and prints the number. The
-/// word is the one that the server began with.
-pub fn serve_over<A: Allocator + Copy, E: End<A>, L: Link, T: Timekeeper, W: Write>(
-    server: &mut E,
-    link: &mut L,
-    time: &mut T,
-    count: u64,
-    word: u64,
-    out: &mut W,
-) -> Result<Status, Stop>
-    // A `serve` over any link ends with status 0, or stops: it ends after turns alone, once so many datagrams were fed
-    // and no later, and has sent what was out then.
-    ensures serves { IfOk result (λ status. (status ≡ Done) × Serves
-        (Turns E.waiting E.gives L.sends L.receives L.fault_count E.quiet_feed E.feeds E.quiet_tick E.ticks)
-        (λ g k f m. SendsAll E.gives L.sends g k (E.waiting g) f m) count word
-        (E.state server.old) link.old (E.state server.new) link.new) }
-    // What it prints is how many datagrams were to be fed, and nothing else.
-    ensures printed { OnOk result (Appends (W.contents out.old) (W.contents out.new) (served_text count)) }
-{
-    serve_until(server, link, time, count, word)?;
-    send_all(server, link);
-    writeln!(out, "served {count}")?;
-    Ok(Status::Done)
-}
 
 // Whether only the machine itself reaches an address (RFC 1122, section 3.2.1.3; RFC 4291, section 2.5.3).
 fn is_loopback(address: Address) -> bool

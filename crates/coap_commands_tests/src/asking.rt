@@ -8,6 +8,7 @@ use coap_types::Endpoint;
 use std::alloc::{AllocError, Global};
 use std::fs;
 use std::hash::{BuildHasherDefault, FoldHasher};
+use std::io::Write;
 use std::process::Abort;
 use std::rt::Files;
 use std::test::Fail;
@@ -245,11 +246,11 @@ fn a_body_behind_two_hyphens(rt: HostRuntime) -> Result<(), Fail> {
 
 // What the words ask, by a client of word 0, to whose first message this comes: what it prints and says, and the first
 // datagram that it sends; the exit status.
-pub(super) fn ask_in_memory<R: AllocGlobal + Files>(
+pub(super) fn ask_in_memory<R: AllocGlobal + Files, E: Write>(
     rt: &R,
     words: &[&str],
     reply: &[u8],
-    (told, said): (&mut Vec<u8>, &mut Vec<u8>),
+    (told, said): (&mut Vec<u8>, &mut E),
     sent: &mut Vec<u8>,
 ) -> Result<u8, AllocError> {
     let alloc = rt.alloc();

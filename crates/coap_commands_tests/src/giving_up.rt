@@ -1,5 +1,6 @@
 //! Tests of `--give-up`.
 use crate::asking::{ask_in_memory, check_said};
+use coap_commands::Screen;
 use std::test::Fail;
 
 const NO_SECONDS: &str = "--give-up is no number from 0 to 18446744073709551615";
@@ -84,5 +85,19 @@ fn what_is_given_up(rt: HostRuntime) -> Result<(), Fail> {
         assert_eq!(rt; told.as_slice(), printed.as_bytes(), "at {words:?}");
         assert_eq!(rt; said.as_slice(), text.as_bytes(), "at {words:?}");
     }
+    Ok(())
+}
+
+// What is shown for a while on standard error is erased before something is written on standard output.
+#[test]
+fn what_is_shown_is_erased(rt: HostRuntime) -> Result<(), Fail> {
+    let alloc = rt.alloc();
+    let words = ["get", "5683", "t", "--json", "--give-up", "1"];
+    let (mut told, mut sent) = (Vec::new(alloc), Vec::new(alloc));
+    let mut screen = Screen::new(Vec::new(alloc));
+    screen.show(&1_u32)?;
+    ask_in_memory(&rt, &words, b"", (&mut told, &mut screen), &mut sent)?;
+    let shown = screen.into_inner();
+    assert_eq!(rt; shown.as_slice(), b"1\r\x1b[K".as_slice());
     Ok(())
 }

@@ -3,7 +3,7 @@ use crate::joined_link::{Failing, JoinedLink, Road, Way as RoadWay};
 use crate::rows::repeated;
 use coap_arguments::path_of_text;
 use coap_commands::{
-    BesideScreen, Screen, Timekeeper, close, erase, pair_over, progress_of, progress_on,
+    Screen, SharedWriter, Timekeeper, close, erase, pair_over, progress_of, progress_on,
 };
 use coap_links::{Teller, Trace, Way};
 use coap_types::{Block, BodyLimit, Endpoint, Moment, Remembered, Szx};
@@ -103,7 +103,6 @@ fn pair_shown(alloc: Global, len: usize, step: u64, is_wanted: bool) -> Result<R
         BuildHasherDefault::<FoldHasher>::new(),
     );
     let mut time = Steps { now: 0, step: 10 };
-    let mut out = BesideScreen::new(&mut told, &screen);
     let ended = pair_over(
         alloc,
         &mut client_link,
@@ -115,10 +114,10 @@ fn pair_shown(alloc: Global, len: usize, step: u64, is_wanted: bool) -> Result<R
         1,
         Remembered::default(),
         BodyLimit::default(),
-        &mut out,
+        &mut told,
     );
-    let status = close(ended, &mut out).number();
-    drop(out);
+    erase(&screen);
+    let status = close(ended, &mut told).number();
     drop(client_link);
     drop(server_link);
     drop(there);
@@ -219,11 +218,10 @@ fn datagrams_that_carry_a_body_in_blocks(rt: HostRuntime) -> Result<(), Fail> {
     Ok(())
 }
 
-// What is shown is erased before anything else is written, and once.
+// What is shown is erased before anything else is written, and where the screen is flushed, and once.
 #[test]
 fn a_screen(rt: HostRuntime) -> Result<(), Fail> {
     let screen = RefCell::new(Screen::new(Vec::new(rt.alloc())));
-    let mut told = Vec::new(rt.alloc());
     erase(&screen);
     match screen.try_borrow_mut() {
         Ok(mut shown) => {
@@ -234,11 +232,9 @@ fn a_screen(rt: HostRuntime) -> Result<(), Fail> {
         }
         Err(_) => return Err(Fail::from("the screen is borrowed")),
     }
-    let mut beside = BesideScreen::new(&mut told, &screen);
-    beside.write_all(b"five\n")?;
-    beside.write_all(b"six\n")?;
-    drop(beside);
-    assert_eq!(rt; told.as_slice(), b"five\nsix\n".as_slice());
+    let mut shared = SharedWriter::new(&screen);
+    shared.flush()?;
+    shared.flush()?;
     let shown = screen.into_inner().into_inner();
     let wanted = "1\r\x1b[K2\r\x1b[Kthree\n4\r\x1b[K";
     assert_eq!(rt; shown.as_slice(), wanted.as_bytes());

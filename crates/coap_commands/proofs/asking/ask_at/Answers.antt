@@ -7,7 +7,7 @@ use Rattle.coap_commands.proofs.asking.ask_at.Goals as goal
 
 pub returns-in-Four : goal.returns-in-Four
 returns-in-Four g c =
-    done_of (λ e. e ≡ c.in-Four.server) (IsServer c.args.server)
+    done_of _ _ (λ e. e ≡ c.in-Four.server) (IsServer c.args.server)
     (λ e is. (
       Four c.in-Four.server,
       subst (λ (p : Peer). IsOfServer c.args.server p) c.in-Four.is c.in_ok-server.ensures,
@@ -17,7 +17,7 @@ returns-in-Four g c =
 
 pub returns-in-Six : goal.returns-in-Six
 returns-in-Six g c =
-    done_of (Knows (Six c.in-Six.server)) (IsServer c.args.server)
+    done_of _ _ (Knows (Six c.in-Six.server)) (IsServer c.args.server)
     (λ e is. (
       Six c.in-Six.server,
       subst (λ (p : Peer). IsOfServer c.args.server p) c.in-Six.is c.in_ok-server.ensures,

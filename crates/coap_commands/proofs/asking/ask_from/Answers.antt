@@ -8,10 +8,11 @@ pub returns-in-Watch : goal.returns-in-Watch
 returns-in-Watch g c =
     let asked = c.args.asked in
     subst (λ (t : Task). IfOk c.watch_over.result
-    (Does (g.S.LinkSource.reaches c.args.source.now) asked.options.now asked.word t))
+    (Does (g.O.Write.contents c.args.out.now) (g.O.Write.contents c.watch_over.new.out)
+    (g.S.LinkSource.reaches c.args.source.now) asked.options.now asked.word t))
     (sym c.in-Watch.is) c.watch_over.ensures
 
 pub returns : goal.returns
 returns g c =
-    done_there (g.S.LinkSource.reaches c.args.source.now) c.in_ok-link.server _ _ _ _ c.in_ok-link.ensures
+    done_there _ _ (g.S.LinkSource.reaches c.args.source.now) c.in_ok-link.server _ _ _ _ c.in_ok-link.ensures
     c.ask_on.ensures

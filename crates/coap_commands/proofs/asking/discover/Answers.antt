@@ -7,7 +7,7 @@ use Rattle.coap_commands.proofs.asking.discover.Goals as goal
 
 pub returns : goal.returns
 returns g c =
-    discovered_task c.args.server c.args.options.now c.in_ok-word.word (Discovery c.in_ok-request.request)
+    discovered_task _ _ c.args.server c.args.options.now c.in_ok-word.word (Discovery c.in_ok-request.request)
     c.ask_at.result c.in_ok-word.ensures.word (
       _,
       c.in_ok-path.ensures,

@@ -10,8 +10,10 @@ use Rattle.coap_commands.proofs.discovering.discover_over.Goals as goal
 pub returns : goal.returns
 returns g c =
     let terms = c.args.terms.now in
+    let contents = g.O.Write.contents in
     began (λ server sizes w. Led server sizes w [] c.fresh_client-client.result)
-    (λ server sizes w. Discovers server sizes w terms.give_up (shown_request c.args.request))
+    (λ server sizes w. Discovers terms.json (contents c.args.out.now) (contents c.ask_and_tell-ended.new.out) server
+    sizes w terms.give_up (shown_request c.args.request))
     c.ask_and_tell-ended.result c.args.server (sizes_of terms) (setup_of terms)
     (subst (λ (w : Setup). Led c.args.server (sizes_of terms) w [] c.fresh_client-client.result) c.setup.ensures
     c.fresh_client-client.ensures) c.ask_and_tell-ended.ensures

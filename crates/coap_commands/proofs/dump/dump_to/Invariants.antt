@@ -1,6 +1,10 @@
 use Rattle.coap_commands.specs.Statuses.{IsOfScript}
+use Rattle.coap_commands.proofs.DumpedLines.{Dumps}
 use Rattle.coap_commands.proofs.dump.dump_to.Given as goal
 
--- so far the worst status is one of a text
+-- so far the worst status is one of a text, and that of the lines that were read
 abbrev pub invariant-loop-number : goal.invariant-loop-number
-invariant-loop-number g l = IsOfScript l.worst
+invariant-loop-number g l = record {
+  kinds : IsOfScript l.worst;
+  worst : Dumps (g.I.Read.remaining l.fn.input) (g.I.Read.remaining l.input) l.worst;
+}

@@ -14,8 +14,9 @@ loop-turn-init g c =
 pub loop-turn-preserved : goal.loop-turn-preserved
 loop-turn-preserved g c =
     most_on 0 _ _ _ _ _ c.loop-turn.invariant
-    (kept_turn g.F.JournalFile.appends g.F.JournalFile.syncs g.L.Link.sends g.L.Link.receives g.L.Link.fault_count
+    (kept_turn g.F.JournalFile.appends g.F.JournalFile.syncs _ g.L.Link.sends g.L.Link.receives g.L.Link.fault_count
     _ _ _ _ _ _ _ c.in_ok-serve_once.ensures)
 
 pub returns-then-tally-count : goal.returns-then-tally-count
-returns-then-tally-count g c = enough_fed c.args.count _ _ _ (omega (arith, c.if-tally-count.true)) c.loop-turn.invariant
+returns-then-tally-count g c = enough_fed c.args.count _ _ _
+    (omega (arith, c.if-tally-count.true)) c.loop-turn.invariant

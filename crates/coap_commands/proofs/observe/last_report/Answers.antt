@@ -16,7 +16,7 @@ returns-then-branch-clause-more g c = λ options begin s h.
     (omega (arith, c.saturating_add.ensures))
 
 pub returns-in_default-clause-counted : goal.returns-in_default-clause-counted
-returns-in_default-clause-counted g c = (None, c.in_default.ensures.none, tt, refl)
+returns-in_default-clause-counted g c = (None, c.in_default.ensures.none, tt, refl, refl)
 
 pub returns-then-branch-clause-counted : goal.returns-then-branch-clause-counted
 returns-then-branch-clause-counted g c =
@@ -27,4 +27,5 @@ returns-then-branch-clause-counted g c =
       is,
       c.saturating_add.ensures
           ∙ ap (λ (k : ℕ). min (c.args.values.now + k) (2 ^ 64 - 1)) (sym (valued report is)),
+      c.in_ok-print_value.ensures.written,
     )

@@ -1,7 +1,7 @@
 use Rattle.std.proofs.Common.{[], subst}
 use Rattle.coap_layer.specs.declared.setup.Setup.{Setup}
 use Rattle.coap_client.specs.Led.{Led}
-use Rattle.coap_commands.specs.Observes.{Observes}
+use Rattle.coap_commands.specs.ObservedTurns.{Observes}
 use Rattle.coap_commands.specs.Terms.{asked_terms, setup_of, sizes_of}
 use Rattle.coap_commands.specs.declared.connection.Terms.{Terms}
 use Rattle.coap_commands.proofs.WhatBecomes.{began}
@@ -11,8 +11,10 @@ pub returns : goal.returns
 returns g c =
     let terms = asked_terms c.args.word c.args.options.now in
     let client = c.fresh_client-client.result in
+    let contents = g.O.Write.contents in
     began (λ server sizes w. Led server sizes w [] client)
-    (λ server sizes w. Observes server sizes w c.args.path.now c.args.options.now)
+    (λ server sizes w. Observes (contents c.args.out.now) (contents c.observe_and_tell-ended.new.out) server sizes w
+    c.args.path.now c.args.options.now)
     c.observe_and_tell-ended.result c.args.server (sizes_of terms) (setup_of terms)
     (subst (λ (t : Terms). Led c.args.server (sizes_of t) (setup_of t) [] client) c.of-terms.ensures
     (subst (λ (w : Setup). Led c.args.server (sizes_of c.of-terms.result) w [] client) c.setup.ensures

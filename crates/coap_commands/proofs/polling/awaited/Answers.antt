@@ -1,37 +1,39 @@
-use Rattle.std.proofs.Common.{◌≡◌, Option, Some, None, IfNone, IfSome, refl, subst}
-use Rattle.coap_commands.specs.Asks.{AsksNothing}
+use Rattle.std.proofs.Common.{◌≡◌, Option, Some, None, IfNone, refl}
+use Rattle.coap_client.specs.Trace.{NextReport}
+use Rattle.coap_commands.specs.Asks.{TurnsAt, TurnsInTime}
 use Rattle.coap_commands.proofs.PolledCalls.{come_given_up, come_report}
-use Rattle.coap_commands.proofs.TurnCalls.{client_turned, turned_here, turned_on}
+use Rattle.coap_commands.proofs.TurnCalls.{client_turned_at, turned_by, turned_here, turned_on}
+use Rattle.coap_commands.proofs.WaitedTurns.{turned_in_time}
 use Rattle.coap_commands.proofs.polling.awaited.Goals as goal
 
 none_is : {X : Type 0} (P : Type 0) (o : Option X) → IfNone o P → o ≡ None → P
 none_is P None h is = h
 none_is P (Some x) h is = cc
 
-some_is : {X : Type 0} (P : X → Type 0) (o : Option X) (x : X) → IfSome o P → o ≡ Some x → P x
-some_is P o x h is = subst (λ a. IfSome a P) is h
-
 pub loop-turn-init : goal.loop-turn-init
-loop-turn-init g c = turned_here AsksNothing _ _ refl
+loop-turn-init g c = turned_here (TurnsInTime c.args.give_up c.args.begin.0) _ _ refl
 
 pub loop-turn-preserved : goal.loop-turn-preserved
 loop-turn-preserved g c =
-    turned_on AsksNothing _ _ _
-    (turned_on AsksNothing _ _ _ c.loop-turn.invariant
-    (client_turned AsksNothing (λ call is. is) _ _ _ _ _ _ _ _ _ _ _ _ _ c.get_turn.ensures))
-    (none_is _ _ c.next_report_of.ensures.none c.in_default.is)
+    let like = TurnsInTime c.args.give_up c.args.begin.0 in
+    let other = none_is _ _ c.next_report_of.ensures.other c.in_default.is in
+    turned_on like _ _ _
+    (turned_on like _ _ _ c.loop-turn.invariant
+    (turned_in_time c.args.give_up c.args.begin.0 c.in_ok-now.now.0 _ _
+    (none_is _ _ c.passed.ensures.none c.in_default-passed.is)
+    (client_turned_at _ _ _ _ _ _ _ _ _ _ _ _ _ c.get_turn.ensures)))
+    (turned_by like _ _ (NextReport other.0) tt other.1)
 
 pub returns-in-Some : goal.returns-in-Some
 returns-in-Some g c =
-    come_report c.args.give_up c.args.id c.in-Some.report _ _ _
-    (turned_on AsksNothing _ _ _ c.loop-turn.invariant
-    (client_turned AsksNothing (λ call is. is) _ _ _ _ _ _ _ _ _ _ _ _ _ c.get_turn.ensures))
-    c.in-Some.ensures.some
+    come_report c.args.give_up c.args.begin.0 c.args.id c.in-Some.report _ _ _ _ c.in_ok-now.now.0
+    c.loop-turn.invariant (client_turned_at _ _ _ _ _ _ _ _ _ _ _ _ _ c.get_turn.ensures) c.in-Some.ensures.some
 
 pub returns-in-Some-passed : goal.returns-in-Some-passed
 returns-in-Some-passed g c =
-    come_given_up c.args.give_up c.args.id _ _ _ c.in-Some-passed.ensures.some.0
-    (turned_on AsksNothing _ _ _
-    (turned_on AsksNothing _ _ _ c.loop-turn.invariant
-    (client_turned AsksNothing (λ call is. is) _ _ _ _ _ _ _ _ _ _ _ _ _ c.get_turn.ensures))
-    (none_is _ _ c.next_report_of.ensures.none c.in_default.is))
+    let like = TurnsAt c.in_ok-now.now.0 in
+    let other = none_is _ _ c.next_report_of.ensures.other c.in_default.is in
+    come_given_up c.args.give_up c.args.begin.0 c.args.id _ _ _ _ c.in_ok-now.now.0 c.in-Some-passed.ensures.some.0
+    c.in-Some-passed.ensures.some.1 c.loop-turn.invariant
+    (turned_on like _ _ _ (client_turned_at _ _ _ _ _ _ _ _ _ _ _ _ _ c.get_turn.ensures)
+    (turned_by like _ _ (NextReport other.0) tt other.1))

@@ -19,7 +19,7 @@ loop-turn-preserved g c =
     let options = c.args.watching.now.options.now in
     let again = c.args.watching.now.again in
     let heard = c.last_report.new.heard in
-    turn_on options again c.args.id.0 _ _ _ _ _ _ _ _ c.loop-turn.invariant
+    turn_on options again c.args.id.0 _ _ _ _ _ c.in_ok-now.now _ _ _ _ _ c.loop-turn.invariant
     (client_turned_at _ _ _ _ _ _ _ _ _ _ _ _ _ c.get_turn.ensures) _
     (none_is _ _ c.in_ok-report.ensures.more c.in_default.is)
     (not_left options again heard.since.0 c.args.id.0 heard.values heard.last.0 c.in_ok-now.now.0 _ _ _
@@ -28,16 +28,17 @@ loop-turn-preserved g c =
 pub returns-in-Some-clause-left : goal.returns-in-Some-clause-left
 returns-in-Some-clause-left g c =
     let last = some_is _ _ c.in-Some.report c.in_ok-report.ensures.last c.in-Some.is in
-    left_reported c.args.watching.now.options.now c.args.watching.now.again c.args.id.0 _ _ _ _ _ _ _ _
-    c.loop-turn.invariant
-    (client_turned_at _ _ _ _ _ _ _ _ _ _ _ _ _ c.get_turn.ensures) c.in-Some.report last.0 last.1 last.2
+    left_reported c.args.watching.now.options.now c.args.watching.now.again c.args.id.0 _ _ _ _ _ c.in_ok-now.now _ _ _
+    _
+    _ c.loop-turn.invariant
+    (client_turned_at _ _ _ _ _ _ _ _ _ _ _ _ _ c.get_turn.ensures) c.in-Some.report last.0 last.1 last.2 last.3
 
 pub returns-in-Some-left_at-clause-left : goal.returns-in-Some-left_at-clause-left
 returns-in-Some-left_at-clause-left g c =
     let options = c.args.watching.now.options.now in
     let again = c.args.watching.now.again in
     let heard = c.last_report.new.heard in
-    left_in_turn options again c.args.id.0 _ _ _ _ _ _ _ _ c.loop-turn.invariant
+    left_in_turn options again c.args.id.0 _ _ _ _ _ c.in_ok-now.now _ _ _ _ _ c.loop-turn.invariant
     (client_turned_at _ _ _ _ _ _ _ _ _ _ _ _ _ c.get_turn.ensures) c.in-Some-left_at.left _
     (none_is _ _ c.in_ok-report.ensures.more c.in_default.is)
     (left_by options again heard.since.0 c.args.id.0 heard.values heard.last.0 c.in_ok-now.now.0 _ _ _

@@ -10,8 +10,9 @@ returns-clause-next g c =
     let terms = asked_terms c.args.word options in
     let heard = c.args.heard.now in
     told_followed
-    (λ left values. IsRegistered c.args.server (sizes_of terms) (setup_of terms) c.args.watching.now.path.now options
-    again heard.since.0 heard.last.0 heard.values left values)
+    (λ left values held. IsRegistered c.args.server (sizes_of terms) (setup_of terms) c.args.watching.now.path.now
+    options again heard.since.0 heard.last.0 heard.values (g.W.Write.contents c.args.out.now) left values held)
     options again heard.since heard.last.0 c.in_ok-left.left c.observed_once.new.heard c.follow.new.heard _
-    c.follow.result c.in_ok-now.now.0 _ c.in_ok-left.ensures.left c.in_ok-left.ensures.since
+    c.follow.result c.in_ok-now.now.0 _ _ _ c.in_ok-left.ensures.left c.in_ok-left.ensures.since
     c.is_over-is_over.ensures c.verdict-verdict.ensures c.follow.ensures.follows c.follow.ensures.values
+    c.in_ok-told.ensures

@@ -1,6 +1,6 @@
 use Rattle.coap_links.specs.Turning.{Turns}
 use Rattle.coap_commands.specs.Serves.{Turning, nothing_fed}
-use Rattle.coap_commands.proofs.serve.serve_until.Given as goal
+use Rattle.coap_commands.proofs.serving.serve_until.Given as goal
 
 -- so far turns alone led here
 abbrev pub invariant-loop-turn : goal.invariant-loop-turn

@@ -2,7 +2,7 @@ use Rattle.std.proofs.Common.{arith, subst, sym}
 use Rattle.coap_links.specs.Turning.{Turns}
 use Rattle.coap_links.specs.declared.tally.Tally.{Tally}
 use Rattle.coap_commands.specs.Serves.{Turning, further, none, nothing_fed}
-use Rattle.coap_commands.proofs.serve.serve_until.Goals as goal
+use Rattle.coap_commands.proofs.serving.serve_until.Goals as goal
 
 pub loop-turn-init : goal.loop-turn-init
 loop-turn-init g c =

@@ -1,6 +1,6 @@
 use Rattle.coap_commands.specs.Asks.{AsksNothing}
 use Rattle.coap_commands.proofs.TurnCalls.{client_sent, client_turned, turned_on}
-use Rattle.coap_commands.proofs.watching.leave.Goals as goal
+use Rattle.coap_commands.proofs.leaving.leave.Goals as goal
 
 pub returns : goal.returns
 returns g c = (

@@ -1,5 +1,5 @@
 use Rattle.std.proofs.Common.{◌≡◌, Option, Some, None, IfNone}
-use Rattle.coap_commands.proofs.watching.left_at.Goals as goal
+use Rattle.coap_commands.proofs.leaving.left_at.Goals as goal
 
 none_is : {X : Type 0} (P : Type 0) (o : Option X) → IfNone o P → o ≡ None → P
 none_is P None h is = h
