@@ -16,3 +16,4 @@ pub mod WatchedCalls
 pub mod WhatBecomes
 pub mod DumpedLines
 pub mod LinkTexts
+pub mod SentTexts

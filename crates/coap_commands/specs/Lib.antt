@@ -1,3 +1,4 @@
+pub mod Answering
 pub mod Asked
 pub mod Asks
 pub mod Bearing

@@ -1,7 +1,14 @@
 //! `answer`: one datagram is fed to a server, and what that gives out is printed.
-ghost use Rattle.std.specs.Prelude.{◌≡◌, IfOk, OnOk};
+ghost use Rattle.std.specs.Prelude.{◌≡◌, [], IfOk, OnOk};
 ghost use Rattle.coap_resource.specs.Entries.{content_of};
 ghost use Rattle.coap_server.specs.Object.Shown.{state_of};
+ghost use Rattle.coap_layer.specs.Machine.State.{usual};
+ghost use Rattle.coap_layer.specs.declared.setup.Setup.{Setup as SetupSpec};
+ghost use Rattle.coap_resource.specs.Limits.{Limits};
+ghost use Rattle.coap_server.specs.Led.{Led};
+ghost use Rattle.coap_commands.specs.Ends.{server_limits};
+ghost use Rattle.coap_commands.specs.Answering.{PrintsAnswer, PrintsReply, PrintsSent};
+ghost use Rattle.coap_scripts.specs.declared.status.Status.TheVariants.{Done as done};
 ghost use Rattle.coap_commands.specs.Statuses.{IsCarriedOut};
 
 use crate::ends::{fresh_server, hold, tell_refusal};
@@ -11,7 +18,7 @@ use coap_layer::Setup;
 use coap_resource::MapStore;
 use coap_run::CLIENT_END;
 use coap_scripts::{Status, Stop};
-use coap_types::{BodyLimit, Moment, Path};
+use coap_types::{BodyLimit, DEFAULT_BODY_LIMIT, MAX_SZX, Moment, Path};
 use std::alloc::{AllocError, Global};
 use std::hash::{BuildHasherDefault, FoldHasher};
 use std::io::Write;
@@ -31,7 +38,12 @@ pub fn answer<W: Write>(
     datagram: &[u8],
     out: &mut W,
 ) -> Result<Status, Stop>
-    ensures { IfOk result IsCarriedOut }
+    // A server that is asked for one answer begins by the word 0 and the usual limit, and is set to hold the body at
+    // the path; where its store refuses that, the refusal is told. Else the usual client hands it the datagram at
+    // moment 0, and each datagram that it then gives out is written in hex on a line, or a line that there is none.
+    ensures printed { IfOk result (PrintsAnswer (server_limits DEFAULT_BODY_LIMIT) (usual WORD) path.now body.now
+        (W.contents out.old) (W.contents out.new) ARRIVAL.0 CLIENT_END WORD datagram.now) }
+    ensures status { IfOk result IsCarriedOut }
 {
     let hasher = BuildHasherDefault::<FoldHasher>::new();
     let mut server = fresh_server(alloc, Setup::new(WORD), BodyLimit::default(), hasher);
@@ -49,7 +61,9 @@ fn held_reply<W: Write>(
     datagram: &[u8],
     out: &mut W,
 ) -> Result<Status, Stop>
-    ensures { IfOk result IsCarriedOut }
+    ensures { (limits : Limits) (setup : SetupSpec) → Led limits MAX_SZX setup [] (state_of content_of server.old)
+        → IfOk result (PrintsAnswer limits setup path.now body.now (W.contents out.old) (W.contents out.new) ARRIVAL.0
+        CLIENT_END WORD datagram.now) }
 {
     match hold(server, path, body.as_bytes())? {
         None => reply(alloc, server, datagram, out),
@@ -72,7 +86,8 @@ fn reply<W: Write>(
     datagram: &[u8],
     out: &mut W,
 ) -> Result<Status, Stop>
-    ensures { IfOk result IsCarriedOut }
+    ensures { IfOk result (λ status. (status ≡ done) × PrintsReply (W.contents out.old) (W.contents out.new) ARRIVAL.0
+        CLIENT_END WORD datagram.now (state_of content_of server.old) (state_of content_of server.new)) }
 {
     hand(server, datagram)?;
     print_sent(alloc, server, out)?;
@@ -80,11 +95,14 @@ fn reply<W: Write>(
 }
 
 // Prints each datagram that is to be sent in hex, or that there is none.
-fn print_sent<E: End<Global>, W: Write>(
+fn print_sent<W: Write>(
     alloc: Global,
-    server: &mut E,
+    server: &mut Server<MapStore, Global>,
     out: &mut W,
-) -> Result<(), Stop> {
+) -> Result<(), Stop>
+    ensures { OnOk result (PrintsSent (W.contents out.old) (W.contents out.new) (state_of content_of server.old)
+        (state_of content_of server.new)) }
+{
     let mut is_silent = true;
     while let Some(datagram) = server.next_out() {
         let bytes = hex::encode(alloc, datagram.bytes())?;
