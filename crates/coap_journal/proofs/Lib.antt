@@ -1,4 +1,5 @@
 mod Appended
+mod Beginnings
 mod Bytes
 mod Seals
 mod Segments

@@ -1,7 +1,10 @@
 -- What a frame of a journal has in it.
-use Rattle.std.specs.Prelude.{◌≤◌, ℕ, List, ◌∷◌, ◌++◌}
+use Rattle.std.specs.Prelude.{◌≡◌, ◌≢◌, ◌≤◌, ◌<◌, ◌^◌, ℕ, List, ◌∷◌, ◌++◌, length}
+use Rattle.coap_journal.specs.Frames.{frame}
 use Rattle.coap_journal.specs.Input.{Input, all_spelled}
 use Rattle.coap_journal.specs.Numbers.{number, short}
+use Rattle.coap_journal.specs.declared.beginning.BeginError.{BeginError}
+use Rattle.coap_journal.specs.declared.beginning.BeginError.TheVariants.{OtherFormat, OtherLaw, Unreadable}
 use Rattle.coap_journal.specs.declared.beginning.Beginning.{Beginning}
 use Rattle.coap_journal.specs.declared.beginning.Configuration.{Configuration}
 use Rattle.coap_journal.specs.declared.beginning.Life.{Life}
@@ -45,3 +48,28 @@ pub record IsConfiguration (c : Configuration) : Type 0 where
   pub limit : c.limit ≤ max_body_limit
   pub one : 1 ≤ c.remembered
   pub remembered : c.remembered ≤ max_remembered
+
+-- in the bytes of a first record the number of a format stands; in this format, that of a law
+abbrev pub NamesFormat : ℕ → List ℕ → Type 0
+NamesFormat n bytes = (n < 2 ^ 32) × (rest : List ℕ) × (bytes ≡ 7 ∷ (short n ++ rest))
+
+abbrev pub NamesLaw : ℕ → List ℕ → Type 0
+NamesLaw n bytes = (n < 2 ^ 32) × (rest : List ℕ) × (bytes ≡ 7 ∷ (short format ++ (short n ++ rest)))
+
+-- no server can begin as the bytes spell
+abbrev pub SpellsNone : List ℕ → Type 0
+SpellsNone bytes =
+    (b : Beginning) (l : Life) → IsConfiguration b.configuration → bytes ≡ record_bytes (Begun b l) → ⊥
+
+-- Why the bytes of a first record aren't read: they are of another format, or of another law; or neither stands there,
+-- and no server can begin so.
+abbrev pub IsUnread : List ℕ → BeginError → Type 0
+IsUnread bytes (OtherFormat n) = (n ≢ format) × NamesFormat n bytes
+IsUnread bytes (OtherLaw n) = (n ≢ law) × NamesLaw n bytes
+IsUnread bytes Unreadable = ((n : ℕ) → n ≢ format → NamesFormat n bytes → ⊥)
+    × ((n : ℕ) → n ≢ law → NamesLaw n bytes → ⊥) × SpellsNone bytes
+
+-- a whole frame stands in front of a file, and what it holds isn't read
+abbrev pub FirstIsUnread : List ℕ → BeginError → Type 0
+FirstIsUnread file why =
+    (body : List ℕ) × (rest : List ℕ) × (length body < 2 ^ 32) × (file ≡ frame 0 body ++ rest) × IsUnread body why

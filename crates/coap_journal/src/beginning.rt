@@ -1,11 +1,10 @@
 //! How the server of a journal began, and each life of it: their bytes.
-ghost use Rattle.std.specs.Prelude.{◌≡◌, ◌≢◌, ◌≤◌, ◌<◌, ◌+◌, ◌∷◌, ◌++◌, [], ℕ, List, length, Err, OnOk, IfOk, IfSome};
-ghost use Rattle.std.specs.Prelude.{IfNone, IsOk};
+ghost use Rattle.std.specs.Prelude.{◌≡◌, ◌≤◌, ◌<◌, ◌+◌, ◌∷◌, ◌++◌, [], ℕ, List, length, OnOk};
+ghost use Rattle.std.specs.Prelude.{IfErr, IfNone, IfOk, IfSome, IsOk};
 ghost use Rattle.coap_journal.specs.Numbers.{number, short};
-ghost use Rattle.coap_journal.specs.Records.{Begun, IsConfiguration, Woke, beginning_bytes, configuration_bytes};
-ghost use Rattle.coap_journal.specs.Records.{life_bytes, record_bytes, seed_bytes};
+ghost use Rattle.coap_journal.specs.Records.{Begun, IsConfiguration, IsUnread, Woke, beginning_bytes};
+ghost use Rattle.coap_journal.specs.Records.{configuration_bytes, life_bytes, record_bytes, seed_bytes};
 ghost use Rattle.coap_journal.specs.declared.beginning.Beginning.{Beginning as BeginningSpec};
-ghost use Rattle.coap_journal.specs.declared.beginning.BeginError.TheVariants as refusals;
 ghost use Rattle.coap_journal.specs.declared.beginning.Configuration.{Configuration as ConfigurationSpec};
 ghost use Rattle.coap_journal.specs.declared.beginning.Life.{Life as LifeSpec};
 
@@ -273,10 +272,7 @@ fn read_parts(bytes: &[u8]) -> Option<(Beginning, Life)>
 fn read_versions(bytes: &[u8]) -> Result<&[u8], BeginError>
     ensures ok { IfOk result (λ rest. bytes.now ≡ short FORMAT ++ (short LAW ++ rest.now)) }
     ensures written { (rest : List ℕ) → bytes.now ≡ short FORMAT ++ (short LAW ++ rest) → IsOk result }
-    ensures format { (n : ℕ) → result ≡ Err (refusals.OtherFormat n)
-        → (n ≢ FORMAT) × (rest : List ℕ) × (bytes.now ≡ short n ++ rest) }
-    ensures law { (n : ℕ) → result ≡ Err (refusals.OtherLaw n)
-        → (n ≢ LAW) × (rest : List ℕ) × (bytes.now ≡ short FORMAT ++ (short n ++ rest)) }
+    ensures err { IfErr result (IsUnread (BEGUN ∷ bytes.now)) }
 {
     let Some((format, behind)) = read_short(bytes) else {
         return Err(BeginError::Unreadable);
@@ -297,10 +293,7 @@ fn read_begun_parts(bytes: &[u8]) -> Result<(Beginning, Life), BeginError>
     ensures ok { IfOk result (λ p. bytes.now ≡ beginning_bytes p.0 ++ life_bytes p.1) }
     ensures written { (b : BeginningSpec) (l : LifeSpec) → IsConfiguration b.configuration
         → bytes.now ≡ beginning_bytes b ++ life_bytes l → IsOk result }
-    ensures format { (n : ℕ) → result ≡ Err (refusals.OtherFormat n)
-        → (n ≢ FORMAT) × (rest : List ℕ) × (bytes.now ≡ short n ++ rest) }
-    ensures law { (n : ℕ) → result ≡ Err (refusals.OtherLaw n)
-        → (n ≢ LAW) × (rest : List ℕ) × (bytes.now ≡ short FORMAT ++ (short n ++ rest)) }
+    ensures err { IfErr result (IsUnread (BEGUN ∷ bytes.now)) }
 {
     match read_versions(bytes) {
         Ok(behind) => match read_parts(behind) {
@@ -318,12 +311,9 @@ pub fn read_begun(bytes: &[u8]) -> Result<(Beginning, Life), BeginError>
     // A beginning that was written is read.
     ensures written { (b : BeginningSpec) (l : LifeSpec) → IsConfiguration b.configuration
         → bytes.now ≡ record_bytes (Begun b l) → IsOk result }
-    // Another format is answered only where its number stands there, and isn't that of this one.
-    ensures format { (n : ℕ) → result ≡ Err (refusals.OtherFormat n)
-        → (n ≢ FORMAT) × (rest : List ℕ) × (bytes.now ≡ BEGUN ∷ (short n ++ rest)) }
-    // Another law is answered only of a journal in this format where the number of that law stands there.
-    ensures law { (n : ℕ) → result ≡ Err (refusals.OtherLaw n)
-        → (n ≢ LAW) × (rest : List ℕ) × (bytes.now ≡ BEGUN ∷ (short FORMAT ++ (short n ++ rest))) }
+    // What isn't read is of the other format, or of the other law, that is told; or neither stands there, and no server
+    // can begin so.
+    ensures err { IfErr result (IsUnread bytes.now) }
 {
     match bytes {
         [BEGUN, behind @ ..] => read_begun_parts(behind),

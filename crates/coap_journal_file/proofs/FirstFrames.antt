@@ -1,11 +1,12 @@
 -- What the first frames of a journal say.
 use Rattle.std.proofs.Common.{◌≡◌, ◌∙◌, ◌<◌, ◌+◌, ◌-◌, ◌^◌, ◌++◌, ℕ, List, Option, Some, None, IfNone, IfSome, ap}
-use Rattle.std.proofs.Common.{arith, length}
-use Rattle.std.proofs.Common.{subst, sym}
+use Rattle.std.proofs.Common.{arith, inl, inr, length, refl, subst, sym}
 use Rattle.std.proofs.lemmas.List.{length-append}
 use Rattle.std.specs.Borrow.{Bor}
 use Rattle.coap_journal.specs.Frames.{BeginsFrame, around, frame}
-use Rattle.coap_journal.specs.Records.{Begun, IsConfiguration, record_bytes}
+use Rattle.coap_journal.specs.Records.{Begun, IsUnread, record_bytes}
+use Rattle.coap_journal.specs.declared.beginning.BeginError.{BeginError}
+use Rattle.coap_journal.specs.declared.beginning.BeginError.TheVariants.{Unreadable}
 use Rattle.coap_journal.specs.declared.beginning.Beginning.{Beginning}
 use Rattle.coap_journal.specs.declared.beginning.Life.{Life}
 use Rattle.coap_journal.proofs.Facts.{length-frame}
@@ -28,14 +29,12 @@ setup_is one place bytes body behind None is short some none = λ other rest inp
 pub no_setup : (place : ℕ) (bytes : List ℕ) → (BeginsFrame place bytes → ⊥) → IsSetup place bytes None
 no_setup place bytes none = λ body rest inputs len e turn. none (body, rest, len, e)
 
-pub no_beginning : (bytes : List ℕ) → (BeginsFrame 0 bytes → ⊥) → IsUnbegun bytes
-no_beginning bytes none = λ beginning life rest config len e. none (record_bytes (Begun beginning life), rest, len, e)
+pub no_beginning : (bytes : List ℕ) → (BeginsFrame 0 bytes → ⊥) → IsUnbegun bytes Unreadable
+no_beginning bytes none = inl (none, refl)
 
-pub other_body : OneFrame → (bytes body behind : List ℕ) → bytes ≡ frame 0 body ++ behind → length body < 2 ^ 32
-    → ((b : Beginning) (l : Life) → IsConfiguration b.configuration → body ≡ record_bytes (Begun b l) → ⊥)
-    → IsUnbegun bytes
-other_body one bytes body behind is short none = λ beginning life rest config len e.
-    none beginning life config (one 0 body (record_bytes (Begun beginning life)) behind rest short len (sym is ∙ e)).0
+pub other_body : (bytes body behind : List ℕ) (why : BeginError) → bytes ≡ frame 0 body ++ behind
+    → length body < 2 ^ 32 → IsUnread body why → IsUnbegun bytes why
+other_body bytes body behind why is short err = inr (body, behind, short, is, err)
 
 pub begun_is : (bytes body rest : List ℕ) (b : Beginning) (l : Life) (place : ℕ) (setup : Option (Bor (List ℕ)))
     → bytes ≡ frame 0 body ++ rest → body ≡ record_bytes (Begun b l) → place ≡ length bytes - length rest

@@ -1,11 +1,13 @@
 -- What stands in the file of a journal.
-use Rattle.std.specs.Prelude.{◌≡◌, ◌<◌, ◌+◌, ◌^◌, ℕ, List, [], ◌∷◌, ◌++◌, Option, Some, None, length, min, take}
+use Rattle.std.specs.Prelude.{◌≡◌, ◌⊎◌, ◌<◌, ◌+◌, ◌^◌, ℕ, List, [], ◌∷◌, ◌++◌, Option, Some, None, length, min, take}
 use Rattle.std.specs.Borrow.{Bor}
-use Rattle.coap_journal.specs.Frames.{IsDamage, around, frame}
+use Rattle.coap_journal.specs.Frames.{BeginsFrame, IsDamage, around, frame}
 use Rattle.coap_journal.specs.Numbers.{number}
-use Rattle.coap_journal.specs.Records.{IsConfiguration, record_bytes}
+use Rattle.coap_journal.specs.Records.{FirstIsUnread, record_bytes}
 use Rattle.coap_journal.specs.Records as records
 use Rattle.coap_journal.specs.Whole.{IsWholeTo}
+use Rattle.coap_journal.specs.declared.beginning.BeginError.{BeginError}
+use Rattle.coap_journal.specs.declared.beginning.BeginError.TheVariants as begin
 use Rattle.coap_journal.specs.declared.beginning.Beginning.{Beginning}
 use Rattle.coap_journal.specs.declared.beginning.Life.{Life}
 use Rattle.coap_journal.specs.declared.wholeness.Whole.{Whole}
@@ -43,11 +45,9 @@ IsBegun bytes beginning setup = (life : Life) × (rest : List ℕ)
     × (bytes ≡ frame 0 (record_bytes (records.Begun beginning life)) ++ rest)
     × IsSetup (around + length (record_bytes (records.Begun beginning life))) rest setup
 
--- no first frame says how a server began
-abbrev pub IsUnbegun : List ℕ → Type 0
-IsUnbegun bytes = (beginning : Beginning) (life : Life) (rest : List ℕ) → IsConfiguration beginning.configuration
-    → length (record_bytes (records.Begun beginning life)) < 2 ^ 32
-    → bytes ≡ frame 0 (record_bytes (records.Begun beginning life)) ++ rest → ⊥
+-- no server began: no whole frame stands in front, or what it holds isn't read
+abbrev pub IsUnbegun : List ℕ → BeginError → Type 0
+IsUnbegun bytes why = ((BeginsFrame 0 bytes → ⊥) × (why ≡ begin.Unreadable)) ⊎ FirstIsUnread bytes why
 
 -- so much of the bytes is whole, and no damage follows it
 abbrev pub IsWhole : List ℕ → Whole → Type 0
@@ -58,8 +58,8 @@ abbrev pub IsJudged : List ℕ → Judged → Type 0
 IsJudged bytes Empty = IsTornBeginning bytes
 IsJudged bytes (Begun began) = IsBegun bytes began.beginning began.setup × IsWhole bytes began.whole
 
--- frames stand after one that isn't whole, where those before it end; or no beginning stands in front
+-- frames stand after one that isn't whole, where those before it end; or no server began
 abbrev pub IsFault : List ℕ → FileError → Type 0
 IsFault bytes (Damaged damage) = (count : ℕ) × (tail : List ℕ) × IsWholeTo 0 bytes count damage.at tail
     × IsDamage damage.at tail
-IsFault bytes (Unbegun why) = IsUnbegun bytes
+IsFault bytes (Unbegun why) = IsUnbegun bytes why

@@ -94,7 +94,7 @@ fn setup_in(place: u64, bytes: &[u8]) -> Option<&[u8]>
 // How the server of a whole file began.
 fn began_in(bytes: &[u8], whole: Whole) -> Result<Began<'_>, BeginError>
     ensures ok { IfOk result (λ b. IsBegun bytes.now b.beginning b.setup × (b.whole ≡ whole)) }
-    ensures err { IfErr result (λ _. IsUnbegun bytes.now) }
+    ensures err { IfErr result (IsUnbegun bytes.now) }
 {
     journal_law();
     let Some((body, rest)) = read_frame(0, bytes) else {
@@ -118,7 +118,8 @@ fn began_in(bytes: &[u8], whole: Whole) -> Result<Began<'_>, BeginError>
 pub fn judge(bytes: &[u8]) -> Result<Judged<'_>, FileError>
     // A file is judged by what is whole of it: how its server began, and what that took first.
     ensures ok { IfOk result (IsJudged bytes.now) }
-    // A file is refused for damage, or since no beginning stands in it whole.
+    // A file is refused for damage, or since no server began in it: the other format or law is told that its first frame
+    // names.
     ensures err { IfErr result (IsFault bytes.now) }
 {
     let whole = match scan(bytes) {

@@ -1,4 +1,4 @@
-use Rattle.std.proofs.Common.{arith, refl, sym, true≢false}
+use Rattle.std.proofs.Common.{arith, refl}
 use Rattle.coap_journal_file.proofs.FirstFrames.{begun_is, no_beginning, other_body}
 use Rattle.coap_journal_file.proofs.judging.began_in.Goals as goal
 
@@ -14,6 +14,5 @@ returns-in-Ok-clause-ok c = (
 
 pub returns-in-Err-clause-err : goal.returns-in-Err-clause-err
 returns-in-Err-clause-err c =
-    other_body c.journal_law.ensures.one_frame c.args.bytes.now c.in-Some.body.now c.in-Some.rest.now
-    c.in-Some.ensures.some c.in-Some.ensures.short
-    (λ b l config e. true≢false (sym (c.in-Err.ensures.written b l config e)))
+    other_body c.args.bytes.now c.in-Some.body.now c.in-Some.rest.now c.in-Err.why c.in-Some.ensures.some
+    c.in-Some.ensures.short c.in-Err.ensures.err
