@@ -1,9 +1,9 @@
 -- What the first frames of a journal say.
-use Rattle.std.proofs.Common.{◌≡◌, ◌∙◌, ◌<◌, ◌+◌, ◌-◌, ◌^◌, ◌++◌, ℕ, List, Option, Some, None, IfNone, IfSome, ap}
+use Rattle.std.proofs.Common.{◌≡◌, ◌∙◌, ◌<◌, ◌-◌, ◌^◌, ◌++◌, ℕ, List, Option, Some, None, IfNone, IfSome, ap}
 use Rattle.std.proofs.Common.{arith, inl, inr, length, refl, subst, sym}
 use Rattle.std.proofs.lemmas.List.{length-append}
 use Rattle.std.specs.Borrow.{Bor}
-use Rattle.coap_journal.specs.Frames.{BeginsFrame, around, frame}
+use Rattle.coap_journal.specs.Frames.{BeginsFrame, frame}
 use Rattle.coap_journal.specs.Records.{Begun, IsUnread, record_bytes}
 use Rattle.coap_journal.specs.declared.beginning.BeginError.{BeginError}
 use Rattle.coap_journal.specs.declared.beginning.BeginError.TheVariants.{Unreadable}

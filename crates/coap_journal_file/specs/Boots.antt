@@ -1,5 +1,5 @@
 -- The name of a boot, and how long a machine has been up, as Linux says them.
-use Rattle.std.specs.Prelude.{◌≡◌, ◌==◌, ◌&&◌, ◌+◌, ◌-◌, ◌*◌, ◌%◌, ◌^◌, ℕ, Bool, true, false, List, Option, Some, None}
+use Rattle.std.specs.Prelude.{◌==◌, ◌&&◌, ◌+◌, ◌-◌, ◌*◌, ◌%◌, ◌^◌, ℕ, Bool, true, false, List, Option, Some, None}
 use Rattle.std.specs.Prelude.{fold, if◌then◌else◌, min, nat_le, nat_lt}
 use Rattle.coap_journal.specs.declared.beginning.Boot.{Boot}
 use Rattle.coap_journal_file.specs.declared.boots.Named.{Named}

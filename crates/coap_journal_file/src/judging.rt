@@ -118,8 +118,8 @@ fn began_in(bytes: &[u8], whole: Whole) -> Result<Began<'_>, BeginError>
 pub fn judge(bytes: &[u8]) -> Result<Judged<'_>, FileError>
     // A file is judged by what is whole of it: how its server began, and what that took first.
     ensures ok { IfOk result (IsJudged bytes.now) }
-    // A file is refused for damage, or since no server began in it: the other format or law is told that its first frame
-    // names.
+    // A file is refused for damage, or since no server began in it. The other format or law is told that its first
+    // frame names.
     ensures err { IfErr result (IsFault bytes.now) }
 {
     let whole = match scan(bytes) {

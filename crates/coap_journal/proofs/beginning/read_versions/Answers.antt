@@ -1,4 +1,4 @@
-use Rattle.std.proofs.Common.{arith, rules, sym, ap, ◌∙◌, ◌≡◌, ◌++◌, ℕ, List}
+use Rattle.std.proofs.Common.{arith, rules, sym, ap, ◌∙◌, ◌≡◌, ◌++◌, ℕ}
 use Rattle.coap_journal.specs.Numbers.{short}
 use Rattle.coap_journal.proofs.Beginnings.{no_format, no_law, other_format, other_law}
 use Rattle.coap_journal.proofs.Written.{short_first}
