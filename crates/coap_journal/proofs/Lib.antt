@@ -7,3 +7,4 @@ mod OneReading
 mod Written
 pub mod CutAnywhere
 pub mod Facts
+mod FramesLeft

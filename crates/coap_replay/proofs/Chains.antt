@@ -1,6 +1,6 @@
 -- One more at the end of what is replayed.
 use Rattle.std.proofs.Common.{◌≡◌, ℕ, List, [], ◌∷◌, ◌++◌, ◌+◌, ◌<◌, length, refl, sym, ap, ◌∙◌, append_assoc, arith}
-use Rattle.std.proofs.Common.{Result, Ok, Err, subst, ◌≤◌, ◌-◌, drop, get_or, take, take_all}
+use Rattle.std.proofs.Common.{Result, Ok, Err, subst}
 use Rattle.std.specs.Result.{IfErr, IsErrAnd}
 use Rattle.std.proofs.lemmas.List.{length-append}
 use Rattle.coap_layer.specs.Trace.{Packet}
@@ -75,11 +75,3 @@ stands_at place at bytes rest records e is =
 pub passed_up : {T E : Type 0} (r : Result T E) (e : E) (P : E → Type 0) → IsErrAnd r (λ y. y ≡ e) → P e → IfErr r P
 passed_up (Ok x) e P is h = absurd is
 passed_up (Err y) e P is h = subst P (sym is) h
-
--- bytes by the first of them
-pub front_is : (bytes : List ℕ) (x : ℕ) → 1 ≤ length bytes → get_or bytes 0 0 ≡ x
-    → x ∷ take (length bytes - 1) (drop 1 bytes) ≡ bytes
-front_is [] x some e = absurd (omega (arith, some))
-front_is (y ∷ bytes) x some e =
-    ap (λ (xs : List ℕ). x ∷ xs) (take_all (length (y ∷ bytes) - 1) bytes (omega arith))
-    ∙ ap (λ (z : ℕ). z ∷ bytes) (sym e)

@@ -1,5 +1,5 @@
 -- Why a journal is not replayed.
-use Rattle.std.specs.Prelude.{◌≡◌, ◌<◌, ◌+◌, ℕ, false, None, List, [], ◌∷◌, ◌++◌, length}
+use Rattle.std.specs.Prelude.{◌≡◌, ◌⊎◌, ◌<◌, ◌+◌, ℕ, false, None, List, [], ◌∷◌, ◌++◌, length}
 use Rattle.coap_types.specs.declared.endpoint.Endpoint.{Endpoint}
 use Rattle.coap_layer.specs.Trace as L
 use Rattle.coap_layer.specs.Trace.{Packet}
@@ -10,6 +10,7 @@ use Rattle.coap_journal.specs.Frames.{frame, frames}
 use Rattle.coap_journal.specs.Input.{Input, IsInput, Refuse, all_spelled, spelled}
 use Rattle.coap_journal.specs.Numbers.{number}
 use Rattle.coap_journal.specs.Records.{Record, Woke, record_bytes}
+use Rattle.coap_journal.specs.Whole.{AreFrames}
 use Rattle.coap_journal.specs.declared.beginning.Life.{Life}
 use Rattle.coap_journal.specs.declared.reading.ReadError.{ReadError}
 use Rattle.coap_journal.specs.declared.reading.ReadError.TheVariants as read
@@ -83,3 +84,8 @@ pub record StopsAt (Refused : State → List ℕ → Type 0) (place : ℕ) (old 
   pub bytes_are : bytes ≡ frames place (bodies records) ++ (frame at body ++ rest)
   pub stands : at ≡ place + length (frames place (bodies records))
   pub refused : Refused between body
+
+-- Why not all of the bytes, the first at this place, is replayed: the server stops at a frame that it can't read, or
+-- they aren't whole frames.
+abbrev pub IsUnreplayed : (place : ℕ) → State → List ℕ → Type 0
+IsUnreplayed place old bytes = StopsAt IsUnreadable place old bytes ⊎ (AreFrames place bytes → ⊥)

@@ -1,5 +1,5 @@
 //! The records of a journal, done again.
-ghost use Rattle.std.specs.Prelude.{◌≡◌, ◌≢◌, ◌∷◌, ◌++◌, ◌<◌, ◌+◌, ◌^◌, [], List, ℕ, length, false, Err};
+ghost use Rattle.std.specs.Prelude.{◌≡◌, ◌≢◌, ◌∷◌, ◌++◌, ◌<◌, ◌+◌, ◌^◌, [], List, ℕ, length, true, false, Err};
 ghost use Rattle.std.specs.Prelude.{IfErr, IfOk, OnOk};
 ghost use Rattle.coap_layer.specs.Trace.{Packet};
 ghost use Rattle.coap_resource.specs.declared.refusal.StoreRefusal.TheVariants.{Memory};
@@ -9,6 +9,7 @@ ghost use Rattle.coap_server.specs.Object.Shown.{state_of};
 ghost use Rattle.coap_journal.specs.Frames.{BeginsFrame, frames};
 ghost use Rattle.coap_journal.specs.Input.{Delay, Feed, Input, Plain, Remove, Set, Tick, all_spelled, spelled};
 ghost use Rattle.coap_journal.specs.Records.{Record, Turn, record_bytes};
+ghost use Rattle.coap_journal.specs.Whole.{AreFrames};
 ghost use Rattle.coap_replay.specs.Doing.{bodies};
 ghost use Rattle.coap_replay.specs.declared.replay.ReplayError.TheVariants.{OtherServer, Unreadable};
 ghost use Rattle.coap_replay.specs.Refusing.{GivesTooFew, IsNoInput, IsOfOther, IsUnreadable, StopsAt, StopsInside};
@@ -164,7 +165,8 @@ fn replay_tick<'a, S: Store<A>, A: Allocator + Copy, H: BuildHasher>(
 
 // Whether it was memory that a local change lacked.
 fn set_lacked(done: Result<u64, StoreRefusal>) -> bool
-    ensures { result ≡ false → done ≢ Err Memory }
+    ensures there { result ≡ false → done ≢ Err Memory }
+    ensures lacked { result ≡ true → done ≡ Err Memory }
 {
     match done {
         Err(StoreRefusal::Memory) => true,
@@ -178,7 +180,8 @@ fn set_lacked(done: Result<u64, StoreRefusal>) -> bool
 
 // .. a delay.
 fn delay_lacked(done: Result<(), DelayRefusal>) -> bool
-    ensures { result ≡ false → done ≢ Err delay_refusals.Memory }
+    ensures there { result ≡ false → done ≢ Err delay_refusals.Memory }
+    ensures lacked { result ≡ true → done ≡ Err delay_refusals.Memory }
 {
     match done {
         Err(DelayRefusal::Memory) => true,
@@ -189,7 +192,8 @@ fn delay_lacked(done: Result<(), DelayRefusal>) -> bool
 
 // .. a plain path.
 fn plain_lacked(done: Result<(), PlainRefusal>) -> bool
-    ensures { result ≡ false → done ≢ Err plain_refusals.Memory }
+    ensures there { result ≡ false → done ≢ Err plain_refusals.Memory }
+    ensures lacked { result ≡ true → done ≡ Err plain_refusals.Memory }
 {
     match done {
         Err(PlainRefusal::Memory) => true,
@@ -425,6 +429,8 @@ pub fn replay_frames<'a, S: Store<A>, A: Allocator + Copy, H: BuildHasher>(
     // something among its inputs that the server can't take.
     ensures unreadable { IfErr result (λ why. why ≡ Unreadable
         → StopsAt IsUnreadable place (state_of S.content server.old) bytes.now) }
+    // Of whole frames none is left.
+    ensures all { IfOk result (λ end. AreFrames place bytes.now → end.1.now ≡ []) }
     // No frame begins with the rest.
     ensures whole { IfOk result (λ end. BeginsFrame end.0.end end.1.now → ⊥) }
     // The rest stands where the frames end.

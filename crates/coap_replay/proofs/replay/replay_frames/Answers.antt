@@ -1,7 +1,7 @@
 use Rattle.std.proofs.Common.{[], ◌∷◌, ◌++◌, ◌∙◌, sym, ap, refl, arith, List, ℕ}
 use Rattle.coap_journal.specs.declared.beginning.Life.{Life}
 use Rattle.coap_replay.specs.Replaying.{last_life}
-use Rattle.coap_journal.proofs.Facts.{rest_is_less}
+use Rattle.coap_journal.proofs.Facts.{frames_behind, none_left, rest_is_less}
 use Rattle.coap_journal.specs.Frames.{frames}
 use Rattle.coap_replay.specs.Doing.{bodies}
 use Rattle.coap_replay.proofs.Chains.{passed_up, stands_at}
@@ -9,8 +9,18 @@ use Rattle.coap_replay.proofs.Chains.{last_life_more, latest_more, record_framed
 use Rattle.coap_replay.proofs.replay.replay_frames.Goals as goal
 
 pub loop-body-init : goal.loop-body-init
-loop-body-init g c =
-    ([], [], record { bytes = refl; replays = (refl, refl); place = refl; life = refl; latest = refl })
+loop-body-init g c = (
+  [],
+  [],
+  record {
+    bytes = refl;
+    replays = (refl, refl);
+    place = refl;
+    life = refl;
+    latest = refl;
+    left = λ all. all;
+  },
+)
 
 pub loop-body-smaller : goal.loop-body-smaller
 loop-body-smaller g c =
@@ -39,6 +49,12 @@ loop-body-preserved g c =
         life = next.4 ∙ ap (λ (l : Life). last_life l (next.0 ∷ [])) so_far.2.life
             ∙ sym (last_life_more c.args.life so_far.0 next.0);
         latest = next.5 _ ∙ sym (latest_more c.args.life.moment.0 so_far.0 next.0);
+        left = λ all. frames_behind c.loop-body.at _ c.loop-body.rest.now c.in-Some.body.now c.in-Some.behind.now
+            c.in-Some.ensures.short c.in-Some.ensures.some (omega (
+              arith,
+              rest_is_less c.loop-body.at c.in-Some.body.now c.loop-body.rest.now c.in-Some.behind.now
+                  c.in-Some.ensures.some,
+            )) (so_far.2.left all);
       },
     )
 
@@ -77,3 +93,7 @@ returns-in_err-further-clause-unreadable g c =
           so_far.2.place;
       refused = c.in_err-further.ensures.unread is;
     })
+
+pub returns-clause-all : goal.returns-clause-all
+returns-clause-all g c = λ all.
+    none_left c.loop-body.at c.loop-body.rest.now c.in_default.ensures.none (c.loop-body.invariant.2.left all)

@@ -2,6 +2,7 @@ use Rattle.std.proofs.Common.{◌≡◌, ◌+◌, ◌++◌, List, length}
 use Rattle.coap_layer.specs.Trace.{Packet}
 use Rattle.coap_journal.specs.Frames.{frames}
 use Rattle.coap_journal.specs.Records.{Record}
+use Rattle.coap_journal.specs.Whole.{AreFrames}
 use Rattle.coap_server.specs.Object.Shown.{state_of}
 use Rattle.coap_replay.specs.Doing.{bodies}
 use Rattle.coap_replay.specs.Replaying.{Replays, last_life, latest_moment}
@@ -16,6 +17,7 @@ invariant-loop-body g l =
       place : l.at + length l.rest ≡ l.fn.place + length l.fn.bytes;
       life : l.last ≡ last_life l.fn.life records;
       latest : l.latest.0 ≡ latest_moment l.fn.life.moment.0 records;
+      left : AreFrames l.fn.place l.fn.bytes → AreFrames l.at l.rest;
     }
 
 abbrev pub decreases-loop-body : goal.decreases-loop-body

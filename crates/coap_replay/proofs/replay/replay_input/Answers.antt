@@ -1,8 +1,8 @@
 use Rattle.std.proofs.Common.{◌≡◌, IfErr, List, ℕ, rules, subst}
 use Rattle.coap_server.specs.Object.Shown.{state_of}
+use Rattle.coap_journal.proofs.Facts.{front_is}
 use Rattle.coap_replay.specs.Refusing.{IsNoInput}
 use Rattle.coap_replay.specs.declared.replay.ReplayError.TheVariants.{Unreadable}
-use Rattle.coap_replay.proofs.Chains.{front_is}
 use Rattle.coap_replay.proofs.replay.replay_input.Goals as goal
 
 pub returns-in-10-clause-unread : goal.returns-in-10-clause-unread

@@ -6,5 +6,5 @@ pub returns-clause-done : goal.returns-clause-done
 returns-clause-done g c = (
   Set c.in_ok-now.now.0 c.in_ok-now.path c.in_ok-now.format c.in_ok-now.body.now,
   ap (λ (xs : List ℕ). 3 ∷ xs) c.in_ok-now.ensures.ok,
-  record { call = _; handed = refl; step = c.set.ensures.step (c.set_lacked-lacked.ensures c.if-lacked.false) },
+  record { call = _; handed = refl; step = c.set.ensures.step (c.set_lacked-lacked.ensures.there c.if-lacked.false) },
 )
