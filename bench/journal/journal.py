@@ -3,7 +3,7 @@
 import struct
 
 FACTOR, MASK = 0x100_0000_01B3, (1 << 64) - 1
-FEED, TICK, SET, REMOVE, DELAY, PLAIN, BEGUN, WOKE, TURN = range(1, 10)
+FEED, TICK, SET, REMOVE, DELAY, PLAIN, BEGUN, WOKE, TURN, REFUSE, FORGET = range(1, 12)
 FORMAT, LAW = 1, 1
 SILENCE_MS = 47_001
 
@@ -122,6 +122,12 @@ class Reader:
     def text(self):
         return self.take(self.unpack(">I")[0])
 
+    def path(self):
+        return "/".join(self.text().decode() for _ in range(self.take(1)[0]))
+
+    def endpoint(self):
+        return self.take(4), self.unpack(">H")[0]
+
 
 def inputs(data):
     """The inputs of a turn."""
@@ -130,15 +136,23 @@ def inputs(data):
         kind = reader.take(1)[0]
         if kind == FEED:
             now, word = reader.unpack(">QQ")
-            ip, port = reader.take(4), reader.unpack(">H")[0]
-            found.append((FEED, now, (ip, port), reader.text(), word))
+            found.append((FEED, now, reader.endpoint(), reader.text(), word))
         elif kind == TICK:
             found.append((TICK, *reader.unpack(">QQ")))
         elif kind == SET:
             now = reader.unpack(">Q")[0]
             some, form = reader.unpack(">BH")
-            path = "/".join(reader.text().decode() for _ in range(reader.take(1)[0]))
-            found.append((SET, now, path, reader.text(), form if some else -1))
+            found.append((SET, now, reader.path(), reader.text(), form if some else -1))
+        elif kind in (REMOVE, DELAY):
+            number = reader.unpack(">Q")[0]
+            found.append((kind, number, reader.path()))
+        elif kind == PLAIN:
+            found.append((PLAIN, reader.path()))
+        elif kind == REFUSE:
+            code, now, word = reader.unpack(">BQQ")
+            found.append((REFUSE, now, reader.endpoint(), reader.text(), word, code))
+        elif kind == FORGET:
+            found.append((FORGET, reader.endpoint()))
         else:
             raise ValueError(kind)
     return found
