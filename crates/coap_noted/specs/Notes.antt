@@ -57,6 +57,10 @@ abbrev pub begun_anew : Option Note → Option Note
 begun_anew None = None
 begun_anew (Some n) = Some (record { moment = n.moment; taken = 0; inputs = [] })
 
+-- a tick does something by this moment
+abbrev pub IsDue : ℕ → State → Type 0
+IsDue now s = (at : ℕ) × (latest s ≤ at) × (at ≤ now) × TicksDo true s at
+
 -- no tick does anything up to this moment
 abbrev pub IsNotDue : ℕ → State → Type 0
 IsNotDue now s = (at : ℕ) → at < 2 ^ 64 → max (latest s) at ≤ now → TicksDo false s at

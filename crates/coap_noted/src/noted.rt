@@ -12,7 +12,8 @@ ghost use Rattle.coap_server.specs.Object.Shown.{state_of};
 ghost use Rattle.coap_server.specs.Trace.{Feeds, Handling, NextOut, Ticks};
 ghost use Rattle.coap_server.specs.Turns.Idle.{IsIdle, moment};
 ghost use Rattle.coap_journal.specs.Input.{Feed, Tick};
-ghost use Rattle.coap_noted.specs.Notes.{IsNotDue, IsUntold, begun_anew, given_with, noted_with, told_in, with_input};
+ghost use Rattle.coap_noted.specs.Notes.{IsDue, IsNotDue, IsUntold, begun_anew, given_with, noted_with, told_in};
+ghost use Rattle.coap_noted.specs.Notes.{with_input};
 
 use crate::notes::{MAX_INPUT_LEN, Notes, reserve};
 use coap_journal::{feed_bytes, tick_bytes};
@@ -79,6 +80,9 @@ impl<S: Store<A>, A: Allocator + Copy, H: BuildHasher> Noted<S, A, H> {
             × (done : below.Answer) × (room : Bool) × (due : Due) × (passed : ℕ) × (h : Handling) × (id : ℕ)
             × Step (state_of S.content self.old.server) (Ticks now.0 word done room due passed h id did)
             (state_of S.content self.new.server))) }
+        // A tick is noted only if one is due by that moment.
+        ensures due { IfOk result (λ _. (self.new.notes ≡ self.old.notes)
+            ⊎ IsDue now.0 (state_of S.content self.old.server)) }
         // A tick that is refused memory is in no note, and leaves the server as it was.
         ensures err { OnErr result (self.new ≡ self.old) }
         // Where no notes are kept, and nothing is to be sent, a tick takes no memory.
@@ -184,7 +188,8 @@ fn rests<S: Store<A>, A: Allocator + Copy, H: BuildHasher>(
     server: &Server<S, A, H>,
     now: Moment,
 ) -> bool
-    ensures { result ≡ true → IsNotDue now.0 (state_of S.content server.now) }
+    ensures rests { result ≡ true → IsNotDue now.0 (state_of S.content server.now) }
+    ensures due { result ≡ false → IsDue now.0 (state_of S.content server.now) }
 {
     match server.due() {
         Some(at) => {
@@ -209,6 +214,7 @@ fn tick_noted<S: Store<A>, A: Allocator + Copy, H: BuildHasher>(
         × (done : below.Answer) × (room : Bool) × (due : Due) × (passed : ℕ) × (h : Handling) × (id : ℕ)
         × Step (state_of S.content server.old) (Ticks now.0 word done room due passed h id did)
         (state_of S.content server.new))) }
+    ensures due { IfOk result (λ _. (notes.new ≡ notes.old) ⊎ IsDue now.0 (state_of S.content server.old)) }
     ensures same { OnErr result (server.new ≡ server.old) }
     ensures err { OnErr result (notes.new ≡ notes.old) }
 {

@@ -11,6 +11,8 @@ use std::marker::Model;
 /// The longest datagram or body that is noted, in bytes.
 pub const MAX_INPUT_LEN: usize = 1 << 24;
 
+const _: () = prove!(MAX_INPUT_LEN == 16_777_216);
+
 /// What a server took since that was asked last: the bytes of its inputs, how many datagrams it gave out
 /// before them, and the latest moment that was handed in.
 #[derive(Drop)]

@@ -1,17 +1,18 @@
 //! How the file of a journal begins.
-ghost use Rattle.std.specs.Prelude.{◌≡◌, ◌≢◌, ◌≤◌, ◌<◌, ◌^◌, ◌+◌, ◌++◌, ◌∷◌, ℕ, List, [], length, Err, IfOk};
+ghost use Rattle.std.specs.Prelude.{◌≡◌, ◌≢◌, ◌≤◌, ◌<◌, ◌^◌, ◌+◌, ◌++◌, ◌∷◌, ℕ, List, [], length, IfErr, IfOk};
 ghost use Rattle.coap_journal.specs.Frames.{BeginsFrame, IsDamage, frame};
 ghost use Rattle.coap_journal.specs.Numbers.{short};
 ghost use Rattle.coap_journal.specs.Records.{Begun, record_bytes};
 ghost use Rattle.coap_journal.specs.Whole.{IsWholeTo};
-ghost use Rattle.coap_noted.specs.Opening.{IsDamagedAt, IsOpened};
-ghost use Rattle.coap_noted.specs.declared.opening.OpenError.TheVariants as refusals;
+ghost use Rattle.coap_noted.specs.Opening.{IsOpened, IsUnopened};
 
 use coap_journal::{BeginError, Beginning, Life, Whole, read_begun, read_frame, scan};
 use thiserror::Error;
 
 // No file of a journal has so many bytes.
 const FILE_END: usize = 1 << 62;
+
+const _: () = prove!(FILE_END == 4_611_686_018_427_387_904);
 
 /// How a journal begins, and the frames that follow.
 #[derive(Clone, Copy, Debug, PartialEq, Eq)]
@@ -56,10 +57,9 @@ pub fn open(file: &[u8]) -> Result<Opened<'_>, OpenError>
     ensures opened { IfOk result (λ o. IsOpened file.now o.beginning o.first o.place o.further.now o.end o.torn) }
     // The place and the frames that follow are those of a file that a disk can hold.
     ensures room { IfOk result (λ o. o.place + length o.further.now < 2 ^ 63) }
-    // Damage is answered only where it follows the whole frames, at the place where these end.
-    ensures damaged { (at : ℕ) → result ≡ Err (refusals.Damaged at) → IsDamagedAt file.now at }
-    // That a journal isn't begun is answered only where no frame begins with it.
-    ensures bare { result ≡ Err refusals.NotBegun → BeginsFrame 0 file.now → ⊥ }
+    // Why a journal isn't opened: damage follows the whole frames, at the place where these end; no frame begins with it;
+    // or its first frame names the other format or law, or spells no beginning.
+    ensures err { IfErr result (IsUnopened file.now) }
 {
     if file.len() >= FILE_END {
         return Err(OpenError::Unreadable);
@@ -76,8 +76,7 @@ fn open_whole(file: &[u8], whole: Whole) -> Result<Opened<'_>, OpenError>
         × (whole.torn ≡ length tail) × (IsDamage whole.end tail → ⊥) }
     ensures opened { IfOk result (λ o. IsOpened file.now o.beginning o.first o.place o.further.now o.end o.torn) }
     ensures place { IfOk result (λ o. o.place + length o.further.now ≤ length file.now) }
-    ensures damaged { (at : ℕ) → result ≡ Err (refusals.Damaged at) → ⊥ }
-    ensures bare { result ≡ Err refusals.NotBegun → BeginsFrame 0 file.now → ⊥ }
+    ensures err { IfErr result (IsUnopened file.now) }
 {
     if whole.frames == 0 {
         return Err(OpenError::NotBegun);

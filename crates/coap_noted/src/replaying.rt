@@ -5,9 +5,9 @@ ghost use Rattle.coap_server.specs.Object.Shown.{state_of};
 ghost use Rattle.coap_journal.specs.Frames.{frames};
 ghost use Rattle.coap_journal.specs.Records.{Record};
 ghost use Rattle.coap_replay.specs.Doing.{bodies};
-ghost use Rattle.coap_replay.specs.Refusing.{IsOfOther, StopsAt};
+ghost use Rattle.coap_replay.specs.Refusing.{IsOfOther, IsUnreplayed, StopsAt};
 ghost use Rattle.coap_replay.specs.Replaying.{Replays, last_life, latest_moment};
-ghost use Rattle.coap_replay.specs.declared.replay.ReplayError.TheVariants.{OtherServer};
+ghost use Rattle.coap_replay.specs.declared.replay.ReplayError.TheVariants.{OtherServer, Unreadable};
 
 use crate::noted::Noted;
 use crate::notes::Notes;
@@ -32,6 +32,8 @@ fn replay_whole<S: Store<A>, A: Allocator + Copy, H: BuildHasher>(
         × (done.latest.0 ≡ latest_moment opened.now.first.moment.0 records)) }
     ensures other { IfErr result (λ why. why ≡ OtherServer
         → StopsAt IsOfOther opened.now.place (state_of S.content server.old) opened.now.further.now) }
+    ensures unread { IfErr result (λ why. why ≡ Unreadable
+        → IsUnreplayed opened.now.place (state_of S.content server.old) opened.now.further.now) }
 {
     let (done, rest) = replay_frames(server, alloc, opened.place, opened.further, opened.first)?;
     if rest.is_empty() {
@@ -62,6 +64,9 @@ pub fn replay<S: Store<A>, A: Allocator + Copy, H: BuildHasher + Drop>(
     // than the server has.
     ensures other { IfErr result (λ why. why ≡ OtherServer
         → StopsAt IsOfOther opened.now.place (state_of S.content server) opened.now.further.now) }
+    // A journal is unreadable only where a frame follows that the server can't read, or not all of it is whole frames.
+    ensures unreadable { IfErr result (λ why. why ≡ Unreadable
+        → IsUnreplayed opened.now.place (state_of S.content server) opened.now.further.now) }
 {
     let mut server = server;
     match replay_whole(&mut server, alloc, opened) {
