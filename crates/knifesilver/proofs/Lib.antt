@@ -6,6 +6,7 @@ pub mod Either
 pub mod Forgotten
 pub mod HandleValues
 pub mod NeverBoth
+pub mod NotReplayed
 pub mod ReleasedValues
 pub mod SameKeys
 pub mod Walking

@@ -1,10 +1,11 @@
 -- The journal of a server, as C hands it in and is handed it.
-use Rattle.std.specs.Prelude.{◌≡◌, ◌≤◌, ◌<◌, ◌⊎◌, ◌+◌, ◌^◌, ℕ, ℤ, pos, ⊤, Option, Some, None, List, [], ◌∷◌, ◌++◌}
+use Rattle.std.specs.Prelude.{◌≡◌, ◌≢◌, ◌≤◌, ◌<◌, ◌⊎◌, ◌+◌, ◌^◌, ℕ, ℤ, pos, ⊤, Option, Some, None, List, [], ◌∷◌, ◌++◌}
 use Rattle.std.specs.Prelude.{length, take}
 use Rattle.coap_types.specs.declared.body_limit.TheConstants.{DEFAULT_BODY_LIMIT as default_limit}
 use Rattle.coap_types.specs.declared.remembered.TheConstants.{DEFAULT_REMEMBERED as default_remembered}
 use Rattle.coap_layer.specs.Trace.{Packet}
 use Rattle.coap_layer.specs.declared.setup.Setup.{Setup}
+use Rattle.coap_resource.specs.Base.{IsBase}
 use Rattle.coap_resource.specs.Limits.{Limits}
 use Rattle.coap_resource.specs.declared.tally.TheConstants.{MAX_CHANGES_PER_WINDOW as max_changes}
 use Rattle.coap_server.specs.Led.{Led, State}
@@ -13,8 +14,10 @@ use Rattle.coap_journal.specs.Records.{Begun, Record, record_bytes}
 use Rattle.coap_journal.specs.declared.beginning.Beginning.{Beginning}
 use Rattle.coap_journal.specs.declared.beginning.Life.{Life}
 use Rattle.coap_replay.specs.Doing.{bodies}
+use Rattle.coap_replay.specs.Refusing.{IsUnreadable, StopsAt}
 use Rattle.coap_replay.specs.Replaying.{Replays, last_life, latest_moment}
 use Rattle.coap_noted.specs.Notes.{Note, told_in}
+use Rattle.coap_noted.specs.Opening.{IsOpened, IsUnopened}
 use Rattle.coap_noted.specs.declared.opening.OpenError.{OpenError}
 use Rattle.coap_noted.specs.declared.opening.OpenError.TheVariants as refusals
 use Rattle.knifesilver.specs.declared.config.KsConfig.{KsConfig}
@@ -51,6 +54,11 @@ opening_number refusals.NotBegun = 146
 opening_number (refusals.OtherFormat format) = 147
 opening_number (refusals.OtherLaw law) = 148
 opening_number refusals.Unreadable = 149
+
+-- .. of none that is opened
+abbrev pub IsNoOpening : ℤ → Type 0
+IsNoOpening answer =
+    (answer ≢ pos 0) × (answer ≢ pos 145) × (answer ≢ pos 146) × (answer ≢ pos 147) × (answer ≢ pos 148)
 
 -- the server that begins so, by its limits and by its setup
 abbrev pub limits_of : Beginning → Limits
@@ -90,6 +98,41 @@ pub record IsReplayed (file : List ℕ) (told : KsReplayed) (held : Option Held)
   pub life_is : life_of told.life ≡ last_life first records
   pub moment_is : told.moment ≡ latest_moment first.moment.0 records
   pub notes_are : notes_in held ≡ Some (record { moment = told.moment; taken = 0; inputs = [] })
+
+-- A file is opened, and its server, which began so, stops at one of the frames behind the first one for this.
+pub record StopsReplay (Refused : State → List ℕ → Type 0) (file : List ℕ) : Type 0 where
+  pub beginning : Beginning
+  pub first : Life
+  pub place : ℕ
+  pub further : List ℕ
+  pub end : ℕ
+  pub torn : ℕ
+  pub opened : IsOpened file beginning first place further end torn
+  pub start : State
+  pub fresh : Led (limits_of beginning) beginning.configuration.szx (setup_of beginning) [] start
+  pub stops : StopsAt Refused place start further
+
+-- no server begins so: after no base, or with no number of changes that a window can take
+abbrev pub IsNoServers : Beginning → Type 0
+IsNoServers b = (IsBase b.base → ⊥) ⊎ ((1 ≤ b.configuration.changes) × (b.configuration.changes ≤ max_changes) → ⊥)
+
+-- A file is opened, and no server begins as it says.
+pub record BeginsNoServer (file : List ℕ) : Type 0 where
+  pub beginning : Beginning
+  pub first : Life
+  pub place : ℕ
+  pub further : List ℕ
+  pub end : ℕ
+  pub torn : ℕ
+  pub opened : IsOpened file beginning first place further end torn
+  pub none : IsNoServers beginning
+
+-- Why a journal is unreadable: its first frame spells no beginning, or none that a server has; or a frame behind that
+-- holds nothing that the server can do.
+pub data IsUnreadableFile (file : List ℕ) : Type 0 where
+  unopened : IsUnopened file refusals.Unreadable → IsUnreadableFile file
+  no_server : BeginsNoServer file → IsUnreadableFile file
+  stopped : StopsReplay IsUnreadable file → IsUnreadableFile file
 
 -- what was taken is told: nothing, and the answer is 0; or the answer is 1, and the turn stands at the front of the room
 abbrev pub NotedAnswers : ℤ → (room : List ℕ) (len : ℕ) → Option (List ℕ) → Type 0

@@ -1,6 +1,6 @@
 //! A server that is replayed from its journal, and what it took since.
-ghost use Rattle.std.specs.Prelude.{◌≡◌, ◌≢◌, ◌⊎◌, ◌<◌, ◌+◌, ◌^◌, List, [], pos, length, Some, IfErr, IfOk};
-ghost use Rattle.std.specs.Prelude.{IfSome};
+ghost use Rattle.std.specs.Prelude.{◌≡◌, ◌≢◌, ◌⊎◌, ◌<◌, ◌+◌, ◌^◌, ◌↔◌, ℕ, List, [], pos, length, Some, IfErr};
+ghost use Rattle.std.specs.Prelude.{IfNone, IfOk, IfSome};
 ghost use Rattle.coap_layer.specs.Trace.{Packet};
 ghost use Rattle.coap_resource.specs.Entries.{content_of};
 ghost use Rattle.coap_server.specs.Led.{Led, State};
@@ -8,13 +8,15 @@ ghost use Rattle.coap_server.specs.Object.Shown.{state_of};
 ghost use Rattle.coap_journal.specs.Frames.{BeginsFrame, frames};
 ghost use Rattle.coap_journal.specs.Records.{Record};
 ghost use Rattle.coap_replay.specs.Doing.{bodies};
+ghost use Rattle.coap_replay.specs.Refusing.{IsOfOther, IsUnreplayed, StopsAt};
 ghost use Rattle.coap_replay.specs.Replaying.{Replays, last_life, latest_moment};
 ghost use Rattle.coap_noted.specs.Notes.{begun_anew, told_in};
-ghost use Rattle.coap_noted.specs.Opening.{IsDamagedAt};
+ghost use Rattle.coap_noted.specs.Opening.{IsDamagedAt, IsUnopened};
 ghost use Rattle.coap_noted.specs.declared.opening.OpenError.TheVariants as refusals;
 ghost use Rattle.coap_replay.specs.declared.replay.ReplayError.TheVariants as replay;
 ghost use Rattle.knifesilver.specs.Answers.{IsAnswered, IsRefused, IsUsual};
-ghost use Rattle.knifesilver.specs.Journals.{HoldSameServer, IsReplayed, IsTurnLong, NotedAnswers};
+ghost use Rattle.knifesilver.specs.Journals.{HoldSameServer, IsNoOpening, IsNoServers, IsReplayed, IsTurnLong};
+ghost use Rattle.knifesilver.specs.Journals.{IsUnreadableFile, NotedAnswers, StopsReplay};
 ghost use Rattle.knifesilver.specs.Journals.{life_of, limits_of, opening_number, setup_of};
 ghost use Rattle.knifesilver.specs.ServerHeld.{HoldsServer, IsServer, notes_in};
 
@@ -51,8 +53,9 @@ pub struct KsReplayed {
 
 // The server of a beginning, to which nothing has happened; None where no server begins so.
 fn begun_server(alloc: Global, beginning: &Beginning) -> Option<MapServer>
-    ensures { IfSome result (λ server. Led (limits_of beginning.now) beginning.now.configuration.szx
+    ensures begins { IfSome result (λ server. Led (limits_of beginning.now) beginning.now.configuration.szx
         (setup_of beginning.now) [] (state_of content_of server)) }
+    ensures none { IfNone result (IsNoServers beginning.now) }
 {
     let configuration = beginning.configuration;
     let Some(base) = VersionBase::new(beginning.base) else {
@@ -76,7 +79,6 @@ fn begun_server(alloc: Global, beginning: &Beginning) -> Option<MapServer>
 // What a journal answers that isn't opened, and where the frames before the damage end.
 fn unopened(why: OpenError, told: &mut KsReplayed) -> i32
     ensures damaged { result ≡ pos 145 → why ≡ refusals.Damaged told.new.end }
-    ensures bare { result ≡ pos 146 → why ≡ refusals.NotBegun }
     ensures number { result ≡ pos (opening_number why) }
     ensures answered { IsRefused result → ⊥ }
     ensures more { result ≢ pos 0 }
@@ -97,11 +99,9 @@ fn unopened(why: OpenError, told: &mut KsReplayed) -> i32
 fn unreplayed(why: ReplayError) -> i32
     ensures memory { IsRefused result → result ≡ NO_MEMORY }
     ensures none { why ≡ replay.Memory → result ≡ NO_MEMORY }
-    ensures unreadable { why ≡ replay.Unreadable → result ≡ pos 149 }
-    ensures other { why ≡ replay.OtherServer → result ≡ pos 150 }
-    ensures more { result ≢ pos 0 }
-    ensures damaged { result ≢ pos 145 }
-    ensures bare { result ≢ pos 146 }
+    ensures unreadable { (why ≡ replay.Unreadable) ↔ (result ≡ pos 149) }
+    ensures other { (why ≡ replay.OtherServer) ↔ (result ≡ pos 150) }
+    ensures more { IsNoOpening result }
 {
     match why {
         ReplayError::Memory => NO_MEMORY,
@@ -121,7 +121,13 @@ fn replayed(alloc: Global, opened: &Opened<'_>, told: &mut KsReplayed) -> Result
         × (told.new.moment ≡ latest_moment opened.now.first.moment.0 records)) }
     ensures notes { IfOk result (λ s. s.notes ≡ Some (record { moment = told.new.moment; taken = 0; inputs = [] })) }
     ensures end { IfOk result (λ _. (told.new.end ≡ opened.now.end) × (told.new.torn ≡ opened.now.torn)) }
-    ensures more { IfErr result (λ answer. (answer ≢ pos 0) × (answer ≢ pos 145) × (answer ≢ pos 146)) }
+    ensures unread { IfErr result (λ answer. answer ≡ pos 149 → IsNoServers opened.now.beginning
+        ⊎ ((start : State) × Led (limits_of opened.now.beginning) opened.now.beginning.configuration.szx
+        (setup_of opened.now.beginning) [] start × IsUnreplayed opened.now.place start opened.now.further.now)) }
+    ensures other { IfErr result (λ answer. answer ≡ pos 150 → (start : State)
+        × Led (limits_of opened.now.beginning) opened.now.beginning.configuration.szx (setup_of opened.now.beginning) []
+        start × StopsAt IsOfOther opened.now.place start opened.now.further.now) }
+    ensures more { IfErr result IsNoOpening }
     ensures memory { IfErr result (λ answer. IsRefused answer → answer ≡ NO_MEMORY) }
 {
     let Some(server) = begun_server(alloc, &opened.beginning) else {
@@ -158,6 +164,14 @@ pub extern "C" fn ks_server_replay(
     ensures damaged { result ≡ pos 145 → IsDamagedAt file.now told.new.end }
     // That a journal isn't begun is answered only where no frame begins with the file.
     ensures bare { result ≡ pos 146 → BeginsFrame 0 file.now → ⊥ }
+    // A journal is of another format or another law only where its first frame names that.
+    ensures format { result ≡ pos 147 → (n : ℕ) × IsUnopened file.now (refusals.OtherFormat n) }
+    ensures law { result ≡ pos 148 → (n : ℕ) × IsUnopened file.now (refusals.OtherLaw n) }
+    // It is unreadable only where its first frame spells no beginning, or none that a server has, or a frame behind
+    // that holds nothing that the server can do.
+    ensures unreadable { result ≡ pos 149 → IsUnreadableFile file.now }
+    // It is of another server only where that stops at a turn before which more datagrams were taken than it has.
+    ensures other { result ≡ pos 150 → StopsReplay IsOfOther file.now }
     // A replay is refused below 0 for want of memory, and for nothing else.
     ensures why { IsRefused result → result ≡ NO_MEMORY }
 {
