@@ -5,10 +5,10 @@ use Rattle.coap_journal.specs.Frames.{frame}
 use Rattle.coap_journal.specs.Records.{Woke, record_bytes}
 use Rattle.coap_journal.specs.Waking.{IsSameBoot, same_boot_moment}
 use Rattle.coap_journal.specs.declared.beginning.Beginning.{Beginning}
-use Rattle.coap_journal.specs.declared.beginning.Boot.{Boot}
 use Rattle.coap_journal.specs.declared.beginning.Life.{Life}
 use Rattle.coap_journal.specs.declared.waking.TheConstants.{SILENCE_MS as silence}
 use Rattle.coap_journaled.specs.Journal.{Journal}
+use Rattle.coap_kept.specs.Machines.{life_on}
 use Rattle.coap_kept.specs.Renewal.{IsRenewedFrom}
 use Rattle.coap_kept.specs.Revival.{IsRevived}
 use Rattle.coap_kept.specs.WholeFile.{IsMadeWhole}
@@ -18,17 +18,28 @@ use Rattle.coap_kept.specs.declared.machine.Machine.{Machine}
 use Rattle.coap_kept.specs.declared.renewal.TheConstants.{RENEWAL_SILENCE_MS as renewal_silence}
 use Rattle.coap_replay.specs.declared.replay.Replayed.{Replayed}
 
--- by the machine on which it goes on this is the first moment of a server that had this life and this latest moment; in
--- another boot it was silent before
-abbrev pub GoesOnAt : Life → ℕ → ℕ → ℕ → Type 0
-GoesOnAt life latest silent first = (boot : Boot) × (uptime : ℕ)
-    × (IsSameBoot life boot uptime → first ≡ same_boot_moment life latest uptime)
-    × ((IsSameBoot life boot uptime → ⊥) → (first ≡ min (latest + silence) (2 ^ 64 - 1)) × (silence ≤ silent))
+-- A server that had this life and this latest moment goes on, by the machine that it asks for first. In the same boot
+-- it goes on at once, on that machine. In another boot it was silent before, and the silence alone is counted.
+pub record GoesOnAt (life : Life) (latest : ℕ) (asked : Machine) (silent first : ℕ) (awake : Machine) : Type 0 where
+  pub same : IsSameBoot life asked.boot asked.uptime
+      → (first ≡ same_boot_moment life latest asked.uptime) × (awake ≡ asked)
+  pub other : (IsSameBoot life asked.boot asked.uptime → ⊥)
+      → (first ≡ min (latest + silence) (2 ^ 64 - 1)) × (silence ≤ silent)
 
--- the frame of a further life, which begins at this moment, follows the bytes
-abbrev pub IsAwake : List ℕ → ℕ → List ℕ → Type 0
-IsAwake old first new = (life : Life) × (life.moment.0 ≡ first)
-    × (new ≡ old ++ frame (length old) (record_bytes (Woke life)))
+-- .. on the machine that it asks for again, in another boot (`names` is which machine is named, and what names it
+-- before and after)
+pub record IsWaitedFor {N : Type 0} (names : N → Machine → N → Type 0) (old : N) (life : Life)
+    (latest silent first : ℕ) (awake : Machine) (new : N) : Type 0 where
+  pub asked : Machine
+  pub between : N
+  pub asks : names old asked between
+  pub once : IsSameBoot life asked.boot asked.uptime → new ≡ between
+  pub again : (IsSameBoot life asked.boot asked.uptime → ⊥) → names between awake new
+  pub goes_on : GoesOnAt life latest asked silent first awake
+
+-- the frame of a further life on this machine, which begins at this moment, follows the bytes
+abbrev pub IsAwake : List ℕ → Machine → ℕ → List ℕ → Type 0
+IsAwake old machine first new = new ≡ old ++ frame (length old) (record_bytes (Woke (life_on machine first)))
 
 -- the journal is the one that was there; or, where its server is begun anew, that was silent, and then its journal was
 -- made for the server of the one that was there
@@ -50,8 +61,10 @@ pub record IsAwoken (keeping : Keeping) (silent : Silences) (first : ℕ) (there
   pub before : List ℕ
   pub replayed : Replayed
   pub made : IsMade keeping silent.renewal there before replayed s
-  pub goes_on : GoesOnAt replayed.life replayed.latest.0 silent.boot first
-  pub awake : IsAwake before first bytes
+  pub asked : Machine
+  pub machine : Machine
+  pub goes_on : GoesOnAt replayed.life replayed.latest.0 asked silent.boot first machine
+  pub awake : IsAwake before machine first bytes
 
 -- .. from what was found in its file, which was made whole on a machine
 pub record IsAlive (keeping : Keeping) (silent : Silences) (first : ℕ) (bytes : List ℕ) (s : State) : Type 0 where

@@ -2,18 +2,14 @@
 use Rattle.std.specs.Prelude.{◌≡◌, ◌⊎◌, ◌++◌, ◌∷◌, ℕ, false, List, length, nat_le, nat_lt, take, if◌then◌else◌}
 use Rattle.coap_journal.specs.Frames.{frame}
 use Rattle.coap_journal.specs.Numbers.{number}
-use Rattle.coap_journal.specs.declared.beginning.Life.{Life}
 use Rattle.coap_journal.specs.declared.wholeness.Whole.{Whole}
 use Rattle.coap_journal_file.specs.Judging.{IsBegun, IsTornBeginning, IsWhole}
 use Rattle.coap_journal_file.specs.Wishes.{AgreesOn, IsWishedSetup}
 use Rattle.coap_journal_file.specs.declared.judging.Began.{Began}
+use Rattle.coap_kept.specs.Machines.{first_life}
 use Rattle.coap_kept.specs.Renewal.{first_bytes}
 use Rattle.coap_kept.specs.declared.keep_words.Keeping.{Keeping}
 use Rattle.coap_kept.specs.declared.machine.Machine.{Machine}
-
--- the first life of a server that begins on this machine
-abbrev pub first_life : Machine → Life
-first_life machine = record { boot = machine.boot; uptime = machine.uptime; moment = record { 0 = 0 } }
 
 -- a server began so, as the words say; one that isn't begun anew took the inputs first that they say
 abbrev pub IsAgreed : Keeping → Began → Type 0

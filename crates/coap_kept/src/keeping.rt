@@ -4,12 +4,13 @@ ghost use Rattle.coap_resource.specs.Entries.{content_of};
 ghost use Rattle.coap_server.specs.Object.Shown.{state_of};
 ghost use Rattle.coap_journaled.specs.Journal.{shown};
 ghost use Rattle.coap_kept.specs.Kept.{IsAwoken, IsKept, IsMade};
-ghost use Rattle.coap_kept.specs.Silence.{IsSilent};
+ghost use Rattle.coap_kept.specs.Silence.{AreTimed, IsSilent, PassesIfAny};
 
 use crate::counts::{Counts, tell_counts};
 use crate::disk_file::DiskFile;
 use crate::keep_error::KeepError;
 use crate::keep_words::Keeping;
+use crate::machine::HostMachine;
 use crate::put_away::put_away;
 use crate::renewal::{Renewed, renew};
 use crate::revival::{Revived, revive};
@@ -75,6 +76,7 @@ where
     ensures made { IfOk result (λ m. IsMade keeping.now m.silent journal.old.bytes.items journal.new.bytes.items
         m.revived.replayed (state_of content_of m.revived.server)) }
     ensures silent { IfOk result (λ m. IsSilent L.receives link.old link.new) }
+    ensures timed { IfOk result (λ m. PassesIfAny T.tells clock.old m.silent clock.new) }
 {
     let (first, second) = hashers;
     let old = revive(rt.alloc(), journal.bytes.as_slice(), &keeping.wishes, first)?;
@@ -118,10 +120,20 @@ where
     ensures alive { IfOk result (λ a. IsAwoken keeping.now a.2 a.1.0 journal.old.bytes.items journal.new.bytes.items
         (state_of content_of a.0)) }
     ensures silent { IfOk result (λ a. IsSilent L.receives link.old link.new) }
+    ensures timed { IfOk result (λ a. AreTimed T.tells clock.old a.2 clock.new) }
 {
     let made = replayed_or_renewed(rt, journal, keeping, counts, link, clock, told, hashers)?;
     let Renewed { revived, silent } = made;
-    match wake(rt, journal, revived.replayed, link, clock, told) {
+    let mut machines = HostMachine { rt };
+    match wake(
+        rt.alloc(),
+        &mut machines,
+        journal,
+        revived.replayed,
+        link,
+        clock,
+        told,
+    ) {
         Ok((first, boot)) => {
             let silences = Silences {
                 renewal: silent,
@@ -161,6 +173,9 @@ where
         (shown (state_of content_of) kept.journaled)) }
     // Until a server is kept nothing is sent, and what comes is dropped.
     ensures silent { IfOk result (λ kept. IsSilent L.receives link.old link.new) }
+    // The silences of a server that is kept are those that passed by its clock: one before it was begun anew, and one
+    // since its machine has another boot.
+    ensures timed { IfOk result (λ kept. AreTimed T.tells clock.old kept.silent clock.new) }
 {
     let mut told = told;
     let (journal, counts) = ready(rt, keeping)?;

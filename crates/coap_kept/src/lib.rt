@@ -29,7 +29,7 @@ pub use keeping::{KeptServer, Silences, keep};
 pub use kept::Kept;
 pub use kept_time::KeptTime;
 pub use laws::kept_law;
-pub use machine::{Machine, machine_now};
+pub use machine::{Host, Machine, machine_now};
 pub use renewal::RENEWAL_SILENCE_MS;
 pub use revival::{RevivalError, Revived, revive};
 pub use silence::be_silent;

@@ -5,7 +5,7 @@ ghost use Rattle.coap_server.specs.Object.Shown.{state_of};
 ghost use Rattle.coap_kept.specs.Holding.{HoldsTheSame};
 ghost use Rattle.coap_kept.specs.Renewal.{IsBegunAnew, IsRenewedFrom, begun_anew};
 ghost use Rattle.coap_kept.specs.Revival.{IsRevived};
-ghost use Rattle.coap_kept.specs.Silence.{IsSilent};
+ghost use Rattle.coap_kept.specs.Silence.{IsSilent, Passes};
 
 use crate::held_paths::{held_paths, hold_the_same};
 use crate::keep_error::KeepError;
@@ -184,6 +184,7 @@ where
         journal.new.bytes.items new.revived.beginning new.revived.replayed (state_of content_of new.revived.server)) }
     ensures silent { IfOk result (λ new. IsSilent L.receives link.old link.new) }
     ensures long { IfOk result (λ new. RENEWAL_SILENCE_MS ≤ new.silent) }
+    ensures timed { IfOk result (λ new. Passes T.tells clock.old new.silent clock.new) }
 {
     let name = keeping.name;
     let _ = writeln!(

@@ -1,6 +1,6 @@
 //! The silence of a server before its life begins.
 ghost use Rattle.std.specs.Prelude.{◌≤◌, IfOk};
-ghost use Rattle.coap_kept.specs.Silence.{IsSilent};
+ghost use Rattle.coap_kept.specs.Silence.{IsSilent, Passes};
 
 use coap_links::{Link, MAX_DATAGRAM_LEN, Timekeeper};
 use std::io;
@@ -21,6 +21,8 @@ pub fn be_silent<L: Link, T: Timekeeper>(link: &mut L, time: &mut T, ms: u64) ->
     ensures silent { IfOk result (λ passed. IsSilent L.receives link.old link.new) }
     // A silence is over after so many milliseconds and no earlier.
     ensures long { IfOk result (λ passed. ms ≤ passed) }
+    // What a silence is said to have lasted is what passed between two moments that the clock told in it.
+    ensures timed { IfOk result (λ passed. Passes T.tells time.old passed time.new) }
 {
     let begin = time.now()?;
     // More turns than a program lives.

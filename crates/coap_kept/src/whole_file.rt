@@ -1,9 +1,9 @@
 //! The file of a journal is made whole: a torn frame is cut off, and where no server began in it one begins.
 ghost use Rattle.std.specs.Prelude.{◌≡◌, ◌++◌, ℕ, List, IfNone, IfOk, IfSome, OnOk, take};
 ghost use Rattle.coap_journal_file.specs.Judging.{IsTornBeginning, IsWhole};
+ghost use Rattle.coap_kept.specs.Machines.{first_life};
 ghost use Rattle.coap_kept.specs.Renewal.{first_bytes};
-ghost use Rattle.coap_kept.specs.WholeFile.{IsAgreed, IsBegunAsSaid, IsMadeWhole, completed, cut_off, first_life};
-ghost use Rattle.coap_kept.specs.WholeFile.{with_setup};
+ghost use Rattle.coap_kept.specs.WholeFile.{IsAgreed, IsBegunAsSaid, IsMadeWhole, completed, cut_off, with_setup};
 ghost use Rattle.coap_kept.specs.declared.machine.Machine.{Machine as MachineSpec};
 
 use crate::counts::{Counts, no_counts};

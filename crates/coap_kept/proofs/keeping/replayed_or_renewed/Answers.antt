@@ -1,4 +1,4 @@
-use Rattle.std.proofs.Common.{◌≡◌, IfOk, Bool, Err, Ok, Result, rules, subst, sym, true}
+use Rattle.std.proofs.Common.{◌≡◌, IfOk, Bool, Err, Ok, Result, inr, rules, subst, sym, true}
 use Rattle.coap_resource.specs.Entries.{content_of}
 use Rattle.coap_server.specs.Object.Shown.{state_of}
 use Rattle.coap_kept.specs.Kept.{IsRenewedIf}
@@ -27,3 +27,6 @@ returns-clause-made g c =
           m.revived.replayed (state_of content_of m.revived.server)) (sym renews)
           (old.beginning, old.replayed, _, revived, both.0, both.1);
     }) (both_of _ _ c.renew-new.result c.renew-new.ensures.from c.renew-new.ensures.long)
+
+pub returns-clause-timed : goal.returns-clause-timed
+returns-clause-timed g c = if_ok c.renew-new.result (λ m passes. inr passes) c.renew-new.ensures.timed
