@@ -7,8 +7,10 @@ use Rattle.coap_journal.specs.Records.{Begun, record_bytes}
 use Rattle.coap_journal.specs.declared.beginning.Beginning.{Beginning}
 use Rattle.coap_journal.specs.declared.beginning.Life.{Life}
 use Rattle.coap_kept.specs.Holding.{HoldsTheSame}
+use Rattle.coap_kept.specs.Machines.{first_life}
 use Rattle.coap_kept.specs.Revival.{IsRevived}
 use Rattle.coap_kept.specs.declared.keep_words.Keeping.{Keeping}
+use Rattle.coap_kept.specs.declared.machine.Machine.{Machine}
 use Rattle.coap_replay.specs.declared.replay.Replayed.{Replayed}
 
 -- the first frame of a journal, and one behind it: a turn at the moment 0, before which no datagram was taken, with the
@@ -28,9 +30,10 @@ begun_anew drawn was = record {
   base = drawn.base;
 }
 
--- a journal begins so
+-- a journal begins so, with a first life on a machine
 abbrev pub IsBegunAnew : Beginning → List ℕ → List ℕ → Type 0
-IsBegunAnew beginning setup bytes = (life : Life) × (held : List ℕ) × (bytes ≡ first_bytes beginning life setup ++ held)
+IsBegunAnew beginning setup bytes =
+    (machine : Machine) × (held : List ℕ) × (bytes ≡ first_bytes beginning (first_life machine) setup ++ held)
 
 -- the server of a journal, which was begun anew for one that began so and stood so: it holds what that one held
 pub record IsRenewedFrom (keeping : Keeping) (was : Beginning) (old : State) (bytes : List ℕ) (is : Beginning)
