@@ -2,6 +2,7 @@ pub mod Holding
 pub mod Keeping
 pub mod Kept
 pub mod Machines
+pub mod Refusing
 pub mod Renewal
 pub mod Revival
 pub mod Silence

@@ -1,10 +1,13 @@
 //! A server is made of the bytes of its journal.
-ghost use Rattle.std.specs.Prelude.{◌≡◌, ◌≤◌, ◌-◌, ◌++◌, [], IfOk, IfSome, length};
+ghost use Rattle.std.specs.Prelude.{◌≡◌, ◌≤◌, ◌<◌, ◌+◌, ◌-◌, ◌^◌, ◌++◌, [], IfErr, IfNone, IfOk, IfSome, length};
+ghost use Rattle.coap_resource.specs.Base.{IsBase};
 ghost use Rattle.coap_resource.specs.Entries.{content_of};
 ghost use Rattle.coap_server.specs.Led.{Led};
 ghost use Rattle.coap_server.specs.Object.Shown.{state_of};
 ghost use Rattle.coap_journal.specs.Frames.{frame};
 ghost use Rattle.coap_journal.specs.Records.{Begun, record_bytes};
+ghost use Rattle.coap_journal_file.specs.Judging.{IsUnbegun};
+ghost use Rattle.coap_kept.specs.Refusing.{CanBegin, IsNotDone, IsUnrevived};
 ghost use Rattle.coap_kept.specs.Revival.{IsReplayed, IsRevived, limits_of, setup_of};
 
 use crate::put_away::put_away;
@@ -17,9 +20,6 @@ use coap_resource::{MapStore, Store, VersionBase};
 use std::alloc::Global;
 use std::hash::BuildHasher;
 use thiserror::Error;
-
-// The bytes of a journal are fewer.
-const PLACES_END: usize = 1 << 62;
 
 /// Why no server is made of a journal.
 #[derive(Clone, Copy, Debug, PartialEq, Eq, Error)]
@@ -48,7 +48,8 @@ pub struct Revived<H: BuildHasher + Drop> {
 
 // The first frame of a journal: how its server began, and its first life; and what follows.
 fn beginning_in(bytes: &[u8]) -> Result<(Beginning, Life, &[u8]), BeginError>
-    ensures { IfOk result (λ p. bytes.now ≡ frame 0 (record_bytes (Begun p.0 p.1)) ++ p.2.now) }
+    ensures ok { IfOk result (λ p. bytes.now ≡ frame 0 (record_bytes (Begun p.0 p.1)) ++ p.2.now) }
+    ensures err { IfErr result (IsUnbegun bytes.now) }
 {
     let Some((body, rest)) = read_frame(0, bytes) else {
         return Err(BeginError::Unreadable);
@@ -61,7 +62,8 @@ fn beginning_in(bytes: &[u8]) -> Result<(Beginning, Life, &[u8]), BeginError>
 
 // The version after which versions begin, where it is one.
 fn base_of(base: u64) -> Option<VersionBase>
-    ensures { IfSome result (λ made. made ≡ base) }
+    ensures some { IfSome result (λ made. made ≡ base) }
+    ensures none { IfNone result (IsBase base → ⊥) }
 {
     VersionBase::new(base)
 }
@@ -72,8 +74,9 @@ fn fresh_server<H: BuildHasher + Drop>(
     beginning: &Beginning,
     hasher: H,
 ) -> Option<Server<MapStore, Global, H>>
-    ensures { IfSome result (λ server. Led (limits_of beginning.now) beginning.now.configuration.szx
+    ensures some { IfSome result (λ server. Led (limits_of beginning.now) beginning.now.configuration.szx
         (setup_of beginning.now) [] (state_of content_of server)) }
+    ensures none { IfNone result (CanBegin beginning.now → ⊥) }
 {
     let configuration = beginning.configuration;
     let base = base_of(beginning.base)?;
@@ -93,7 +96,11 @@ pub fn revive<H: BuildHasher + Drop>(
     hasher: H,
 ) -> Result<Revived<H>, RevivalError>
     // The server that is made of a journal began as its first frame says, and then did all that its other frames hold.
-    ensures { IfOk result (λ r. IsRevived bytes.now wishes.now r.beginning r.replayed (state_of content_of r.server)) }
+    ensures revived { IfOk result (λ r. IsRevived bytes.now wishes.now r.beginning r.replayed
+        (state_of content_of r.server)) }
+    // No server is made of a journal only where none began, or none can begin so; where the words say otherwise how it
+    // began; or where it can't do what the other frames hold, but for want of memory.
+    ensures unrevived { IfErr result (IsUnrevived bytes.now wishes.now) }
 {
     let (beginning, life, rest) = match beginning_in(bytes) {
         Ok(begun) => begun,
@@ -111,7 +118,7 @@ pub fn revive<H: BuildHasher + Drop>(
             beginning,
             replayed,
         }),
-        Err(why) => Err(why),
+        Err(why) => Err(RevivalError::Unreplayed(why)),
     }
 }
 
@@ -122,17 +129,19 @@ fn replay_all<H: BuildHasher + Drop>(
     bytes: &[u8],
     rest: &[u8],
     life: Life,
-) -> Result<(Server<MapStore, Global, H>, Replayed), RevivalError>
+) -> Result<(Server<MapStore, Global, H>, Replayed), ReplayError>
     requires rest { length rest.now ≤ length bytes.now }
-    ensures { IfOk result (λ r. IsReplayed (length bytes.now - length rest.now) rest.now life
+    ensures ok { IfOk result (λ r. IsReplayed (length bytes.now - length rest.now) rest.now life
         (state_of content_of server) r.1 (state_of content_of r.0)) }
+    ensures err { IfErr result (IsNotDone (length bytes.now - length rest.now) rest.now
+        (state_of content_of server)) }
 {
     let mut server = server;
     match replay_rest(alloc, &mut server, bytes.len() - rest.len(), rest, life) {
         Ok(replayed) => Ok((server, replayed)),
         Err(why) => {
             put_away(server);
-            Err(RevivalError::Unreplayed(why))
+            Err(why)
         }
     }
 }
@@ -145,12 +154,11 @@ fn replay_rest<H: BuildHasher + Drop>(
     rest: &[u8],
     life: Life,
 ) -> Result<Replayed, ReplayError>
-    ensures { IfOk result (λ replayed. IsReplayed place rest.now life (state_of content_of server.old) replayed
+    requires room { place + length rest.now < 2 ^ 63 }
+    ensures ok { IfOk result (λ replayed. IsReplayed place rest.now life (state_of content_of server.old) replayed
         (state_of content_of server.new)) }
+    ensures err { IfErr result (IsNotDone place rest.now (state_of content_of server.old)) }
 {
-    if place >= PLACES_END || rest.len() >= PLACES_END {
-        return Err(ReplayError::Unreadable);
-    }
     match replay_frames(server, alloc, place as u64, rest, life) {
         Ok((replayed, [])) => Ok(replayed),
         Ok(_) => Err(ReplayError::Unreadable),

@@ -18,7 +18,7 @@ returns-clause-made g c =
     let there = c.args.journal.now.bytes.items in
     let bytes = c.renew-new.new.journal.bytes.items in
     let revived = subst (λ v. IsRevived v keeping.wishes old.beginning old.replayed (state_of content_of old.server))
-    (search rules) c.in_ok-old.ensures in
+    (search rules) c.in_ok-old.ensures.revived in
     let renews : keeping.renews ≡ true = search rules in
     if_ok c.renew-new.result (λ m both. record {
       beginning = m.revived.beginning;

@@ -6,8 +6,8 @@ use Rattle.coap_server.specs.Object.Shown.{state_of}
 use Rattle.coap_kept.specs.Revival.{setup_of}
 use Rattle.coap_kept.proofs.revival.fresh_server.Goals as goal
 
-pub returns : goal.returns
-returns g c =
+pub returns-clause-some : goal.returns-clause-some
+returns-clause-some g c =
     let configuration = c.args.beginning.now.configuration in
     let limits : ℕ → Limits = λ base. record {
       changes = configuration.changes;
@@ -15,5 +15,5 @@ returns g c =
       base = base;
     } in
     subst (λ (base : ℕ). Led (limits base) configuration.szx (setup_of c.args.beginning.now) []
-    (state_of content_of c.with_setup.result)) c.in_ok-base.ensures
+    (state_of content_of c.with_setup.result)) c.in_ok-base.ensures.some
     (c.with_setup.ensures.led (limits c.in_ok-base.base) c.in_ok-store.ensures.empty)
