@@ -1,5 +1,5 @@
 -- Why a server doesn't go on from its journal.
-use Rattle.std.specs.Prelude.{◌≡◌, ◌≤◌, ◌⊎◌, ◌-◌, ◌++◌, ⊤, ℕ, List, [], length}
+use Rattle.std.specs.Prelude.{◌≡◌, ◌≤◌, ◌⊎◌, ◌-◌, ◌++◌, ⊤, ℕ, Bool, true, false, List, [], length}
 use Rattle.coap_resource.specs.Base.{IsBase}
 use Rattle.coap_resource.specs.declared.tally.TheConstants.{MAX_CHANGES_PER_WINDOW as max_changes}
 use Rattle.coap_server.specs.Led.{Led, State}
@@ -8,10 +8,15 @@ use Rattle.coap_journal.specs.Records.{Begun, record_bytes}
 use Rattle.coap_journal.specs.declared.beginning.BeginError.TheVariants as begin
 use Rattle.coap_journal.specs.declared.beginning.Beginning.{Beginning}
 use Rattle.coap_journal.specs.declared.beginning.Life.{Life}
-use Rattle.coap_journal_file.specs.Judging.{IsUnbegun}
-use Rattle.coap_journal_file.specs.Wishes.{AgreesOn, DiffersOn}
+use Rattle.coap_journal_file.specs.Judging.{IsBegun, IsFault, IsUnbegun, IsWhole}
+use Rattle.coap_journal_file.specs.Wishes.{AgreesOn, Differs, DiffersOn}
+use Rattle.coap_journal_file.specs.declared.judging.Began.{Began}
+use Rattle.coap_journal_file.specs.declared.wishes.Differing.{Differing}
 use Rattle.coap_journal_file.specs.declared.wishes.Wishes.{Wishes}
 use Rattle.coap_kept.specs.Revival.{limits_of, setup_of}
+use Rattle.coap_kept.specs.declared.keep_error.KeepError.{KeepError}
+use Rattle.coap_kept.specs.declared.keep_error.KeepError.TheVariants as keep
+use Rattle.coap_kept.specs.declared.keep_words.Keeping.{Keeping}
 use Rattle.coap_kept.specs.declared.revival.RevivalError.{RevivalError}
 use Rattle.coap_kept.specs.declared.revival.RevivalError.TheVariants as revival
 use Rattle.coap_replay.specs.Refusing.{IsOfOther, IsUnreplayed, StopsAt}
@@ -46,3 +51,21 @@ IsUnrevived bytes wishes (revival.Unreplayed why) = (beginning : Beginning) × (
     × BeginsWith bytes beginning rest × AgreesOn wishes beginning
     × Led (limits_of beginning) beginning.configuration.szx (setup_of beginning) [] first
     × IsNotDone (length bytes - length rest) rest first why
+
+-- The words say this otherwise of how a server began. Of the inputs that it took first they say nothing, where it is to
+-- be begun anew.
+abbrev pub IsOtherwise : (renews : Bool) → Wishes → Began → Differing → Type 0
+IsOtherwise false wishes began differing = Differs wishes began differing
+IsOtherwise true wishes began differing = DiffersOn wishes began.beginning differing
+
+-- Why a file is left as it is. It is damaged, or no server began in it; or one began otherwise than the words say.
+abbrev pub IsRefused : Keeping → List ℕ → KeepError → Type 0
+IsRefused keeping bytes (keep.File fault) = IsFault bytes fault
+IsRefused keeping bytes (keep.Differs differing) = (began : Began) × IsBegun bytes began.beginning began.setup
+    × IsWhole bytes began.whole × IsOtherwise keeping.renews keeping.wishes began differing
+IsRefused keeping bytes (keep.Open why) = ⊥
+IsRefused keeping bytes (keep.Frame why) = ⊥
+IsRefused keeping bytes (keep.Revival why) = ⊥
+IsRefused keeping bytes keep.Unheld = ⊥
+IsRefused keeping bytes (keep.Io why) = ⊥
+IsRefused keeping bytes keep.Memory = ⊥

@@ -1,7 +1,8 @@
 //! The file of a journal is made whole: a torn frame is cut off, and where no server began in it one begins.
-ghost use Rattle.std.specs.Prelude.{◌≡◌, ◌++◌, ℕ, List, IfNone, IfOk, IfSome, OnOk, take};
+ghost use Rattle.std.specs.Prelude.{◌≡◌, ◌++◌, ℕ, List, IfErr, IfNone, IfOk, IfSome, OnOk, take};
 ghost use Rattle.coap_journal_file.specs.Judging.{IsTornBeginning, IsWhole};
 ghost use Rattle.coap_kept.specs.Machines.{first_life};
+ghost use Rattle.coap_kept.specs.Refusing.{IsOtherwise, IsRefused};
 ghost use Rattle.coap_kept.specs.Renewal.{first_bytes};
 ghost use Rattle.coap_kept.specs.WholeFile.{IsAgreed, IsBegunAsSaid, IsMadeWhole, completed, cut_off, with_setup};
 ghost use Rattle.coap_kept.specs.declared.machine.Machine.{Machine as MachineSpec};
@@ -26,7 +27,8 @@ use std::rt::Files;
 
 // What a server began with that the words say otherwise. Where it is to be begun anew, it takes another setup then.
 fn differing_in(began: &Began<'_>, keeping: &Keeping<'_>) -> Option<Differing>
-    ensures { IfNone result (IsAgreed keeping.now began.now) }
+    ensures none { IfNone result (IsAgreed keeping.now began.now) }
+    ensures some { IfSome result (IsOtherwise keeping.now.renews keeping.now.wishes began.now) }
 {
     if keeping.renews {
         differing_beginning(&began.beginning, &keeping.wishes)
@@ -40,6 +42,7 @@ fn looked_at(bytes: &[u8], keeping: &Keeping<'_>) -> Result<Option<Whole>, KeepE
     ensures begun { IfOk result (λ looked. IfSome looked (IsWhole bytes.now)) }
     ensures said { IfOk result (λ looked. IfSome looked (IsBegunAsSaid keeping.now bytes.now)) }
     ensures empty { IfOk result (λ looked. IfNone looked (IsTornBeginning bytes.now)) }
+    ensures refused { IfErr result (IsRefused keeping.now bytes.now) }
 {
     match judge(bytes) {
         Ok(Judged::Empty) => Ok(None),
