@@ -1,4 +1,6 @@
 //! The file of a journal on a disk.
+ghost use Rattle.std.specs.Prelude.{IfOk};
+ghost use Rattle.coap_kept.specs.Silence.{Passes};
 
 use coap_journaled::JournalFile;
 use coap_links::Timekeeper;
@@ -34,7 +36,9 @@ fn tell_slow<W: Write>(told: &mut W, ms: u64) {
 }
 
 // Syncs a file, and answers how many milliseconds that took.
-fn sync_timed<F: OpenFile, T: Timekeeper>(file: &F, time: &mut T) -> io::Result<u64> {
+fn sync_timed<F: OpenFile, T: Timekeeper>(file: &F, time: &mut T) -> io::Result<u64>
+    ensures { IfOk result (λ ms. Passes T.tells time.old ms time.new) }
+{
     let begin = time.now()?;
     file.sync_all()?;
     Ok(time.now()?.since(begin))

@@ -17,6 +17,7 @@ mod laws;
 mod machine;
 mod put_away;
 mod renewal;
+mod replacing;
 mod revival;
 mod silence;
 mod waking;

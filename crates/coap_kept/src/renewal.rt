@@ -12,13 +12,14 @@ use crate::keep_error::KeepError;
 use crate::keep_words::Keeping;
 use crate::machine::machine_now;
 use crate::put_away::put_away;
+use crate::replacing::ReplacesJournals;
 use crate::revival::{Revived, revive};
 use crate::silence::be_silent;
 use crate::waking::life_at;
 use crate::whole_file::first_frames;
 use coap_ends::Server;
 use coap_journal::{Beginning, set_bytes};
-use coap_journal_file::{FrameError, OpenJournal, replace_journal, setup_frame};
+use coap_journal_file::{FrameError, OpenJournal, setup_frame};
 use coap_links::{Link, Timekeeper};
 use coap_resource::MapStore;
 use coap_types::transmission::{EXCHANGE_LIFETIME_MS, MAX_LATENCY_MS};
@@ -108,7 +109,7 @@ fn renewed_bytes<R: AllocGlobal + Files + RandomSource, H: BuildHasher + Drop>(
 }
 
 // Has the journal be these bytes, where the server that was made of them holds what the other one does.
-fn put_in_place<R: AllocGlobal + Files<File = File>, H: BuildHasher + Drop>(
+fn put_in_place<R: AllocGlobal + ReplacesJournals, H: BuildHasher + Drop>(
     rt: &R,
     name: &str,
     journal: &mut OpenJournal,
@@ -119,12 +120,13 @@ fn put_in_place<R: AllocGlobal + Files<File = File>, H: BuildHasher + Drop>(
 ) -> Result<(), KeepError>
     ensures same { OnOk result (HoldsTheSame (state_of content_of old.now) (state_of content_of new.now)) }
     ensures bytes { OnOk result (journal.new.bytes.items ≡ bytes.items) }
+    ensures replaced { OnOk result (R.replaces rt.now name.now bytes.items) }
 {
     if !hold_the_same(old, new, paths) {
         return Err(KeepError::Unheld);
     }
     let beside = format!(in rt.alloc(); "{name}.new")?;
-    let file = replace_journal(rt, name, beside.as_str(), bytes.as_slice())?;
+    let file = rt.replace(name, beside.as_str(), bytes.as_slice())?;
     *journal = OpenJournal { file, bytes };
     Ok(())
 }

@@ -1,5 +1,6 @@
 //! The file of a journal is made whole: a torn frame is cut off, and where no server began in it one begins.
 ghost use Rattle.std.specs.Prelude.{◌≡◌, ◌++◌, ℕ, List, IfErr, IfNone, IfOk, IfSome, OnOk, take};
+ghost use Rattle.std.specs.Io.KnownBytes.{Appends};
 ghost use Rattle.coap_journal_file.specs.Judging.{IsTornBeginning, IsWhole};
 ghost use Rattle.coap_kept.specs.Machines.{first_life};
 ghost use Rattle.coap_kept.specs.Refusing.{IsOtherwise, IsRefused};
@@ -54,13 +55,21 @@ fn looked_at(bytes: &[u8], keeping: &Keeping<'_>) -> Result<Option<Whole>, KeepE
     }
 }
 
+// Adds bytes to a file, and to those that are known to stand in it.
+fn add_to<F: Write>(file: &mut F, known: &mut Vec<u8>, bytes: &[u8]) -> Result<(), KeepError>
+    ensures written { OnOk result (Appends (F.contents file.old) (F.contents file.new) bytes.now) }
+    ensures known { OnOk result (known.new.items ≡ known.old.items ++ bytes.now) }
+{
+    known.extend_from_slice(bytes)?;
+    file.write_all(bytes)?;
+    Ok(())
+}
+
 /// Adds bytes to a file, which are to be synced.
 pub(crate) fn add(journal: &mut OpenJournal, bytes: &[u8]) -> Result<(), KeepError>
     ensures { OnOk result (journal.new.bytes.items ≡ journal.old.bytes.items ++ bytes.now) }
 {
-    journal.bytes.extend_from_slice(bytes)?;
-    journal.file.write_all(bytes)?;
-    Ok(())
+    add_to(&mut journal.file, &mut journal.bytes, bytes)
 }
 
 // Cuts a file off at this place.

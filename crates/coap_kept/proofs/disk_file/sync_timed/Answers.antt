@@ -1,0 +1,5 @@
+use Rattle.coap_kept.specs.Silence.{Lasts}
+use Rattle.coap_kept.proofs.disk_file.sync_timed.Goals as goal
+
+pub returns : goal.returns
+returns g c = (_, _, Lasts.on _ _ _ _ (Lasts.begun _ c.in_ok-begin.ensures) c.in_ok-now.ensures, c.since.ensures)
