@@ -7,7 +7,8 @@ use Rattle.coap_journal.specs.declared.beginning.BeginError.TheVariants as begin
 use Rattle.coap_journal.specs.declared.beginning.Beginning.{Beginning}
 use Rattle.coap_journal.specs.declared.beginning.Life.{Life}
 use Rattle.coap_noted.specs.declared.opening.OpenError.{OpenError}
-use Rattle.coap_noted.specs.declared.opening.OpenError.TheVariants.{Damaged, NotBegun, OtherFormat, OtherLaw, Unreadable}
+use Rattle.coap_noted.specs.declared.opening.OpenError.TheVariants.{Damaged, NotBegun, OtherFormat, OtherLaw}
+use Rattle.coap_noted.specs.declared.opening.OpenError.TheVariants.{Unreadable}
 
 -- A file is the frame of a beginning and of a first life, further whole frames up to an end, and a torn rest.
 pub record IsOpened (file : List ℕ) (beginning : Beginning) (first : Life) (place : ℕ) (further : List ℕ)

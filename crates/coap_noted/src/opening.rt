@@ -57,8 +57,8 @@ pub fn open(file: &[u8]) -> Result<Opened<'_>, OpenError>
     ensures opened { IfOk result (λ o. IsOpened file.now o.beginning o.first o.place o.further.now o.end o.torn) }
     // The place and the frames that follow are those of a file that a disk can hold.
     ensures room { IfOk result (λ o. o.place + length o.further.now < 2 ^ 63) }
-    // Why a journal isn't opened: damage follows the whole frames, at the place where these end; no frame begins with it;
-    // or its first frame names the other format or law, or spells no beginning.
+    // Why a journal isn't opened: damage follows the whole frames, at the place where these end; no frame begins with
+    // it; or its first frame names the other format or law, or spells no beginning.
     ensures err { IfErr result (IsUnopened file.now) }
 {
     if file.len() >= FILE_END {

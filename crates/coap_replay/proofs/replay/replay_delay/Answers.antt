@@ -6,5 +6,9 @@ pub returns-clause-done : goal.returns-clause-done
 returns-clause-done g c = (
   Delay c.in_ok-ms.path c.in_ok-ms.ms,
   ap (λ (xs : List ℕ). 5 ∷ xs) c.in_ok-ms.ensures.ok,
-  record { call = _; handed = refl; step = c.set_delay.ensures.step (c.delay_lacked-lacked.ensures.there c.if-lacked.false) },
+  record {
+    call = _;
+    handed = refl;
+    step = c.set_delay.ensures.step (c.delay_lacked-lacked.ensures.there c.if-lacked.false);
+  },
 )
