@@ -1,5 +1,5 @@
 -- One silence after another is a silence.
-use Rattle.std.proofs.Common.{◌≡◌, ◌++◌, List, [], ◌∷◌, Option, refl, subst, sym}
+use Rattle.std.proofs.Common.{◌++◌, List, [], ◌∷◌, Option, refl, subst, sym}
 use Rattle.coap_links.specs.Carried.{Packet}
 use Rattle.coap_kept.specs.Silence.{IsSilent, Receives}
 

@@ -1,5 +1,5 @@
 -- What an end does that commits each input.
-use Rattle.std.specs.Prelude.{◌≡◌, ◌++◌, ◌+◌, ⊤, ℕ, Bool, false, List, [], Option, Some, Result, Ok, Err, length}
+use Rattle.std.specs.Prelude.{◌≡◌, ◌++◌, ℕ, Bool, List, Option, Some, Result, Ok, Err}
 use Rattle.coap_layer.specs.Trace.{Packet}
 use Rattle.coap_journal.specs.Input.{Input}
 use Rattle.coap_journaled.specs.Journal.{Journal}

@@ -1,5 +1,5 @@
 -- A server that is begun anew, with what another one held.
-use Rattle.std.specs.Prelude.{◌≡◌, ◌++◌, ⊤, ℕ, Bool, true, false, List, ◌∷◌, length}
+use Rattle.std.specs.Prelude.{◌≡◌, ◌++◌, ℕ, List, ◌∷◌, length}
 use Rattle.coap_server.specs.Led.{State}
 use Rattle.coap_journal.specs.Frames.{frame}
 use Rattle.coap_journal.specs.Numbers.{number}

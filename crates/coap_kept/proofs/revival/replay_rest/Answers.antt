@@ -1,4 +1,4 @@
-use Rattle.std.proofs.Common.{List, ℕ, ap, arith, inr, length}
+use Rattle.std.proofs.Common.{ℕ, ap, arith, inr, length}
 use Rattle.coap_kept.proofs.revival.replay_rest.Goals as goal
 
 pub returns-in-Ok-clause-err : goal.returns-in-Ok-clause-err
