@@ -2,7 +2,7 @@
 use Rattle.std.proofs.Common.{◌≡◌, ◌⊎◌, ◌≤◌, ◌+◌, ℕ, Bool, false, List, [], ◌∷◌, Some, arith}
 use Rattle.std.proofs.Common.{if◌then◌else◌}
 use Rattle.std.proofs.Common.{ap, inl, inr, refl, subst, sym, ◌∙◌, ◌++◌, ◌<◌, Err, IfOk, Ok, OnOk}
-use Rattle.std.proofs.Common.{Option, Result, get_or, length}
+use Rattle.std.proofs.Common.{IfNone, None, Option, Result, get_or, length}
 use Rattle.std.specs.Io.KnownBytes.{Appends}
 use Rattle.std.proofs.Common.{drop, take}
 use Rattle.std.proofs.lemmas.List.{drop_more, take-append-drop, take_more}
@@ -12,9 +12,11 @@ use Rattle.coap_layer.specs.Trace as layer
 use Rattle.coap_journal.specs.Input.{Feed, Tick}
 use Rattle.coap_journaled.specs.Journal.{IsNoted, IsTaken, Journal, Rests, is_open}
 use Rattle.coap_journaled.specs.Runs.{end_gives}
+use Rattle.coap_journaled.specs.declared.journaled.CommitError.{CommitError}
 use Rattle.coap_kept.specs.Keeping.{IsCommitted}
 use Rattle.coap_kept.proofs.Facts.{same_end}
 use Rattle.coap_links.specs.Carried.{Packet}
+use Rattle.coap_links.specs.Pumping.{SendsAll}
 use Rattle.coap_links.specs.Turning.{Turns}
 use Rattle.coap_links.specs.declared.tally.Tally.{Tally}
 use Rattle.coap_server.specs.Led.{State}
@@ -26,12 +28,12 @@ use Rattle.coap_commands.specs.Kept.{HoldsEach, HoldsMissing, IsGoneOn, IsRefuse
 use Rattle.coap_commands.specs.Kept.{RefusesMissing}
 use Rattle.coap_commands.specs.Printed.{refused_text, served_text}
 use Rattle.coap_commands.specs.Served.{FedFrom}
+use Rattle.coap_commands.specs.Serves.{Serves}
 use Rattle.coap_commands.specs.ToldChanges.{IsToldIf}
 use Rattle.coap_scripts.specs.declared.status.Status.{Status}
 use Rattle.coap_scripts.specs.declared.status.Status.TheVariants as status
 use Rattle.coap_scripts.specs.declared.status.Stop.{Stop}
-use Rattle.coap_commands.proofs.ServedCalls.{FedMost, fed_call, fed_here, fed_less, server_feeds}
-use Rattle.coap_commands.proofs.ServedCalls.{server_gives, server_ticks, turn_fed}
+use Rattle.coap_commands.proofs.ServedCalls.{fed_call, fed_here, server_feeds, server_gives, server_ticks, serves_fed}
 
 abbrev queue : State → List layer.Packet
 queue s = s.layer.queue
@@ -95,26 +97,34 @@ module _ {F : Type 0} (appends : F → List ℕ → Bool → F → Type 0) (sync
 
     module _ {L : Type 0} (sends : L → Endpoint → List ℕ → L → Type 0) (receives : L → Option Packet → L → Type 0)
         (faults : L → ℕ) where
-      -- a turn
-      pub kept_turn : (e : Journal State F × X) (l : L) (now : ℕ) (t : Tally) (f : Journal State F × X) (m : L)
-          (u : Tally)
-          → Turns (λ (s : Journal State F × X). waiting s.0) told_gives sends receives faults
+      -- turns by a clock, as long as the program bears it, and then what is out is sent
+      kept_fed : {C : Type 0} (tells : C → ℕ → C → Type 0) (bears : L → Tally → Type 0) (count word : ℕ) (b : C)
+          (e : Journal State F × X) (l : L) (d : C) (f : Journal State F × X) (m : L)
+          → Serves tells (Turns (λ (s : Journal State F × X). waiting s.0) told_gives sends receives faults
           (λ (s : Journal State F × X) now from bytes. quiet_feed s.0 now from bytes) told_feeds
-          (λ (s : Journal State F × X) now. quiet_tick s.0 now) told_ticks e l now t f m u
-          → FedMost t.fed u.fed e.0.end f.0.end
-      kept_turn e l now t f m u turn =
-          turn_fed (λ (s : Journal State F × X). s.0.end) (λ (s : Journal State F × X). waiting s.0) told_gives sends
+          (λ (s : Journal State F × X) now. quiet_tick s.0 now) told_ticks) bears
+          (λ g k f m. SendsAll told_gives sends g k (waiting g.0) f m) count word b e l d f m
+          → FedFrom count e.0.end f.0.end
+      kept_fed tells bears count word b e l d f m h =
+          serves_fed (λ (s : Journal State F × X). s.0.end) (λ (s : Journal State F × X). waiting s.0) told_gives sends
           receives faults (λ (s : Journal State F × X) now from bytes. quiet_feed s.0 now from bytes) told_feeds
           (λ (s : Journal State F × X) now. quiet_tick s.0 now) told_ticks
           (λ old p new is. given old.0 p new.0 is.0)
           (λ old now from bytes word new is. is_fed old.0 now from bytes word new.0 is.0)
-          (λ old now word did new is. ticked old.0 now word did new.0 is.0) e l now t f m u turn
+          (λ old now word did new is. ticked old.0 now word did new.0 is.0) tells bears count word b e l d f m h
 
--- so many were fed
-pub enough_fed : (count fed : ℕ) (old new : State) → count ≤ fed → FedMost 0 fed old new → FedFrom count old new
-enough_fed count fed old new most h =
-    let n = h.1 in
-    fed_less count h.0 old new (omega (arith, most, n)) h.2
+      -- .. from where it was, where no commit failed
+      pub kept_from : {C : Type 0} (tells : C → ℕ → C → Type 0) (bears : L → Tally → Type 0) (count word : ℕ)
+          (own : State) (b : C) (e : Journal State F × X) (l : L) (d : C) (f : Journal State F × X) (m : L)
+          (failed : Option CommitError) → failed ≡ None → e.0.end ≡ own
+          → IfNone failed (Serves tells (Turns (λ (s : Journal State F × X). waiting s.0) told_gives sends receives
+          faults (λ (s : Journal State F × X) now from bytes. quiet_feed s.0 now from bytes) told_feeds
+          (λ (s : Journal State F × X) now. quiet_tick s.0 now) told_ticks) bears
+          (λ g k f m. SendsAll told_gives sends g k (waiting g.0) f m) count word b e l d f m)
+          → FedFrom count own f.0.end
+      kept_from tells bears count word own b e l d f m None none is h =
+          subst (λ (s : State). FedFrom count s f.0.end) is (kept_fed tells bears count word b e l d f m h)
+      kept_from tells bears count word own b e l d f m (Some why) none is h = cc none
 
 -- ---- what is held
 

@@ -17,3 +17,4 @@ pub mod WhatBecomes
 pub mod DumpedLines
 pub mod LinkTexts
 pub mod SentTexts
+pub mod ToldPings

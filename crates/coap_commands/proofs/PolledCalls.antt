@@ -207,6 +207,12 @@ left_on pending left last old mid turned new h t k = (
   chain_join old mid new (k.0 ++ t.0) h.0 h.3 (chain_join mid turned new k.0 t.0 t.2 k.3),
 )
 
+-- where none is pending, it is closed
+pub left_through : (pending left : Option CallId) (old mid new : State) → Goes (IsLeft pending left) old mid
+    → left ≡ None → new ≡ mid → Goes (Closes pending) old new
+left_through pending None old mid new h none is = subst (λ (s : State). Goes (Closes pending) old s) (sym is) h
+left_through pending (Some id) old mid new h none is = cc none
+
 -- ---- one reading after the other
 
 -- the client is through with a reading

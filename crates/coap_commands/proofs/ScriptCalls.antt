@@ -1,11 +1,13 @@
 -- The settings of a script, one after the other.
 use Rattle.std.proofs.Common.{◌≡◌, ◌∙◌, ◌<◌, ◌+◌, ◌++◌, ◌∷◌, [], ℕ, List, ap, sym, refl}
 use Rattle.std.proofs.Common.{subst, fold, map, get_or, length, take, Bool, true, Result, Ok, Err, IfOk}
-use Rattle.std.proofs.lemmas.List.{map-append, take_more}
+use Rattle.std.proofs.Common.{arith, drop, false}
+use Rattle.std.proofs.lemmas.List.{drop_more, length-map, length-take-le, map-append, take-append-drop, take_more}
 use Rattle.std.proofs.lemmas.List.Sums.{fold-append}
-use Rattle.coap_server.specs.Trace.{Call}
-use Rattle.coap_scripts.specs.Settings.{Setting}
-use Rattle.coap_commands.specs.ScriptSettings.{AreMade, IsMade, limit_by, limit_with}
+use Rattle.coap_server.specs.Trace.{Call, Delays, Plains}
+use Rattle.coap_scripts.specs.Settings.{Delay, Hold, Plain, Setting}
+use Rattle.coap_commands.specs.ScriptSettings.{AreMade, HoldsIf, IsFirstNotMade, IsMade, IsMadeIf, IsNotMade}
+use Rattle.coap_commands.specs.ScriptSettings.{limit_by, limit_with}
 
 -- one thing more is seen
 pub seen_more : {X Y : Type 0} (view : X → Y) (xs : List X) (i : ℕ) (x : X) → x ≡ get_or xs i x → i < length xs
@@ -35,15 +37,50 @@ one_made view xs i x is lt before between after so one =
     subst (λ (ss : List Setting). AreMade ss before after) (sym (seen_more view xs i x is lt))
     (made_more (map view (take i xs)) (view x) before between after so one)
 
--- what led to a setting that was made
-pub made_by : {E : Type 0} (r : Result Bool E) (P Q Leads : List Call → Type 0) → ((x : List Call) → P x → Q x)
-    → IfOk r (λ is. is ≡ true → (x : List Call) × P x × Leads x)
-    → IfOk r (λ is. is ≡ true → (x : List Call) × Q x × Leads x)
-made_by (Ok b) P Q Leads on h = λ is. let k = h is in (k.0, on k.0 k.1, k.2)
+-- the next setting isn't
+pub one_not_made : {X : Type 0} (view : X → Setting) (xs : List X) (i : ℕ) (x : X) → x ≡ get_or xs i x → i < length xs
+    → (before between after : List Call) → AreMade (map view (take i xs)) before between
+    → IsNotMade (view x) between after → IsFirstNotMade (map view xs) (i + 1) before after
+one_not_made view xs i x is lt before between after so one = (
+  map view (take i xs),
+  view x,
+  map view (drop (i + 1) xs),
+  ap (map view)
+      (sym (take-append-drop i xs) ∙ ap (λ rest. take i xs ++ rest) (drop_more xs i x lt)
+      ∙ ap (λ y. take i xs ++ y ∷ drop (i + 1) xs) (sym is))
+      ∙ map-append view (take i xs) (x ∷ drop (i + 1) xs),
+  ap (λ n. n + 1) (sym (length-map (take i xs) view ∙ length-take-le i xs (omega (arith, lt)))),
+  between,
+  so,
+  one,
+)
+
+-- what led to where a setting was made, or wasn't
+pub made_by : {E : Type 0} (r : Result Bool E) (P Q : Bool → List Call → Type 0) (Leads : List Call → Type 0)
+    → ((b : Bool) (x : List Call) → P b x → Q b x)
+    → IfOk r (λ is. (x : List Call) × P is x × Leads x)
+    → IfOk r (λ is. (x : List Call) × Q is x × Leads x)
+made_by (Ok b) P Q Leads on h = (h.0, on b h.0 h.1, h.2)
 made_by (Err e) P Q Leads on h = tt
 
 -- .. by these calls
-pub made_one : {E : Type 0} (r : Result Bool E) (calls : List Call) (Q Leads : List Call → Type 0) → Q calls
-    → IfOk r (λ is. is ≡ true → Leads calls) → IfOk r (λ is. is ≡ true → (x : List Call) × Q x × Leads x)
-made_one (Ok b) calls Q Leads one h = λ is. (calls, one, h is)
+pub made_one : {E : Type 0} (r : Result Bool E) (calls : Bool → List Call) (Q : Bool → List Call → Type 0)
+    (Leads : List Call → Type 0) → ((b : Bool) → Q b (calls b)) → IfOk r (λ is. Leads (calls is))
+    → IfOk r (λ is. (x : List Call) × Q is x × Leads x)
+made_one (Ok b) calls Q Leads one h = (calls b, one b, h)
 made_one (Err e) calls Q Leads one h = tt
+
+pub hold_if : (b : Bool) (path : List (List ℕ)) (format : ℕ) (body : List ℕ) (before after : List Call)
+    → HoldsIf b path format body before after → IsMadeIf b (Hold path format body) before after
+hold_if true path format body before after h = h
+hold_if false path format body before after h = h
+
+pub delay_if : (b : Bool) (path : List (List ℕ)) (ms : ℕ) (before : List Call)
+    → IsMadeIf b (Delay path ms) before (Delays path ms b ∷ before)
+delay_if true path ms before = refl
+delay_if false path ms before = refl
+
+pub plain_if : (b : Bool) (path : List (List ℕ)) (before : List Call)
+    → IsMadeIf b (Plain path) before (Plains path b ∷ before)
+plain_if true path before = refl
+plain_if false path before = refl

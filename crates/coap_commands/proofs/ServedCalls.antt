@@ -25,7 +25,8 @@ use Rattle.coap_server.specs.Trace.{Feeds as FedIn}
 use Rattle.coap_arguments.specs.declared.orders.ServeOptions.{ServeOptions}
 use Rattle.coap_commands.specs.Asked.{IsOrigin}
 use Rattle.coap_commands.specs.Printed.{bad_line_text, not_set_up_text, refused_text, served_text}
-use Rattle.coap_commands.specs.ScriptSettings.{AreOfScript, IsOfSettings}
+use Rattle.coap_commands.specs.ScriptSettings.{AreOfScript}
+use Rattle.coap_commands.specs.declared.serve_script.BadLine.{BadLine}
 use Rattle.coap_commands.specs.declared.setting_up.NotSetUp.{NotSetUp}
 use Rattle.coap_commands.specs.declared.setting_up.NotSetUp.TheVariants as notSetUp
 use Rattle.coap_commands.specs.declared.word.Origin.{Origin}
@@ -166,27 +167,30 @@ module _ {S L : Type 0} (at : S → State) (waiting : S → List layer.Packet) (
         (most_on t.fed t.fed v.fed (at e) (at pump.0) (at g) sent came)
         (most_on v.fed out.1.fed u.fed (at g) (at out.0) (at f) did (rested out.0 now out.1 f u out.3))
 
-    -- turn after turn
-    pub turning_fed : (count : ℕ) (e : S) (l : L) (t : Tally) {f : S} {m : L} {u : Tally}
-        → Turning (Turns waiting gives sends receives faults quiet_feed feeds quiet_tick ticks) count e l t f m u
-        → FedMost t.fed u.fed (at e) (at f)
-    turning_fed count e l t no_turn = most_same t.fed t.fed (at e) (at e) refl (fed_here (at e) (at e) refl)
-    turning_fed count e l t (more g k v now f m u turns few turn) =
-        most_on t.fed v.fed u.fed (at e) (at g) (at f) (turning_fed count e l t turns) (turn_fed g k now v f m u turn)
+    -- turn after turn, by a clock, as long as the program bears it
+    module _ {C : Type 0} (tells : C → ℕ → C → Type 0) (bears : L → Tally → Type 0) where
+      pub turning_fed : (count : ℕ) (b : C) (e : S) (l : L) (t : Tally) {d : C} {f : S} {m : L} {u : Tally}
+          → Turning tells (Turns waiting gives sends receives faults quiet_feed feeds quiet_tick ticks) bears
+          count b e l t d f m u
+          → FedMost t.fed u.fed (at e) (at f)
+      turning_fed count b e l t no_turn = most_same t.fed t.fed (at e) (at e) refl (fed_here (at e) (at e) refl)
+      turning_fed count b e l t (more c g k v now d f m u turns few told turn borne) =
+          most_on t.fed v.fed u.fed (at e) (at g) (at f) (turning_fed count b e l t turns)
+          (turn_fed g k now v f m u turn)
 
-    -- .. until so many were fed, and then what is out is sent
-    pub serves_fed : (count word : ℕ) (e : S) (l : L) (f : S) (m : L)
-        → Serves (Turns waiting gives sends receives faults quiet_feed feeds quiet_tick ticks)
-        (λ g k f m. SendsAll gives sends g k (waiting g) f m) count word e l f m
-        → FedFrom count (at e) (at f)
-    serves_fed count word e l f m h =
-        let g : S = h.0 in
-        let turns = h.2 in
-        let k = turning_fed count e l (nothing_fed word) turns.1 in
-        let enough = turns.2 in
-        let most = k.1 in
-        fed_less count (k.0 + 0) (at e) (at f) (omega (arith, enough, most))
-        (fed_on k.0 0 (at e) (at g) (at f) k.2 (sent_fed g h.1 (waiting g) f m h.3))
+      -- .. until so many were fed, and then what is out is sent
+      pub serves_fed : (count word : ℕ) (b : C) (e : S) (l : L) (d : C) (f : S) (m : L)
+          → Serves tells (Turns waiting gives sends receives faults quiet_feed feeds quiet_tick ticks) bears
+          (λ g k f m. SendsAll gives sends g k (waiting g) f m) count word b e l d f m
+          → FedFrom count (at e) (at f)
+      serves_fed count word b e l d f m h =
+          let g : S = h.0 in
+          let turns = h.2 in
+          let k = turning_fed count b e l (nothing_fed word) turns.1 in
+          let enough = turns.2 in
+          let most = k.1 in
+          fed_less count (k.0 + 0) (at e) (at f) (omega (arith, enough, most))
+          (fed_on k.0 0 (at e) (at g) (at f) k.2 (sent_fed g h.1 (waiting g) f m h.3))
 
 -- ---- a server: the relations that it has as an end
 
@@ -214,14 +218,16 @@ module _ {X : Type 0} (told : ℕ → State × X → State × X → Type 0) wher
   abbrev told_ticks : State × X → ℕ → ℕ → Bool → State × X → Type 0
   told_ticks s now word did n = server_ticks s.0 now word did n.0 × IsToldIf did (told now) s n
 
-  module _ {L : Type 0} (waiting : State × X → List layer.Packet) (sends : L → Endpoint → List ℕ → L → Type 0)
+  module _ {L C : Type 0} (waiting : State × X → List layer.Packet) (sends : L → Endpoint → List ℕ → L → Type 0)
       (receives : L → Option Packet → L → Type 0) (faults : L → ℕ)
       (quiet_feed : State × X → ℕ → Endpoint → List ℕ → Type 0) (quiet_tick : State × X → ℕ → Type 0)
+      (tells : C → ℕ → C → Type 0) (bears : L → Tally → Type 0)
     where
-      server_fed : (count word : ℕ) (e : State × X) (l : L) (f : State × X) (m : L)
-          → Serves (Turns waiting told_gives sends receives faults quiet_feed told_feeds quiet_tick told_ticks)
-          (λ g k f m. SendsAll told_gives sends g k (waiting g) f m) count word e l f m → FedFrom count e.0 f.0
-      server_fed count word e l f m h =
+      server_fed : (count word : ℕ) (b : C) (e : State × X) (l : L) (d : C) (f : State × X) (m : L)
+          → Serves tells (Turns waiting told_gives sends receives faults quiet_feed told_feeds quiet_tick told_ticks)
+          bears (λ g k f m. SendsAll told_gives sends g k (waiting g) f m) count word b e l d f m
+          → FedFrom count e.0 f.0
+      server_fed count word b e l d f m h =
           serves_fed (λ (s : State × X). s.0) waiting told_gives sends receives faults quiet_feed told_feeds quiet_tick
           told_ticks
           (λ old p new k. fed_call 0 old.0 new.0 (NextOut (Some p)) tt (omega arith) k.0)
@@ -229,21 +235,22 @@ module _ {X : Type 0} (told : ℕ → State × X → State × X → Type 0) wher
           (FedIn now from bytes word k.0.0 k.0.1 k.0.2 k.0.3) tt (omega arith) k.0.4)
           (λ old now word did new k. fed_call 0 old.0 new.0 (Ticks now word k.0.0 k.0.1 k.0.2 k.0.3 k.0.4 k.0.5 did) tt
           (omega arith) k.0.6)
-          count word e l f m h
+          tells bears count word b e l d f m h
 
       -- .. from where it was
-      pub served_from : (count word : ℕ) (own : State) (first last : State × X) (l m : L) (ended : Result Status Stop)
+      pub served_from : (count word : ℕ) (own : State) (b d : C) (first last : State × X) (l m : L)
+          (ended : Result Status Stop)
           → first.0 ≡ own
           → IfOk ended (λ s. (s ≡ status.Done)
-          × Serves (Turns waiting told_gives sends receives faults quiet_feed told_feeds quiet_tick told_ticks)
-          (λ g k f m. SendsAll told_gives sends g k (waiting g) f m) count word first l last m)
+          × Serves tells (Turns waiting told_gives sends receives faults quiet_feed told_feeds quiet_tick told_ticks)
+          bears (λ g k f m. SendsAll told_gives sends g k (waiting g) f m) count word b first l d last m)
           → IfOk ended (λ s. (s ≡ status.Done) × (end : State) × FedFrom count own end)
-      served_from count word own first last l m (Ok s) is h = (
+      served_from count word own b d first last l m (Ok s) is h = (
         h.0,
         last.0,
-        subst (λ (at : State). FedFrom count at last.0) is (server_fed count word first l last m h.1),
+        subst (λ (at : State). FedFrom count at last.0) is (server_fed count word b first l d last m h.1),
       )
-      served_from count word own first last l m (Err stop) is h = tt
+      served_from count word own b d first last l m (Err stop) is h = tt
 
 -- it serves as its words and its settings say
 pub served_by : (old new : Option (List ℕ)) (count : ℕ) (options : ServeOptions) (settings : List Setting)
@@ -267,17 +274,13 @@ refused_by old new count options settings origin why (Ok s) of h written =
     λ is_origin. inl (h, (origin, is_origin, why, of, written))
 refused_by old new count options settings origin why (Err stop) of h written = tt
 
-some_settings : (n : ℕ) (settings : List Setting) → 1 ≤ n → n ≤ length settings → settings ≢ []
-some_settings n [] least most = absurd (omega (arith, least, most))
-some_settings n (s ∷ settings) least most = λ is. cc is
-
 bad_by : (old new : Option (List ℕ)) (count : ℕ) (options : ServeOptions) (settings : List Setting) (origin : Origin)
-    (n : ℕ) (ended : Result Status Stop) → 1 ≤ n → n ≤ length settings → IfOk ended (λ s. s ≡ status.Words)
-    → OnOk ended (Appends old new (bad_line_text n))
+    (bad : BadLine) (ended : Result Status Stop) → IsRefusedAfter origin options settings (notSetUp.Line bad)
+    → IfOk ended (λ s. s ≡ status.Words) → OnOk ended (Appends old new (bad_line_text bad.0))
     → IfOk ended (λ s. IsOrigin options.word origin → IsServedBy old new count options settings s)
-bad_by old new count options settings origin n (Ok s) least most h written =
-    λ is_origin. inr (inl (h, some_settings n settings least most, (n, written)))
-bad_by old new count options settings origin n (Err stop) least most h written = tt
+bad_by old new count options settings origin bad (Ok s) of h written =
+    λ is_origin. inr (inl (h, (origin, is_origin, bad, of, written)))
+bad_by old new count options settings origin bad (Err stop) of h written = tt
 
 -- what holds of a refusal
 pub refused_is : {X E : Type 0} (Is : E → Type 0) (made : Result X E) (e : E) → made ≡ Err e → IfErr made Is → Is e
@@ -286,13 +289,13 @@ refused_is Is made e is h = subst (λ (r : Result _ _). IfErr r Is) is h
 -- a server that isn't set up
 pub not_set_by : (old new : Option (List ℕ)) (count : ℕ) (options : ServeOptions) (settings : List Setting)
     (origin : Origin) (why : NotSetUp)
-    (ended : Result Status Stop) → IsOfSettings settings why → IsRefusedAfter origin options settings why
+    (ended : Result Status Stop) → IsRefusedAfter origin options settings why
     → IfOk ended (λ s. s ≡ not_set_up_status why) → OnOk ended (Appends old new (not_set_up_text why))
     → IfOk ended (λ s. IsOrigin options.word origin → IsServedBy old new count options settings s)
-not_set_by old new count options settings origin (notSetUp.Refused refusal) ended of refused h written =
+not_set_by old new count options settings origin (notSetUp.Refused refusal) ended refused h written =
     refused_by old new count options settings origin refusal ended refused h written
-not_set_by old new count options settings origin (notSetUp.Line bad) ended of refused h written =
-    bad_by old new count options settings origin bad.0 ended of.0 of.1 h written
+not_set_by old new count options settings origin (notSetUp.Line bad) ended refused h written =
+    bad_by old new count options settings origin bad ended refused h written
 
 -- what holds of a refusal, whichever it is
 pub where_refused : {X E : Type 0} (P : Type 0) (made : Result X E) (e : E) → made ≡ Err e → IfErr made (λ _. P) → P

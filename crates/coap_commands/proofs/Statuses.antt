@@ -1,6 +1,6 @@
 -- With which status words are answered that ask for an order, or have something wrong.
 use Rattle.std.proofs.Common.{◌≡◌, ◌≢◌, ◌∙◌, inl, inr, ap, sym, subst, ℕ, ◌≤◌, List, [], ◌∷◌, Option, None, Some}
-use Rattle.std.proofs.Common.{refl, ◌⊎◌, arith, Result, Ok, Err, IfOk, Bool, true, false, if◌then◌else◌}
+use Rattle.std.proofs.Common.{refl, ◌⊎◌, ◌++◌, arith, Result, Ok, Err, IfOk, Bool, true, false, if◌then◌else◌}
 use Rattle.std.specs.Borrow.{Bor}
 use Rattle.std.specs.Option.{IsSome}
 use Rattle.clap.specs.Words.{Text}
@@ -51,7 +51,16 @@ use Rattle.coap_arguments.specs.declared.orders.Wrong.{Wrong}
 use Rattle.coap_arguments.specs.declared.orders.Wrong.TheVariants.{Words, Path, Number, Word, Address, Size, Tags}
 use Rattle.coap_arguments.specs.declared.orders.Wrong.TheVariants.{Setting, Body, Store, Plains, Ends as NoEnds}
 use Rattle.coap_arguments.specs.declared.orders.Wrong.TheVariants.{Together, NoPath, Uri, Beside, Hex, Memory}
+use Rattle.coap_layer.specs.Machine.State.{usual}
+use Rattle.coap_record.specs.declared.addresses.TheConstants.{CLIENT_END as client_end}
+use Rattle.coap_types.specs.declared.body_limit.TheConstants.{DEFAULT_BODY_LIMIT as default_limit}
+use Rattle.coap_commands.specs.Answering.{PrintsAnswer}
+use Rattle.coap_commands.specs.Dumps as dumps
+use Rattle.coap_commands.specs.Ends.{server_limits}
+use Rattle.coap_commands.specs.PingLines.{EndWith, IsPinged}
+use Rattle.coap_arguments.specs.declared.orders.PingOptions.{PingOptions}
 use Rattle.coap_commands.proofs.PairCalls.{paired_carried}
+use Rattle.coap_commands.proofs.SentTexts.{carried}
 use Rattle.coap_arguments.proofs.Facts.OneAnswer.{hex_or_wrong, order_or_wrong}
 
 -- ---- the statuses
@@ -305,13 +314,20 @@ paired_done : (old new : Option (List ℕ)) (ended : Result Status Stop) (path :
 paired_done old new (Ok s) path body word limit remembered h = paired_carried h.4
 paired_done old new (Err stop) path body word limit remembered h = tt
 
+-- where one of the settings isn't made, settings are there
+some_settings : (settings made rest : List SettingSpec) (s : SettingSpec) → settings ≡ made ++ s ∷ rest
+    → settings ≢ []
+some_settings settings [] rest s is = λ none. cc (is, none)
+some_settings settings (m ∷ made) rest s is = λ none. cc (is, none)
+
 -- a server that is set up, or is not, comes to 2 only where settings are there
 served_settings : (old new : Option (List ℕ)) (s : Status) (count : ℕ) (options : ServeOptions)
     (settings : List SettingSpec)
     → IsServedBy old new count options settings s → status_number s ≡ 2 → settings ≢ []
 served_settings old new s count options settings (inl is) h =
     absurd (let n : 1 ≡ 2 = sym (ap status_number is.0) ∙ h in omega (arith, n))
-served_settings old new s count options settings (inr (inl bad)) h = bad.1
+served_settings old new s count options settings (inr (inl bad)) h =
+    let first = bad.1.3.1.3 in some_settings settings first.0 first.2 first.1 first.3
 served_settings old new s count options settings (inr (inr done)) h =
     absurd (let n : 0 ≡ 2 = sym (ap status_number done.0) ∙ h in omega (arith, n))
 
@@ -363,15 +379,47 @@ version_done : (ended : Result Status Stop) → IfOk ended (λ s. s ≡ status.D
 version_done (Ok s) is = inl is
 version_done (Err stop) is = tt
 
+-- a datagram that is shown, and one that is answered
+datagram_carried : (datagram : List ℕ) (s : Status) → dumps.IsShown datagram s → IsCarriedOut s
+datagram_carried datagram status.Done h = inl refl
+datagram_carried datagram status.Refused h = inr refl
+datagram_carried datagram status.Words h = absurd h
+datagram_carried datagram status.Failed h = absurd h
+datagram_carried datagram status.Memory h = absurd h
+
+shown_done : (datagram : List ℕ) (ended : Result Status Stop) → IfOk ended (dumps.IsShown datagram)
+    → IfOk ended IsCarriedOut
+shown_done datagram (Ok s) h = datagram_carried datagram s h
+shown_done datagram (Err stop) h = tt
+
+answered_done : (old new : Option (List ℕ)) (path : List (List ℕ)) (body datagram : List ℕ)
+    (ended : Result Status Stop)
+    → IfOk ended (PrintsAnswer (server_limits default_limit) (usual 0) path body old new 0 client_end 0 datagram)
+    → IfOk ended IsCarriedOut
+answered_done old new path body datagram (Ok s) h =
+    carried (server_limits default_limit) (usual 0) path body old new 0 client_end 0 datagram s h
+answered_done old new path body datagram (Err stop) h = tt
+
+-- pings
+ended_carried : (count : ℕ) (ends : List (Option ℕ)) (s : Status) → EndWith count ends s → IsCarriedOut s
+ended_carried count ends s (inl done) = inl done.0
+ended_carried count ends s (inr refused) = inr refused.0
+
+pinged_done : (old new : Option (List ℕ)) (ended : Result Status Stop) (options : PingOptions)
+    → IfOk ended (IsPinged old new options) → IfOk ended IsCarriedOut
+pinged_done old new (Ok s) options h = ended_carried _ h.0 s h.1
+pinged_done old new (Err stop) options h = tt
+
 -- an order that is carried out comes to 2 only where it reads a text
 text_only : (old new : Option (List ℕ)) (order : Order) (ended : Result Status Stop)
     → IfOk ended (CarriesOut old new order) → number ended ≡ 2
     → ReadsText order
 text_only old new Version ended c h = absurd (carried_out ended (version_done ended c) h)
-text_only old new (Show datagram) ended c h = absurd (carried_out ended c h)
+text_only old new (Show datagram) ended c h = absurd (carried_out ended (shown_done datagram.items ended c) h)
 text_only old new Dump ended c h = tt
 text_only old new (DumpCapture file chart) ended c h = tt
-text_only old new (Answer path body datagram) ended c h = absurd (carried_out ended c h)
+text_only old new (Answer path body datagram) ended c h =
+    absurd (carried_out ended (answered_done old new path body.now datagram.items ended c) h)
 text_only old new (Pair path body word limit remembered) ended c h =
     absurd (carried_out ended (paired_done old new ended path body.now word limit remembered c) h)
 text_only old new (Serve port count options script pcap journal) ended c h =
@@ -380,7 +428,8 @@ text_only old new (Ask server path what options pcap) ended c h =
     absurd (carried_out ended (asked_carried old new ended server path what options c) h)
 text_only old new (Discover server options pcap) ended c h =
     absurd (carried_out ended (discovered_carried old new ended server options c) h)
-text_only old new (Ping server options pcap) ended c h = absurd (carried_out ended c h)
+text_only old new (Ping server options pcap) ended c h =
+    absurd (carried_out ended (pinged_done old new ended options c) h)
 text_only old new (Sim file store plains remembered chart client server pcap) ended c h = tt
 
 -- 2 says that something is wrong in the words, or that they have a text read

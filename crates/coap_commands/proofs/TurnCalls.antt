@@ -2,7 +2,7 @@
 -- time passes.
 use Rattle.std.proofs.Common.{◌≡◌, ℕ, Bool, true, List, [], ◌∷◌, ◌++◌, Option, Some, None, Result, Ok, Err, refl, sym}
 use Rattle.std.proofs.Common.{subst}
-use Rattle.std.proofs.Common.{inl, inr, false}
+use Rattle.std.proofs.Common.{OnOk, inl, inr, false}
 use Rattle.coap_types.specs.declared.endpoint.Endpoint.{Endpoint}
 use Rattle.coap_layer.specs.Trace as layer
 use Rattle.coap_client.specs.Led.{State, Step}
@@ -136,10 +136,20 @@ client_turned_at waiting sends receives faults quiet_feed quiet_tick e l now t f
     e l t f m u h
 
 -- what is out is sent
-pub client_sent : {L : Type 0} (like : Call → Type 0) (nothing : (c : Call) → AsksNothing c → like c)
+pub client_sent : {L : Type 0} (like : Call → Type 0) (taken : (p : layer.Packet) → like (NextOut (Some p)))
     (sends : L → Endpoint → List ℕ → L → Type 0) (e : State) (l : L) (ps : List layer.Packet) (f : State) (m : L)
     → SendsAll client_gives sends e l ps f m → Turned like e f
-client_sent like nothing sends e l [] f m h = turned_here like e f h.0
-client_sent like nothing sends e l (p ∷ ps) f m h =
-    turned_on like e h.0 f (turned_by like e h.0 (NextOut (Some p)) (nothing (NextOut (Some p)) tt) h.2)
-    (client_sent like nothing sends h.0 h.1 ps f m h.4)
+client_sent like taken sends e l [] f m h = turned_here like e f h.0
+client_sent like taken sends e l (p ∷ ps) f m h =
+    turned_on like e h.0 f (turned_by like e h.0 (NextOut (Some p)) (taken p) h.2)
+    (client_sent like taken sends h.0 h.1 ps f m h.4)
+
+-- what holds, whatever an answer is, holds where it is one
+pub on_ok : {X E P : Type 0} (r : Result X E) → P → OnOk r P
+on_ok (Ok x) h = h
+on_ok (Err e) h = tt
+
+-- what goes on was borne
+pub was_borne : {E : Type 0} (r s : Result (Unit {0}) E) → r ≡ s → OnOk r (s ≡ Ok tt)
+was_borne (Ok x) s is = sym is
+was_borne (Err e) s is = tt

@@ -1,5 +1,5 @@
 -- What a capture has of each datagram that is sent and received (docs/PROTOCOL.md; draft-ietf-opsawg-pcap).
-use Rattle.std.specs.Prelude.{◌≡◌, ℕ, false, List, [], ◌∷◌, ◌++◌, Option}
+use Rattle.std.specs.Prelude.{◌≡◌, ◌+◌, ◌-◌, ◌^◌, min, ℕ, false, List, [], ◌∷◌, ◌++◌, Option}
 use Rattle.std.specs.Io.KnownBytes.{Appends}
 use Rattle.coap_types.specs.declared.endpoint.Endpoint.{Endpoint}
 use Rattle.coap_links.specs.Sockets.{is_of_this_network}
@@ -34,7 +34,14 @@ IsOfSix own way peer addresses =
     (six : SixEndpoint) × (addresses ≡ six_addresses own way six)
     × (is_of_this_network peer.ip ≡ false → six ≡ mapped peer)
 
--- behind what a capture has, the record of a datagram is written that goes between such addresses
-abbrev pub IsCaptured : (Addresses → Type 0) → (old new : Option (List ℕ)) → List ℕ → Type 0
-IsCaptured Between old new bytes =
-    (at : ℕ) × (addresses : Addresses) × Between addresses × Appends old new (record_of at (packet addresses bytes))
+-- the moment since 1970 of what is captured where a clock that began at that moment tells this one (`tells` is which
+-- moments it tells)
+abbrev pub IsCapturedAt : {C : Type 0} → (tells : C → ℕ → C → Type 0) → (before : C) → (begin : ℕ) → (after : C) → ℕ
+    → Type 0
+IsCapturedAt tells before begin after at = (now : ℕ) × tells before now after × (at ≡ min (begin + now) (2 ^ 64 - 1))
+
+-- behind what a capture has, the record of a datagram is written that goes between such addresses at such a moment
+abbrev pub IsCaptured : (ℕ → Type 0) → (Addresses → Type 0) → (old new : Option (List ℕ)) → List ℕ → Type 0
+IsCaptured At Between old new bytes =
+    (at : ℕ) × At at × (addresses : Addresses) × Between addresses
+    × Appends old new (record_of at (packet addresses bytes))

@@ -72,6 +72,10 @@ abbrev pub IsOfSocket : SocketAddr → Peer → Type 0
 IsOfSocket (V4 a) there = IsAtFour (ipv4_octets (v4_ip a)) (v4_port a) there
 IsOfSocket (V6 a) there = IsOfAddress (address.Six (v6_ip a) (v6_scope_id a)) (v6_port a) there
 
+-- .. of the addresses that it names
+abbrev pub IsAmong : List SocketAddr → Peer → Type 0
+IsAmong addresses there = (a : SocketAddr) × (chosen addresses ≡ Some a) × IsOfSocket a there
+
 -- only the machine itself reaches this address (RFC 1122, section 3.2.1.3; RFC 4291, section 2.5.3)
 abbrev pub IsLoopback : Address → Type 0
 IsLoopback (address.Four ip) = IsLoopbackV4 ip

@@ -71,8 +71,8 @@ IsGoneOn old new count options at start s =
 -- .. and it is the one of a journal, of which the words say this
 abbrev pub IsServedOn : (old new : Option (List ℕ)) → ℕ → ServeOptions → Journal → Status → Type 0
 IsServedOn old new count options journal s =
-    (keeping : Keeping) × IsKeepingBy options (said_beside journal) keeping × (silent : Silences) × (first : ℕ)
-    × (bytes : List ℕ) × (start : State) × IsAlive keeping silent first bytes start
+    (keeping : Keeping) × IsKeepingBy options journal.file.now (said_beside journal) keeping × (silent : Silences)
+    × (first : ℕ) × (bytes : List ℕ) × (start : State) × IsAlive keeping silent first bytes start
     × IsGoneOn old new count options first start s
 
 abbrev pub IsServedAsSaid : (old new : Option (List ℕ)) → ℕ → ServeOptions → Option (Bor (List ℕ)) → Option Journal

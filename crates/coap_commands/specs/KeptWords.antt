@@ -87,8 +87,9 @@ pub record IsDrawnFrom (draws : List ℕ → Type 0) (options : ServeOptions) (s
     pub key1 : IsRandom draws beginning.seed.key1
     pub base : IsDrawnBase draws (base_choice says.renews (choice_if says.word options.word)) beginning.base
 
--- what the program says of the journal is what the words say
-pub record IsKeepingBy (options : ServeOptions) (says : Says) (keeping : Keeping) : Type 0 where
+-- what the program says of a file of this name is what the words say
+pub record IsKeepingBy (options : ServeOptions) (file : List ℕ) (says : Says) (keeping : Keeping) : Type 0 where
+  pub name : keeping.name.now ≡ file
   pub wishes : AreWishesBy options says (setup_bytes options) keeping.wishes
   pub drawn : IsDrawnBy options says keeping.drawn
   pub setup : keeping.setup.now ≡ setup_bytes options

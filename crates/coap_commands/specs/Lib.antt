@@ -18,6 +18,7 @@ pub mod KeptWords
 pub mod ObservedTurns
 pub mod Observes
 pub mod Pairs
+pub mod PingLines
 pub mod Pinged
 pub mod Polls
 pub mod Printed

@@ -8,6 +8,7 @@ use Rattle.coap_layer.specs.Machine.State.{is_copy_due}
 use Rattle.coap_layer.specs.Words.{Open}
 use Rattle.coap_links.specs.Carried.{Packet}
 use Rattle.coap_ping.specs.Pings.{IsAnswer, begun, is_over, ping_bytes, sent_at}
+use Rattle.coap_commands.specs.Bearing.{Bears}
 use Rattle.coap_commands.specs.Waiting.{HasLasted}
 use Rattle.coap_commands.specs.declared.pinging.TheConstants.{PING_PERIOD_MS as ping_period}
 use Rattle.coap_scripts.specs.declared.status.Status.{Status}
@@ -33,63 +34,68 @@ module _ {L : Type 0} (sends : L → Endpoint → List ℕ → L → Type 0) (re
       (is_copy_due now p ≡ true → (q ≡ sent_at now p) × sends l p.to (ping_bytes p.id) m)
       × (is_copy_due now p ≡ false → (q ≡ p) × (m ≡ l))
 
-  -- turns, in none of which an answer comes, and it is sent again exactly where a copy is due
-  pub data Awaits (p : Open) (l : L) : Open → L → Type 0 where
-    not_yet : Awaits p l p l
-    further : (q : Open) (m : L) (k : L) (now : ℕ) (r : Open) (n : L) → Awaits p l q m → Hears q m false k
-        → MaySend now q k r n → Awaits p l r n
+  -- (`faults` is how many calls of the link failed, and `tells` which moments the clock tells)
+  module _ {C : Type 0} (faults : L → ℕ) (tells : C → ℕ → C → Type 0) where
+    -- Turns, each at the moment that the clock tells then: in none of them an answer comes, or the ping is given up,
+    -- and it is sent again exactly where a copy is due; and the program bears what failed by the end of it.
+    pub data Awaits (give_up : Option ℕ) (b : C) (p : Open) (l : L) : C → Open → L → Type 0 where
+      not_yet : Awaits give_up b p l b p l
+      further : (c : C) (q : Open) (m : L) (k : L) (now : ℕ) (d : C) (r : Open) (n : L) → Awaits give_up b p l c q m
+          → Hears q m false k → tells c now d → (IsGivenUp give_up q now → ⊥) → MaySend now q k r n → Bears faults n
+          → Awaits give_up b p l d r n
 
-  -- how it ends: by an answer, so many milliseconds after it was sent first; or without one
-  abbrev pub EndsBy : Option ℕ → Open → L → Option ℕ → L → Type 0
-  EndsBy give_up p l (Some ms) m = (now : ℕ) × Hears p l true m × (ms ≡ now - p.first)
-  EndsBy give_up p l None m = (now : ℕ) × Hears p l false m × IsGivenUp give_up p now
+    -- how it ends: by an answer, so many milliseconds after it was sent first; or without one
+    abbrev pub EndsBy : Option ℕ → C → Open → L → Option ℕ → C → L → Type 0
+    EndsBy give_up c p l (Some ms) d m = (now : ℕ) × Hears p l true m × tells c now d × (ms ≡ now - p.first)
+    EndsBy give_up c p l None d m = (now : ℕ) × Hears p l false m × tells c now d × IsGivenUp give_up p now
 
-  abbrev pub Comes : Option ℕ → Open → L → Option ℕ → L → Type 0
-  Comes give_up p l ms m = (q : Open) × (k : L) × Awaits p l q k × EndsBy give_up q k ms m
+    abbrev pub Comes : Option ℕ → C → Open → L → Option ℕ → C → L → Type 0
+    Comes give_up b p l ms d m =
+        (c : C) × (q : Open) × (k : L) × Awaits give_up b p l c q k × EndsBy give_up c q k ms d m
 
-  -- one ping, with this word: it is sent to the server at this moment, and awaited
-  abbrev pub IsPing : Option ℕ → Endpoint → ℕ → ℕ → L → Option ℕ → L → Type 0
-  IsPing give_up server word now l ms m =
-      (k : L) × sends l server (ping_bytes (begun now server word).id) k
-      × Comes give_up (begun now server word) k ms m
+    -- one ping, with this word: it is sent to the server at this moment, and awaited
+    abbrev pub IsPing : Option ℕ → Endpoint → ℕ → ℕ → C → L → Option ℕ → C → L → Type 0
+    IsPing give_up server word now b l ms d m =
+        (k : L) × sends l server (ping_bytes (begun now server word).id) k
+        × Comes give_up b (begun now server word) k ms d m
 
-  -- the word of the next ping after so many
-  abbrev pub word_after : ℕ → ℕ → ℕ
-  word_after word n = (word + n) % 2 ^ 64
+    -- the word of the next ping after so many
+    abbrev pub word_after : ℕ → ℕ → ℕ
+    word_after word n = (word + n) % 2 ^ 64
 
-  -- the ping after so many, and whether it is answered
-  abbrev pub IsNext : Option ℕ → Endpoint → ℕ → ℕ → ℕ → L → Bool → L → Type 0
-  IsNext give_up server word n now l answered m =
-      (ms : Option ℕ) × (is_some ms ≡ answered) × IsPing give_up server (word_after word n) now l ms m
+    -- the ping after so many, and whether it is answered
+    abbrev pub IsNext : Option ℕ → Endpoint → ℕ → ℕ → ℕ → L → Bool → L → Type 0
+    IsNext give_up server word n now l answered m =
+        (ms : Option ℕ) × (is_some ms ≡ answered) × (b d : C) × IsPing give_up server (word_after word n) now b l ms d m
 
-  -- what comes between two pings is dropped
-  pub data Drops (l : L) : L → Type 0 where
-    nothing : Drops l l
-    more : (k : L) (came : Option Packet) (m : L) → Drops l k → receives k came m → Drops l m
+    -- what comes between two pings is dropped
+    pub data Drops (l : L) : L → Type 0 where
+      nothing : Drops l l
+      more : (k : L) (came : Option Packet) (m : L) → Drops l k → receives k came m → Bears faults m → Drops l m
 
-  -- so many pings were answered, one after the other, each begun a second after the one before or later; and the next
-  -- may begin at this moment
-  pub data Answered (give_up : Option ℕ) (server : Endpoint) (word : ℕ) (l : L) : ℕ → ℕ → L → Type 0 where
-    none_yet : (now : ℕ) → Answered give_up server word l 0 now l
-    one_more : (n now : ℕ) (k : L) (m : L) (next : ℕ) (j : L) → Answered give_up server word l n now k
-        → IsNext give_up server word n now k true m → now + ping_period ≤ next → Drops m j
-        → Answered give_up server word l (n + 1) next j
+    -- so many pings were answered, one after the other, each begun a second after the one before or later; and the next
+    -- may begin at this moment, which the clock told
+    pub data Answered (give_up : Option ℕ) (server : Endpoint) (word : ℕ) (l : L) : ℕ → ℕ → L → Type 0 where
+      none_yet : (c d : C) (now : ℕ) → tells c now d → Answered give_up server word l 0 now l
+      one_more : (n now : ℕ) (k : L) (m : L) (c d : C) (next : ℕ) (j : L) → Answered give_up server word l n now k
+          → IsNext give_up server word n now k true m → tells c next d → now + ping_period ≤ next → Drops m j
+          → Answered give_up server word l (n + 1) next j
 
-  -- the last ping, after so many that were answered, and whether it is
-  abbrev pub IsLast : Option ℕ → Endpoint → ℕ → ℕ → L → Bool → L → Type 0
-  IsLast give_up server word n l answered m =
-      (now : ℕ) × (k : L) × Answered give_up server word l n now k × IsNext give_up server word n now k answered m
+    -- the last ping, after so many that were answered, and whether it is
+    abbrev pub IsLast : Option ℕ → Endpoint → ℕ → ℕ → L → Bool → L → Type 0
+    IsLast give_up server word n l answered m =
+        (now : ℕ) × (k : L) × Answered give_up server word l n now k × IsNext give_up server word n now k answered m
 
-  -- Each of so many pings is answered, and the status is 0; or the last one isn't, and it is 1.
-  abbrev pub Pings : Option ℕ → Endpoint → ℕ → ℕ → L → Status → L → Type 0
-  Pings give_up server word count l s m =
-      ((s ≡ status.Done) × (count ≡ 0) × (m ≡ l))
-      ⊎ (((s ≡ status.Done) × (n : ℕ) × (count ≡ n + 1) × IsLast give_up server word n l true m)
-      ⊎ ((s ≡ status.Refused) × (n : ℕ) × (n < count) × IsLast give_up server word n l false m))
+    -- Each of so many pings is answered, and the status is 0; or the last one isn't, and it is 1.
+    abbrev pub Pings : Option ℕ → Endpoint → ℕ → ℕ → L → Status → L → Type 0
+    Pings give_up server word count l s m =
+        ((s ≡ status.Done) × (count ≡ 0) × (m ≡ l))
+        ⊎ (((s ≡ status.Done) × (n : ℕ) × (count ≡ n + 1) × IsLast give_up server word n l true m)
+        ⊎ ((s ≡ status.Refused) × (n : ℕ) × (n < count) × IsLast give_up server word n l false m))
 
-  -- over such a link an endpoint that stands for the server is pinged as often as the options say, or once, with such a
-  -- word
-  abbrev pub PingsBy : (Stands : Endpoint → Type 0) → (IsWord : ℕ → Type 0) → PingOptions → Status → Type 0
-  PingsBy Stands IsWord options s =
-      (server : Endpoint) × Stands server × (word : ℕ) × IsWord word × (l : L) × (m : L)
-      × Pings options.give_up server word (unwrap_or options.times 1) l s m
+    -- over such a link an endpoint that stands for the server is pinged as often as the options say, or once, with such
+    -- a word
+    abbrev pub PingsBy : (Stands : Endpoint → Type 0) → (IsWord : ℕ → Type 0) → PingOptions → Status → Type 0
+    PingsBy Stands IsWord options s =
+        (server : Endpoint) × Stands server × (word : ℕ) × IsWord word × (l : L) × (m : L)
+        × Pings options.give_up server word (unwrap_or options.times 1) l s m

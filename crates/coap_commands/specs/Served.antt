@@ -1,5 +1,5 @@
 -- What a server comes to that serves as the words say: it is set up, and then turned until so many datagrams were fed.
-use Rattle.std.specs.Prelude.{◌≡◌, ◌≢◌, ◌⊎◌, ◌≤◌, ◌+◌, ⊤, ℕ, List, [], ◌∷◌, Option, IsSome}
+use Rattle.std.specs.Prelude.{◌≡◌, ◌⊎◌, ◌≤◌, ◌+◌, ⊤, ℕ, List, [], ◌∷◌, Option, IsSome}
 use Rattle.std.specs.Borrow.{Bor}
 use Rattle.std.specs.Io.KnownBytes.{Appends}
 use Rattle.coap_resource.specs.declared.refusal.StoreRefusal.{StoreRefusal}
@@ -10,6 +10,7 @@ use Rattle.coap_commands.specs.Asked.{IsOrigin}
 use Rattle.coap_commands.specs.Printed.{bad_line_text, refused_text, served_text}
 use Rattle.coap_commands.specs.ScriptSettings.{AreOfScript}
 use Rattle.coap_commands.specs.SettingUp.{IsRefusedAfter, IsServerAfter}
+use Rattle.coap_commands.specs.declared.serve_script.BadLine.{BadLine}
 use Rattle.coap_commands.specs.declared.setting_up.NotSetUp.{NotSetUp}
 use Rattle.coap_commands.specs.declared.setting_up.NotSetUp.TheVariants as notSetUp
 use Rattle.coap_commands.specs.declared.word.Origin.{Origin}
@@ -57,6 +58,11 @@ abbrev pub IsRefusedBy : (old new : Option (List ℕ)) → ServeOptions → List
 IsRefusedBy old new options settings = (origin : Origin) × IsOrigin options.word origin × (why : StoreRefusal)
     × IsRefusedAfter origin options settings (notSetUp.Refused why) × Appends old new (refused_text why)
 
+-- the server that began as the words say doesn't take what a line of the settings says, whose number is written
+abbrev pub IsBadBy : (old new : Option (List ℕ)) → ServeOptions → List Setting → Type 0
+IsBadBy old new options settings = (origin : Origin) × IsOrigin options.word origin × (bad : BadLine)
+    × IsRefusedAfter origin options settings (notSetUp.Line bad) × Appends old new (bad_line_text bad.0)
+
 -- the number of a line is written
 abbrev pub SaysLine : (old new : Option (List ℕ)) → Type 0
 SaysLine old new = (number : ℕ) × Appends old new (bad_line_text number)
@@ -65,7 +71,7 @@ SaysLine old new = (number : ℕ) × Appends old new (bad_line_text number)
 -- what the words name, or it doesn't take what a line of the settings says; and that is written
 abbrev pub IsServedBy : (old new : Option (List ℕ)) → ℕ → ServeOptions → List Setting → Status → Type 0
 IsServedBy old new count options settings s = ((s ≡ status.Refused) × IsRefusedBy old new options settings)
-    ⊎ (((s ≡ status.Words) × (settings ≢ []) × SaysLine old new)
+    ⊎ (((s ≡ status.Words) × IsBadBy old new options settings)
     ⊎ ((s ≡ status.Done) × (origin : Origin) × IsOrigin options.word origin × (first : State)
     × IsServerAfter origin options settings first × (last : State) × FedFrom count first last
     × Appends old new (served_text count)))

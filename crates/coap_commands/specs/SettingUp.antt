@@ -1,5 +1,5 @@
 -- How a server is set up before it serves: the calls that lead on, the newest first.
-use Rattle.std.specs.Prelude.{◌≡◌, ◌⊎◌, ⊤, ℕ, List, [], ◌∷◌, ◌++◌, Some, Ok, Err, true, codes, fold}
+use Rattle.std.specs.Prelude.{◌≡◌, ◌⊎◌, ℕ, List, [], ◌∷◌, ◌++◌, Some, Ok, Err, true, codes, fold}
 use Rattle.coap_types.specs.declared.szx.TheConstants.{MAX_SZX as max_szx}
 use Rattle.coap_layer.specs.declared.setup.Setup.{Setup}
 use Rattle.coap_resource.specs.Content.{Content}
@@ -11,7 +11,7 @@ use Rattle.coap_arguments.specs.declared.orders.Delay.{Delay}
 use Rattle.coap_arguments.specs.declared.orders.Hold.{Hold}
 use Rattle.coap_arguments.specs.declared.orders.ServeOptions.{ServeOptions}
 use Rattle.coap_commands.specs.Ends.{server_limits_after}
-use Rattle.coap_commands.specs.ScriptSettings.{AreMade, limit_by}
+use Rattle.coap_commands.specs.ScriptSettings.{AreMade, IsFirstNotMade, limit_by}
 use Rattle.coap_commands.specs.declared.setting_up.NotSetUp.{NotSetUp}
 use Rattle.coap_commands.specs.declared.setting_up.NotSetUp.TheVariants as notSetUp
 use Rattle.coap_commands.specs.declared.word.Origin.{Origin}
@@ -80,18 +80,21 @@ IsServerAfter origin options settings s =
     × Led (server_limits_after (limit_by options.limit settings) origin.base) max_szx
     (served_setup origin.word options) after s
 
--- it isn't set up since its store refuses something: then this holds of the calls that led to it
-abbrev pub IsRefused : (List Call → Type 0) → ServeOptions → List Call → NotSetUp → Type 0
-IsRefused led options before (notSetUp.Refused why) =
+-- it isn't set up since its store refuses something that the words name, or it doesn't take what a line of its script
+-- says: then this holds of the calls that led to it
+abbrev pub IsRefused : (List Call → Type 0) → ServeOptions → List Setting → List Call → NotSetUp → Type 0
+IsRefused led options settings before (notSetUp.Refused why) =
     (after : List Call) × IsNotHeld options why before after × led after
-IsRefused led options before (notSetUp.Line bad) = ⊤
+IsRefused led options settings before (notSetUp.Line bad) =
+    (set : List Call) × (after : List Call) × SetsUp options before set × IsFirstNotMade settings bad.0 set after
+    × led after
 
 -- .. of a server that began so
 abbrev pub IsRefusedAfter : Origin → ServeOptions → List Setting → NotSetUp → Type 0
 IsRefusedAfter origin options settings why =
     (s : State) × IsRefused
     (λ after. Led (server_limits_after (limit_by options.limit settings) origin.base) max_szx
-    (served_setup origin.word options) after s) options [] why
+    (served_setup origin.word options) after s) options settings [] why
 
 -- .. where the first version is 1
 abbrev pub IsServer : ℕ → ServeOptions → List Setting → State → Type 0

@@ -2,10 +2,17 @@
 use Rattle.std.specs.Prelude.{◌≡◌, ◌⊎◌, ⊤, ℕ, List, Option, Result, Ok, Err, IfOk, IsSome}
 use Rattle.clap.specs.Words.{Text}
 use Rattle.coap_arguments.specs.Words.{AsksFor, IsWrong}
+use Rattle.coap_layer.specs.Machine.State.{usual}
 use Rattle.coap_record.specs.Events.{Event}
+use Rattle.coap_record.specs.declared.addresses.TheConstants.{CLIENT_END as client_end}
+use Rattle.coap_types.specs.declared.body_limit.TheConstants.{DEFAULT_BODY_LIMIT as default_limit}
+use Rattle.coap_commands.specs.Answering.{PrintsAnswer}
 use Rattle.coap_commands.specs.Captured.{IsCaptureStatus}
+use Rattle.coap_commands.specs.Dumps.{IsShown}
+use Rattle.coap_commands.specs.Ends.{server_limits}
 use Rattle.coap_commands.specs.Pairs.{IsPaired}
 use Rattle.coap_commands.specs.Kept.{IsServedAsSaid}
+use Rattle.coap_commands.specs.PingLines.{IsPinged}
 use Rattle.coap_commands.specs.Tasks.{IsAsked, IsDiscovered}
 use Rattle.coap_scripts.specs.StatusNumbers.{status_number}
 use Rattle.coap_scripts.specs.Sims.{IsSim, sim_config}
@@ -14,8 +21,8 @@ use Rattle.coap_scripts.specs.declared.status.Status.TheVariants as status
 use Rattle.coap_scripts.specs.declared.status.Stop.{Stop}
 use Rattle.coap_scripts.specs.declared.status.Stop.TheVariants as stop
 use Rattle.coap_arguments.specs.declared.orders.Order.{Order}
-use Rattle.coap_arguments.specs.declared.orders.Order.TheVariants.{Ask, Discover, Dump, DumpCapture, Pair, Serve, Sim}
-use Rattle.coap_arguments.specs.declared.orders.Order.TheVariants.{Version}
+use Rattle.coap_arguments.specs.declared.orders.Order.TheVariants.{Answer, Ask, Discover, Dump, DumpCapture}
+use Rattle.coap_arguments.specs.declared.orders.Order.TheVariants.{Pair, Ping, Serve, Show, Sim, Version}
 use Rattle.coap_arguments.specs.declared.orders.Wrong.{Wrong}
 use Rattle.coap_arguments.specs.declared.orders.Wrong.TheVariants.{Words, Path, Number, Word, Address, Size, Tags}
 use Rattle.coap_arguments.specs.declared.orders.Wrong.TheVariants.{Setting, Body, Store, Plains, Ends as NoEnds}
@@ -43,20 +50,23 @@ ReadsText (DumpCapture file chart) = ⊤
 ReadsText (Serve port count options script pcap journal) = IsSome script
 ReadsText _ = ⊥
 
--- what this order comes to, carried out to its end; what a pair, a server and a client print is written behind what
--- standard output has
+-- what this order comes to, carried out to its end; what an answer, a pair, a server, a client and pings print is
+-- written behind what standard output has
 abbrev pub CarriesOut : (old new : Option (List ℕ)) → Order → Status → Type 0
 CarriesOut old new (Sim file store plains remembered chart client server pcap) s = (events : List Event)
     × IsSim (sim_config (record { client = client; server = server }) remembered plains.items) events s
+CarriesOut old new (Show datagram) s = IsShown datagram.items s
 CarriesOut old new Dump s = IsOfScript s
 CarriesOut old new (DumpCapture file chart) s = (bytes : List ℕ) × IsCaptureStatus bytes s
 CarriesOut old new Version s = s ≡ status.Done
+CarriesOut old new (Answer path body datagram) s =
+    PrintsAnswer (server_limits default_limit) (usual 0) path body.now old new 0 client_end 0 datagram.items s
 CarriesOut old new (Pair path body word limit remembered) s = IsPaired old new path body.now word limit remembered s
 CarriesOut old new (Serve port count options script pcap journal) s =
     IsServedAsSaid old new count options script journal s
 CarriesOut old new (Ask server path what options pcap) s = IsAsked old new server path what options s
 CarriesOut old new (Discover server options pcap) s = IsDiscovered old new server options s
-CarriesOut old new _ s = IsCarriedOut s
+CarriesOut old new (Ping server options pcap) s = IsPinged old new options s
 
 -- what telling of a wrong comes to: bad hex is told on standard output, which may fail
 abbrev pub IsTold : Wrong → Result Status Stop → Type 0

@@ -5,7 +5,7 @@ ghost use Rattle.coap_commands.specs.Watches.{WritesLast, WritesLeft, verdict, v
 
 use crate::bearing::bear_in_all;
 use crate::calling::{Outcome, outcome_text};
-use crate::json_lines::write_outcome;
+use crate::json_lines::write_outcome_now;
 use crate::screen::make_way;
 use crate::timekeeper::Timekeeper;
 use crate::waiting::passed;
@@ -73,9 +73,8 @@ fn tell_last<T: Timekeeper, O: Write, E: Write>(
     match left {
         Left::Silent => {}
         Left::Ended(outcome) if is_json => {
-            let at = time.now()?;
             make_way(err);
-            write_outcome(alloc, at, outcome, out)?;
+            write_outcome_now(alloc, outcome, time, out)?;
         }
         Left::Ended(outcome) => {
             let text = outcome_text(alloc, outcome)?;
@@ -112,7 +111,7 @@ pub(crate) fn pause<L: Link, T: Timekeeper>(
     begin: Moment,
     again: u64,
 ) -> Result<Moment, Stop>
-    ensures { IfOk result (λ now. HasPassed again begin.0 now.0) }
+    ensures { IfOk result (λ now. HasPassed again begin.0 now.0 × (before : T) × T.tells before now.0 time.new) }
 {
     let mut buf = [0; MAX_DATAGRAM_LEN];
     // More turns than a program lives.

@@ -16,17 +16,18 @@ ghost use Rattle.coap_commands.specs.Printed.{WritesGot, WritesInWords, WritesSa
 ghost use Rattle.coap_commands.specs.Terms.{setup_of, sizes_of};
 ghost use Rattle.coap_commands.specs.declared.calling.Outcome.TheVariants as outcomes;
 
-use crate::bearing::bear_in_all;
+use crate::bearing::Counting;
 use crate::calling::{Outcome, call, outcome_text};
+use crate::client_turns::turn_now;
 use crate::connection::{Connection, Terms};
 use crate::ends::fresh_client;
-use crate::json_lines::write_outcome;
+use crate::json_lines::write_outcome_now;
 use crate::put_away::put_away;
 use crate::screen::make_way;
 use crate::timekeeper::Timekeeper;
 use crate::waiting::passed;
 use coap_ends::{CallId, Client, Report};
-use coap_links::{Link, fresh_tally, get_turn, send_all};
+use coap_links::{Link, fresh_tally, send_all};
 use coap_scripts::{Status, Stop};
 use coap_types::{Endpoint, Method, Moment, Request};
 use std::alloc::Global;
@@ -65,8 +66,7 @@ fn awaited<H: BuildHasher, L: Link, T: Timekeeper, E: Write>(
     let mut tally = fresh_tally(terms.word);
     // More turns than a program lives.
     for _turn in 0..u64::MAX {
-        let now = connection.time.now()?;
-        get_turn(client, connection.link, now, &mut tally);
+        let now = turn_now(client, connection, Counting::InAll, &mut tally)?;
         if let Some(report) = next_report_of(client, id) {
             send_all(client, connection.link);
             return Ok(Outcome::Reported(report));
@@ -74,7 +74,6 @@ fn awaited<H: BuildHasher, L: Link, T: Timekeeper, E: Write>(
         if let Some(seconds) = passed(terms.give_up, begin, now) {
             return Ok(Outcome::GaveUp(seconds));
         }
-        bear_in_all(connection.link, &tally)?;
     }
     Err(Stop::Failed)
 }
@@ -196,8 +195,7 @@ fn tell_as<T: Timekeeper, O: Write, E: Write>(
     if !is_json {
         return tell(alloc, method, outcome, out, err);
     }
-    let at = time.now()?;
-    write_outcome(alloc, at, outcome, out)?;
+    write_outcome_now(alloc, outcome, time, out)?;
     Ok(status_of(method, outcome))
 }
 

@@ -1,6 +1,6 @@
 //! How much a program of turns bears, before it gives up.
 ghost use Rattle.std.specs.Prelude.{◌≡◌};
-ghost use Rattle.coap_commands.specs.Bearing.{borne, borne_in_a_row, borne_in_all, borne_serving};
+ghost use Rattle.coap_commands.specs.Bearing.{borne, borne_by, borne_in_a_row, borne_in_all, borne_serving};
 
 use coap_arguments::FOREVER;
 use coap_links::{Link, Tally};
@@ -22,6 +22,15 @@ fn bear_failures(failures: u64, tally: &Tally) -> Result<(), Stop>
         return Err(Stop::Failed);
     }
     Ok(())
+}
+
+/// Which failed calls of a link count.
+#[derive(Clone, Copy)]
+pub(crate) enum Counting {
+    /// All, in a program that ends by itself.
+    InAll,
+    /// Those in a row, in one that is run for ever.
+    InARow,
 }
 
 /// Whether the turns of an end over a link go on, in a program that ends by itself: all failed calls count.
@@ -47,5 +56,15 @@ pub fn bear_serving<L: Link>(link: &L, tally: &Tally, count: u64) -> Result<(), 
         bear_in_a_row(tally)
     } else {
         bear_in_all(link, tally)
+    }
+}
+
+/// Whether the turns go on where such failed calls count.
+pub(crate) fn bear<L: Link>(link: &L, tally: &Tally, counting: Counting) -> Result<(), Stop>
+    ensures { result ≡ borne_by counting (L.fault_count link.now) tally.now }
+{
+    match counting {
+        Counting::InAll => bear_in_all(link, tally),
+        Counting::InARow => bear_in_a_row(tally),
     }
 }

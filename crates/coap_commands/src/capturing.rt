@@ -5,7 +5,7 @@ ghost use Rattle.coap_types.specs.declared.endpoint.Endpoint.{Endpoint as Endpoi
 ghost use Rattle.coap_links.specs.declared.trace.Way.{Way as WaySpec};
 ghost use Rattle.coap_pcap.specs.declared.addresses.Addresses.{Addresses as AddressesSpec};
 ghost use Rattle.coap_pcap.specs.Written.{file_head, packet, record_of};
-ghost use Rattle.coap_commands.specs.Capturing.{four_addresses, mapped, six_addresses};
+ghost use Rattle.coap_commands.specs.Capturing.{IsCapturedAt, four_addresses, mapped, six_addresses};
 
 use crate::timekeeper::Timekeeper;
 use coap_links::{PeerNames, SixPeer, Teller, Way};
@@ -153,9 +153,11 @@ impl<P: Standing, A: Allocator + Copy, T: Timekeeper, W: Write> CaptureTeller<P,
 
     // The record of a datagram that goes or comes now.
     fn record(&mut self, way: Way, peer: Endpoint, bytes: &[u8]) -> io::Result<Vec<u8, A>>
-        ensures made { IfOk result (λ made. (at : ℕ) × (addresses : AddressesSpec)
+        ensures made { IfOk result (λ made. (at : ℕ)
+            × IsCapturedAt T.tells self.old.time self.old.begin.0 self.new.time at × (addresses : AddressesSpec)
             × P.stands self.old.standing way peer addresses
             × (made.items ≡ record_of at (packet addresses bytes.now))) }
+        ensures begin { self.new.begin ≡ self.old.begin }
         ensures standing { self.new.standing ≡ self.old.standing }
         ensures out { self.new.out ≡ self.old.out }
         ensures torn { self.new.is_torn ≡ self.old.is_torn }
@@ -175,10 +177,11 @@ impl<P: Standing, A: Allocator + Copy, T: Timekeeper, W: Write> CaptureTeller<P,
 impl<P: Standing, A: Allocator + Copy, T: Timekeeper, W: Write> Teller
     for CaptureTeller<P, A, T, W> {
     ghost use Rattle.std.specs.Prelude.{◌≡◌, ◌⊎◌, true, false};
-    ghost use Rattle.coap_commands.specs.Capturing.{IsCaptured};
+    ghost use Rattle.coap_commands.specs.Capturing.{IsCaptured, IsCapturedAt};
 
     ghost tells = { λ t way peer bytes told u. (told ≡ true
-        → IsCaptured (P.stands t.standing way peer) (W.contents t.out) (W.contents u.out) bytes)
+        → IsCaptured (IsCapturedAt T.tells t.time t.begin.0 u.time) (P.stands t.standing way peer)
+        (W.contents t.out) (W.contents u.out) bytes)
         × (told ≡ false → (u.out ≡ t.out) ⊎ (u.is_torn ≡ true))
         × (t.is_torn ≡ true → (told ≡ false) × (u.out ≡ t.out)) };
 

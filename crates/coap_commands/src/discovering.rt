@@ -131,7 +131,8 @@ fn tell<O: Write, E: Write>(
 
 // The moment that lines of JSON tell, where they are wanted.
 fn told_at<T: Timekeeper>(is_json: bool, time: &mut T) -> Result<Option<Moment>, Stop>
-    ensures { IfOk result (λ at. is_some at ≡ is_json) }
+    ensures wanted { IfOk result (λ at. is_some at ≡ is_json) }
+    ensures told { IfOk result (λ at. IfSome at (λ now. T.tells time.old now.0 time.new)) }
 {
     if is_json {
         Ok(Some(time.now()?))

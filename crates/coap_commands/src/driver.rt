@@ -216,9 +216,9 @@ pub fn command<
     // .. and nothing else is, but for a script that can't be read, or a line of standard input that is no hex.
     ensures words { result ≡ 2 → ((wrong : Wrong) × IsWrong (map string_bytes words.now) wrong
         × (wrong ≢ wrongs.Memory)) ⊎ ((order : Order) × AsksFor (map string_bytes words.now) order × ReadsText order) }
-    // An order is carried out only where the words ask for it, and to that end: what a pair, a server, a request, its
-    // readings and an observation print, and a discovery in words, is then on standard output, behind what was there,
-    // and nothing else of them is.
+    // An order is carried out only where the words ask for it, and to that end: what an answer, a pair, a server, a
+    // request, its readings, an observation and pings print, and a discovery in words, is then on standard output,
+    // behind what was there, and nothing else of them is.
     ensures done { result ≤ 1 → (order : Order) × AsksFor (map string_bytes words.now) order
         × IsCarriedTo (O.contents out.old) (O.contents out.new) order result }
 {

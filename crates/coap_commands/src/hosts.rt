@@ -1,7 +1,7 @@
 //! Where a server is that is asked: by its address, or by its name, which the system looks up.
 ghost use Rattle.std.specs.Prelude.{◌≡◌, IfOk};
 ghost use Rattle.coap_arguments.specs.declared.hosts.Address.TheVariants as addresses;
-ghost use Rattle.coap_commands.specs.Hosts.{IsOfAddress, IsOfServer, IsOfSocket, chosen, is_four};
+ghost use Rattle.coap_commands.specs.Hosts.{IsAmong, IsOfAddress, IsOfServer, IsOfSocket, chosen, is_four};
 
 use coap_arguments::{Address, Host, Server};
 use coap_scripts::{Stop, stop_of};
@@ -100,14 +100,20 @@ fn peer_named<R: AllocGlobal + Net, E: Write>(
     port: u16,
     err: &mut E,
 ) -> Result<Peer, Stop> {
-    let addresses = match looked_up(rt, name, port) {
-        Ok(addresses) => addresses,
+    match looked_up(rt, name, port) {
+        Ok(addresses) => peer_among(name, addresses.as_slice(), err),
         Err(error) => {
             let _ = writeln!(err, "{name}: {error}");
-            return Err(stop_of(&error));
+            Err(stop_of(&error))
         }
-    };
-    match chosen(addresses.as_slice()) {
+    }
+}
+
+// Where the server of this name is, of which the system names these addresses.
+fn peer_among<E: Write>(name: &str, addresses: &[SocketAddr], err: &mut E) -> Result<Peer, Stop>
+    ensures { IfOk result (IsAmong addresses.now) }
+{
+    match chosen(addresses) {
         Some(address) => {
             let _ = writeln!(err, "{name} is at {address}");
             Ok(peer_at_socket(address))

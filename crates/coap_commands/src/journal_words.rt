@@ -184,6 +184,7 @@ pub(crate) fn keeping_of<'a>(
     name: &'a str,
     setup: &'a [u8],
 ) -> Keeping<'a>
+    ensures name { result.name.now ≡ name.now }
     ensures wishes { AreWishesBy options.now says setup.now result.wishes }
     ensures drawn { result.drawn ≡ drawn }
     ensures setup { result.setup.now ≡ setup.now }

@@ -1,5 +1,5 @@
 //! What `--json` prints: an object a line, at once.
-ghost use Rattle.std.specs.Prelude.{◌≡◌, IfOk, OnOk};
+ghost use Rattle.std.specs.Prelude.{◌≡◌, ℕ, IfOk, OnOk};
 ghost use Rattle.std.specs.Io.KnownBytes.{Appends};
 ghost use Rattle.coap_client.specs.Object.Shown.{shown_report};
 ghost use Rattle.coap_json.specs.Objects.{IsLineOf};
@@ -7,6 +7,7 @@ ghost use Rattle.coap_json.specs.ReportObjects.{report_object};
 ghost use Rattle.coap_commands.specs.JsonLines.{WritesObject, outcome_object};
 
 use crate::calling::Outcome;
+use crate::timekeeper::Timekeeper;
 use coap_ends::Report;
 use coap_json::{gave_up_line, refused_line, report_line};
 use coap_scripts::Stop;
@@ -61,4 +62,18 @@ pub fn write_outcome<W: Write>(
 {
     let line = outcome_line(alloc, at, outcome)?;
     write_line(line.as_slice(), out)
+}
+
+/// Writes the line of what became of a request, at the moment that the clock tells.
+pub(crate) fn write_outcome_now<T: Timekeeper, W: Write>(
+    alloc: Global,
+    outcome: &Outcome,
+    time: &mut T,
+    out: &mut W,
+) -> Result<(), Stop>
+    ensures { OnOk result ((ms : ℕ) × T.tells time.old ms time.new
+        × WritesObject (W.contents out.old) (W.contents out.new) (outcome_object ms outcome.now)) }
+{
+    let at = time.now()?;
+    write_outcome(alloc, at, outcome, out)
 }

@@ -1,12 +1,17 @@
 //! The turns of a server that goes on from a journal.
-ghost use Rattle.std.specs.Prelude.{◌≡◌, IfNone, IfOk, OnOk};
+ghost use Rattle.std.specs.Prelude.{◌≡◌, [], IfNone, IfOk, OnOk, Option};
 ghost use Rattle.std.specs.Io.KnownBytes.{Appends};
+ghost use Rattle.coap_journaled.specs.declared.journaled.CommitError.{CommitError as CommitErrorSpec};
+ghost use Rattle.coap_links.specs.Pumping.{SendsAll};
+ghost use Rattle.coap_links.specs.Turning.{Turns};
 ghost use Rattle.coap_resource.specs.Entries.{content_of};
 ghost use Rattle.coap_server.specs.Led.{State};
 ghost use Rattle.coap_server.specs.Object.Shown.{state_of};
+ghost use Rattle.coap_commands.specs.Bearing.{BearsServing};
 ghost use Rattle.coap_commands.specs.Kept.{IsGoneOn};
 ghost use Rattle.coap_commands.specs.Printed.{served_text};
 ghost use Rattle.coap_commands.specs.Served.{FedFrom};
+ghost use Rattle.coap_commands.specs.Serves.{Feeds, Serves};
 ghost use Rattle.coap_scripts.specs.declared.status.Status.TheVariants.{Done};
 
 use crate::changes::{ChangeTeller, TellingEnd};
@@ -17,45 +22,83 @@ use crate::serve::warn;
 use crate::serving::serve_once;
 use crate::timekeeper::Timekeeper;
 use coap_arguments::ServeOptions;
-use coap_ends::Server;
+use coap_ends::{End, Server};
 use coap_journaled::{CommitError, JournalFile, Journaled};
 use coap_kept::{Kept, KeptServer, KeptTime};
 use coap_links::{Link, fresh_tally, send_all};
 use coap_resource::MapStore;
 use coap_scripts::{Status, Stop};
 use coap_types::Moment;
-use std::alloc::Global;
+use std::alloc::{Allocator, Global};
 use std::hash::BuildHasher;
 use std::io::Write;
 
+// An end that commits its inputs.
+trait Committing {
+    // Why the last commit failed, if it did.
+    ghost failed: { Self → Option CommitErrorSpec };
+
+    // Why the last commit failed, if it did.
+    fn failure(&self) -> Option<CommitError>
+        // The failure is the one that the end's own words have.
+        ensures { result ≡ failed self.now };
+}
+
+impl<E: End<A>, F: JournalFile, A: Allocator + Copy, C> Committing
+    for TellingEnd<Kept<E, F, A>, C> {
+    ghost failed = { λ s. s.end.failure };
+
+    fn failure(&self) -> Option<CommitError> {
+        self.end.failure()
+    }
+}
+
 // Takes turns until so many datagrams were fed, or an input isn't kept, and says why then.
-fn keep_until<H: BuildHasher + Drop, F, C, L, T>(
-    server: &mut TellingEnd<Kept<Server<MapStore, Global, H>, F, Global>, C>,
+fn keep_until<A: Allocator + Copy, E: End<A> + Committing, L: Link, T: Timekeeper>(
+    server: &mut E,
     link: &mut L,
     time: &mut T,
     count: u64,
     word: u64,
 ) -> Result<Option<CommitError>, Stop>
-where
-    F: JournalFile + Drop,
-    C: ChangeTeller<Global> + Drop,
-    L: Link,
-    T: Timekeeper,
-    ensures { IfOk result (λ failure. IfNone failure (FedFrom count (state_of content_of server.old.end.journaled.end)
-        (state_of content_of server.new.end.journaled.end))) }
+    ensures feeds { IfOk result (λ failure. IfNone failure (Feeds T.tells
+        (Turns E.waiting E.gives L.sends L.receives L.fault_count E.quiet_feed E.feeds E.quiet_tick E.ticks)
+        (BearsServing L.fault_count count) count word
+        time.old (E.state server.old) link.old time.new (E.state server.new) link.new)) }
+    ensures why { IfOk result (λ failure. failure ≡ E.failed server.new) }
 {
     let mut tally = fresh_tally(word);
     // More turns than a program lives.
     for _turn in 0..u64::MAX {
-        if let Some(why) = server.end.failure() {
+        if let Some(why) = server.failure() {
             return Ok(Some(why));
         }
         if tally.fed >= count {
             return Ok(None);
         }
-        serve_once(server, link, time.now()?, &mut tally, count)?;
+        let now = time.now()?;
+        serve_once(server, link, now, &mut tally, count)?;
     }
     Err(Stop::Failed)
+}
+
+// The same, and then sends what is out.
+fn keep_serving<A: Allocator + Copy, E: End<A> + Committing, L: Link, T: Timekeeper>(
+    server: &mut E,
+    link: &mut L,
+    time: &mut T,
+    count: u64,
+    word: u64,
+) -> Result<Option<CommitError>, Stop>
+    ensures serves { IfOk result (λ failure. IfNone failure (Serves T.tells
+        (Turns E.waiting E.gives L.sends L.receives L.fault_count E.quiet_feed E.feeds E.quiet_tick E.ticks)
+        (BearsServing L.fault_count count) (λ g k f m. SendsAll E.gives L.sends g k (E.waiting g) f m) count word
+        time.old (E.state server.old) link.old time.new (E.state server.new) link.new)) }
+    ensures sent { E.waiting (E.state server.new) ≡ [] }
+{
+    let ended = keep_until(server, link, time, count, word);
+    send_all(server, link);
+    ended
 }
 
 // Says why a server with a journal has ended.
@@ -90,8 +133,7 @@ where
 {
     let (count, word) = turns;
     let mut server = TellingEnd::new(Kept::new(journaled), changes);
-    let ended = keep_until(&mut server, link, time, count, word);
-    send_all(&mut server, link);
+    let ended = keep_serving(&mut server, link, time, count, word);
     put_away(server);
     match ended? {
         None => {

@@ -15,6 +15,7 @@ mod captured;
 mod captured_chart;
 mod capturing;
 mod changes;
+mod client_turns;
 mod closed_port;
 mod connection;
 mod discovering;

@@ -27,18 +27,19 @@ ghost use Rattle.coap_commands.specs.Watches.{IsNoEnd, TakesReport, counted_with
 ghost use Rattle.coap_commands.specs.declared.calling.Outcome.TheVariants.{Reported};
 
 use crate::ask::next_report_of;
-use crate::bearing::bear_in_a_row;
+use crate::bearing::Counting;
 use crate::calling::{Outcome, outcome_text};
+use crate::client_turns::turn_now;
 use crate::connection::{Connection, Terms};
 use crate::ends::fresh_client;
-use crate::json_lines::{write_outcome, write_report};
+use crate::json_lines::{write_outcome_now, write_report};
 use crate::put_away::put_away;
 use crate::screen::make_way;
 use crate::timekeeper::Timekeeper;
 use crate::waiting::{MS_PER_SECOND, passed};
 use coap_arguments::AskOptions;
 use coap_ends::{CallId, CallRefusal, Client, Report};
-use coap_links::{Link, fresh_tally, get_turn, send_all};
+use coap_links::{Link, fresh_tally, send_all};
 use coap_print::hex_or_dash;
 use coap_scripts::{Status, Stop};
 use coap_types::{Endpoint, Moment, Path};
@@ -236,8 +237,7 @@ fn awaited<H: BuildHasher, L: Link, T: Timekeeper, E: Write, W: Write>(
     let mut values = 0;
     // More turns than a program lives.
     for _turn in 0..u64::MAX {
-        let now = connection.time.now()?;
-        get_turn(client, connection.link, now, &mut tally);
+        let now = turn_now(client, connection, Counting::InARow, &mut tally)?;
         let is_over = is_over(options, begin, values, now);
         if let Some(report) = last_report(
             alloc,
@@ -256,7 +256,6 @@ fn awaited<H: BuildHasher, L: Link, T: Timekeeper, E: Write, W: Write>(
             return Ok(Outcome::GaveUp(seconds));
         }
         cancel_at_end(client, id, options, begin, values, now);
-        bear_in_a_row(&tally)?;
     }
     Err(Stop::Failed)
 }
@@ -321,9 +320,8 @@ fn tell<T: Timekeeper, O: Write, E: Write>(
     ensures written { OnOk result (WritesEnd is_json (O.contents out.old) (O.contents out.new) outcome.now) }
 {
     if is_json {
-        let at = time.now()?;
         make_way(err);
-        write_outcome(alloc, at, outcome, out)?;
+        write_outcome_now(alloc, outcome, time, out)?;
     } else {
         say(alloc, outcome, err)?;
     }

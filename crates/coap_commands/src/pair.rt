@@ -1,5 +1,5 @@
 //! `pair`: a client and a server in one process, a PUT and a GET.
-ghost use Rattle.std.specs.Prelude.{◌≡◌, ◌∷◌, List, [], true, false, IfOk, OnOk};
+ghost use Rattle.std.specs.Prelude.{◌≡◌, ◌∷◌, ℕ, List, [], true, false, Ok, IfOk, OnOk};
 ghost use Rattle.coap_types.specs.declared.endpoint.Endpoint.{Endpoint as EndpointSpec};
 ghost use Rattle.coap_types.specs.declared.szx.TheConstants.{MAX_SZX as max_szx};
 ghost use Rattle.coap_block.specs.Sizes.{Sizes};
@@ -11,7 +11,8 @@ ghost use Rattle.coap_client.specs.Led.{Led, State, Step};
 ghost use Rattle.coap_client.specs.Object.CallShown.{shown_request};
 ghost use Rattle.coap_client.specs.Object.Shown.{shown_report};
 ghost use Rattle.coap_client.specs.Trace.{Call};
-ghost use Rattle.coap_commands.specs.Asks.{AsksNothing, Turned, changed_status, takes_report};
+ghost use Rattle.coap_commands.specs.Asks.{AsksNothing, Turned, TurnsAt, changed_status, takes_report};
+ghost use Rattle.coap_commands.specs.Bearing.{borne_in_all};
 ghost use Rattle.coap_commands.specs.Ends.{client_sizes, server_limits};
 ghost use Rattle.coap_commands.specs.Pairs.{CameBack, IsHanded, IsPaired, Pairs, paired_setup};
 ghost use Rattle.coap_commands.specs.Printed.{WritesGet, WritesNamed, WritesPut};
@@ -32,7 +33,7 @@ use coap_layer::Setup;
 use coap_links::{ANY_PORT, LOOPBACK, Link, Tally, UdpLink, fresh_tally, send_all, turn};
 use coap_resource::MapStore;
 use coap_scripts::{Status, Stop, largest_szx};
-use coap_types::{BodyLimit, Endpoint, Moment, Path, Remembered, Request};
+use coap_types::{BodyLimit, Endpoint, Path, Remembered, Request};
 use std::alloc::Global;
 use std::hash::{BuildHasher, RandomState};
 use std::io;
@@ -41,18 +42,23 @@ use std::net::Net;
 use std::random::RandomSource;
 use std::rt::Clock;
 
-// Turns the client, and sends what is out then.
-fn turn_client<H: BuildHasher, C: Link>(
+// Turns the client at the moment that the clock tells, and sends what is out then.
+fn turn_client<H: BuildHasher, C: Link, T: Timekeeper>(
     client: &mut Client<Global, H>,
     link: &mut C,
-    now: Moment,
+    time: &mut T,
     tally: &mut Tally,
-)
-    ensures turned { Turned AsksNothing client.old client.new }
-    ensures sent { client.new.layer.layer.queue ≡ [] }
+) -> Result<(), Stop>
+    ensures told { OnOk result ((now : ℕ) × T.tells time.old now time.new
+        × Turned (TurnsAt now) client.old client.new) }
+    ensures turned { OnOk result (Turned AsksNothing client.old client.new) }
+    ensures sent { OnOk result (client.new.layer.layer.queue ≡ []) }
+    ensures borne { OnOk result (borne_in_all (C.fault_count link.new) tally.new ≡ Ok tt) }
 {
+    let now = time.now()?;
     turn(client, link, now, tally);
     send_all(client, link);
+    bear_in_all(link, tally)
 }
 
 // Turns the client, and then its server, until the client reports of this call.
@@ -69,12 +75,11 @@ fn reported<H: BuildHasher, C: Link, E: End<Global>, S: Link, T: Timekeeper>(
 {
     // More turns than a program lives.
     for _turn in 0..u64::MAX {
-        turn_client(client, link, time.now()?, tally);
-        bear_in_all(link, tally)?;
+        turn_client(client, link, time, tally)?;
         if let Some(report) = next_report_of(client, id) {
             return Ok(report);
         }
-        server.turn(time.now()?)?;
+        server.turn(time)?;
     }
     Err(Stop::Failed)
 }

@@ -1,8 +1,8 @@
 //! `ping`: over a socket.
 ghost use Rattle.std.specs.Prelude.{IfOk};
 ghost use Rattle.coap_commands.specs.Asked.{IsRandom};
+ghost use Rattle.coap_commands.specs.PingLines.{IsPinged};
 ghost use Rattle.coap_commands.specs.Pinged.{PingsBy};
-ghost use Rattle.coap_commands.specs.Statuses.{IsCarriedOut};
 
 use crate::capturing::{begin_of, capture_in};
 use crate::hosts::{Peer, peer_of};
@@ -31,15 +31,16 @@ const DEFAULT_COUNT: u64 = 1;
 const _: () = prove!(DEFAULT_COUNT == 1);
 
 // Sends pings over a link of this source.
-fn ping_from<R: AllocGlobal + Clock + Draws, S: LinkSource, O: Write>(
+fn ping_from<R: AllocGlobal + Draws, S: LinkSource, T: Timekeeper, O: Write>(
     rt: &R,
     source: &S,
-    time: &mut ProgramTime<'_, R>,
+    time: &mut T,
     options: &PingOptions,
     out: &mut O,
 ) -> Result<Status, Stop>
-    ensures ends { IfOk result IsCarriedOut }
-    ensures pings { IfOk result (PingsBy ⟦<S::Link as Link>⟧.sends ⟦<S::Link as Link>⟧.receives (S.reaches source.now)
+    ensures told { IfOk result (IsPinged (O.contents out.old) (O.contents out.new) options.now) }
+    ensures pings { IfOk result (PingsBy ⟦<S::Link as Link>⟧.sends ⟦<S::Link as Link>⟧.receives
+        ⟦<S::Link as Link>⟧.fault_count T.tells (S.reaches source.now)
         (IsRandom (R.draws rt.now)) options.now) }
 {
     let word = random_word(rt)?;
@@ -66,7 +67,7 @@ fn ping_told<R: AllocGlobal + Files + Clock + RandomSource, S: Ends + Drop, O: W
     out: &mut O,
     err: &mut E,
 ) -> Result<Status, Stop>
-    ensures { IfOk result IsCarriedOut }
+    ensures { IfOk result (IsPinged (O.contents out.old) (O.contents out.new) options.now) }
 {
     let mut time = ProgramTime::begin(rt)?;
     let begin = begin_of(rt, time.now()?)?;
@@ -98,7 +99,7 @@ fn ping_six<R: AllocGlobal + Files + Net + Clock + RandomSource, O: Write, E: Wr
     out: &mut O,
     err: &mut E,
 ) -> Result<Status, Stop>
-    ensures { IfOk result IsCarriedOut }
+    ensures { IfOk result (IsPinged (O.contents out.old) (O.contents out.new) options.now) }
 {
     let names = names_for(rt, MAX_PEERS)?;
     let source = SixSource {
@@ -119,7 +120,7 @@ pub(crate) fn ping<R: AllocGlobal + Files + Net + Clock + RandomSource, O: Write
     out: &mut O,
     err: &mut E,
 ) -> Result<Status, Stop>
-    ensures { IfOk result IsCarriedOut }
+    ensures { IfOk result (IsPinged (O.contents out.old) (O.contents out.new) options.now) }
 {
     match peer_of(rt, server, err)? {
         Peer::Four(server) => {

@@ -1,7 +1,9 @@
 //! `ping`: whether somebody is at an endpoint, and how soon it answers (RFC 7252, section 4.3).
-ghost use Rattle.std.specs.Prelude.{◌≡◌, ◌≤◌, ◌+◌, ◌↔◌, true, IfOk, OnOk};
+ghost use Rattle.std.specs.Prelude.{◌≡◌, ◌≤◌, ◌+◌, ◌↔◌, ℕ, Option, true, is_some, IfOk, OnOk};
 ghost use Rattle.std.specs.Io.KnownBytes.{Appends};
+ghost use Rattle.coap_commands.specs.Bearing.{Bears};
 ghost use Rattle.coap_commands.specs.JsonLines.{WritesObject, ping_end_object};
+ghost use Rattle.coap_commands.specs.PingLines.{TellsPings, WritesPing};
 ghost use Rattle.coap_commands.specs.Printed.{ping_text};
 ghost use Rattle.coap_commands.specs.Pinged.{Comes, Drops, Hears, IsGivenUp, IsNext, IsPing, MaySend, Pings};
 
@@ -65,7 +67,9 @@ fn is_given_up(ping: &Ping, give_up: Option<u64>, now: Moment) -> bool
 }
 
 // Whether the pings go on, over a link that failed so often.
-fn bear<L: Link>(link: &L) -> Result<(), Stop> {
+fn bear<L: Link>(link: &L) -> Result<(), Stop>
+    ensures { OnOk result (Bears L.fault_count link.now) }
+{
     bear_in_all(link, &fresh_tally(0))
 }
 
@@ -76,7 +80,8 @@ fn awaited<L: Link, T: Timekeeper>(
     time: &mut T,
     give_up: Option<u64>,
 ) -> Result<Option<u64>, Stop>
-    ensures { IfOk result (λ ms. Comes L.sends L.receives give_up ping.old link.old ms link.new) }
+    ensures { IfOk result (λ ms. Comes L.sends L.receives L.fault_count T.tells give_up
+        time.old ping.old link.old ms time.new link.new) }
 {
     // More turns than a program lives.
     for _turn in 0..u64::MAX {
@@ -102,8 +107,8 @@ fn ping_at<L: Link, T: Timekeeper>(
     word: u64,
     begin: Moment,
 ) -> Result<Option<u64>, Stop>
-    ensures { IfOk result (λ ms. IsPing L.sends L.receives pinging.now.give_up pinging.now.server word begin.0
-        link.old ms link.new) }
+    ensures { IfOk result (λ ms. IsPing L.sends L.receives L.fault_count T.tells pinging.now.give_up
+        pinging.now.server word begin.0 time.old link.old ms time.new link.new) }
 {
     let mut ping = Ping::begin(begin, pinging.server, word);
     link.send(ping.to(), ping.bytes().as_slice());
@@ -112,7 +117,8 @@ fn ping_at<L: Link, T: Timekeeper>(
 
 // Waits until a second has passed since this moment, and drops what comes: the moment at which it has.
 fn pause<L: Link, T: Timekeeper>(link: &mut L, time: &mut T, begin: Moment) -> Result<Moment, Stop>
-    ensures { IfOk result (λ now. (begin.0 + PING_PERIOD_MS ≤ now.0) × Drops L.sends L.receives link.old link.new) }
+    ensures { IfOk result (λ now. (begin.0 + PING_PERIOD_MS ≤ now.0) × (before : T) × T.tells before now.0 time.new
+        × Drops L.sends L.receives L.fault_count T.tells link.old link.new) }
 {
     let mut buf = [0; MAX_DATAGRAM_LEN];
     // More turns than a program lives.
@@ -157,6 +163,25 @@ fn tell_in_json<O: Write>(
     write_line(line.as_slice(), out)
 }
 
+// Says how a ping ended that began at this moment, in JSON where that is wanted.
+fn tell_as<T: Timekeeper, O: Write>(
+    alloc: Global,
+    answer: Option<u64>,
+    is_json: bool,
+    begin: Moment,
+    time: &mut T,
+    out: &mut O,
+) -> Result<(), Stop>
+    ensures { OnOk result (WritesPing is_json (O.contents out.old) (O.contents out.new) answer) }
+{
+    if is_json {
+        let now = time.now()?;
+        tell_in_json(alloc, answer, begin, now, out)
+    } else {
+        tell(answer, out)
+    }
+}
+
 // Sends the ping of this number, from 0, at this moment, and says how it ended.
 fn ping_and_tell<L: Link, T: Timekeeper, O: Write>(
     alloc: Global,
@@ -167,16 +192,14 @@ fn ping_and_tell<L: Link, T: Timekeeper, O: Write>(
     begin: Moment,
     out: &mut O,
 ) -> Result<bool, Stop>
-    ensures { IfOk result (λ answered. IsNext L.sends L.receives pinging.now.give_up pinging.now.server
-        pinging.now.word number begin.0 link.old answered link.new) }
+    ensures next { IfOk result (λ answered. IsNext L.sends L.receives L.fault_count T.tells pinging.now.give_up
+        pinging.now.server pinging.now.word number begin.0 link.old answered link.new) }
+    ensures told { IfOk result (λ answered. (ms : Option ℕ) × (is_some ms ≡ answered)
+        × WritesPing pinging.now.json (O.contents out.old) (O.contents out.new) ms) }
 {
     let word = pinging.word.wrapping_add(number);
     let answer = ping_at(link, time, pinging, word, begin)?;
-    if pinging.json {
-        tell_in_json(alloc, answer, begin, time.now()?, out)?;
-    } else {
-        tell(answer, out)?;
-    }
+    tell_as(alloc, answer, pinging.json, begin, time, out)?;
     Ok(answer.is_some())
 }
 
@@ -190,10 +213,14 @@ pub fn ping_over<L: Link, T: Timekeeper, O: Write>(
     out: &mut O,
 ) -> Result<Status, Stop>
     // Only the Reset of a ping, from where that went to, answers it; it is sent again exactly where a copy of a
-    // Confirmable message is due, and given up after 93 s, or as many as are chosen. The status is 0 where each is
-    // answered, and else 1.
-    ensures { IfOk result (λ status. Pings L.sends L.receives pinging.now.give_up pinging.now.server pinging.now.word
-        pinging.now.count link.old status link.new) }
+    // Confirmable message is due by its clock, and given up at the first moment of that after 93 s, or as many as are
+    // chosen. The status is 0 where each is answered, and else 1.
+    ensures pings { IfOk result (λ status. Pings L.sends L.receives L.fault_count T.tells pinging.now.give_up
+        pinging.now.server pinging.now.word pinging.now.count link.old status link.new) }
+    // How each ping ended is written on a line, in JSON where that is wanted, and nothing else; and the status is 0
+    // exactly where as many lines as pings were wanted say that one was answered.
+    ensures told { IfOk result (TellsPings pinging.now.json pinging.now.count
+        (O.contents out.old) (O.contents out.new)) }
 {
     if pinging.count == 0 {
         return Ok(Status::Done);

@@ -1,13 +1,14 @@
 //! Getting what a server holds at a path again and again, by one client, and printing each reading (RFC 7252, section
 //! 5.8.1).
-ghost use Rattle.std.specs.Prelude.{◌≡◌, ◌↔◌, ◌∷◌, ℕ, List, [], length, true, false, Some, Ok, IfOk, OnOk};
+ghost use Rattle.std.specs.Prelude.{◌≡◌, ◌↔◌, ◌∷◌, ℕ, List, [], length, true, false, None, Some, Ok, IfNone, IfOk};
+ghost use Rattle.std.specs.Prelude.{IfSome, OnOk};
 ghost use Rattle.coap_types.specs.declared.endpoint.Endpoint.{Endpoint as EndpointSpec};
 ghost use Rattle.coap_block.specs.Sizes.{Sizes};
 ghost use Rattle.coap_layer.specs.declared.setup.Setup.{Setup as SetupSpec};
 ghost use Rattle.coap_client.specs.Led.{Led, State};
 ghost use Rattle.coap_arguments.specs.declared.orders.What.TheVariants.{Get};
 ghost use Rattle.coap_commands.specs.Asked.{asked_request};
-ghost use Rattle.coap_commands.specs.Asks.{got_status};
+ghost use Rattle.coap_commands.specs.Asks.{AsksNothing, Turned, TurnsAt, got_status};
 ghost use Rattle.coap_commands.specs.Printed.{WritesReading};
 ghost use Rattle.coap_commands.specs.Polls.{AreWritten, Closes, Goes, HasCome, HasRead, IsLeft, Polls, Reading, Reads};
 ghost use Rattle.coap_commands.specs.Polls.{WritesAs, pending_after, read_status};
@@ -16,11 +17,12 @@ ghost use Rattle.coap_commands.specs.Waiting.{HasPassed};
 ghost use Rattle.coap_commands.specs.declared.calling.Outcome.{Outcome as OutcomeSpec};
 
 use crate::ask::{next_report_of, status_of};
-use crate::bearing::bear_in_a_row;
+use crate::bearing::{Counting, bear_in_a_row};
 use crate::calling::{Outcome, call, outcome_text};
+use crate::client_turns::turn_now;
 use crate::connection::{Connection, Terms};
 use crate::ends::fresh_client;
-use crate::json_lines::write_outcome;
+use crate::json_lines::write_outcome_now;
 use crate::observe::{is_late, print_line};
 use crate::put_away::put_away;
 use crate::request::request_of;
@@ -78,15 +80,13 @@ fn awaited<H: BuildHasher, L: Link, T: Timekeeper, E: Write>(
 {
     // More turns than a program lives.
     for _turn in 0..u64::MAX {
-        let now = connection.time.now()?;
-        get_turn(client, connection.link, now, tally);
+        let now = turn_now(client, connection, Counting::InARow, tally)?;
         if let Some(report) = next_report_of(client, id) {
             return Ok(Outcome::Reported(report));
         }
         if let Some(seconds) = passed(give_up, begin, now) {
             return Ok(Outcome::GaveUp(seconds));
         }
-        bear_in_a_row(tally)?;
     }
     Err(Stop::Failed)
 }
@@ -151,8 +151,7 @@ fn tell_as<T: Timekeeper, O: Write, E: Write>(
     if !options.json {
         return tell(alloc, outcome, options.hex, out, err);
     }
-    let at = time.now()?;
-    write_outcome(alloc, at, outcome, out)?;
+    write_outcome_now(alloc, outcome, time, out)?;
     Ok(status_of(Method::Get, outcome))
 }
 
@@ -225,6 +224,40 @@ fn left_pending<H: BuildHasher>(
     }
 }
 
+// Whether the client is through with the call that it was not through with.
+fn is_through(pending: Option<CallId>) -> bool
+    ensures { result ≡ true → pending ≡ None }
+{
+    match pending {
+        Some(_) => false,
+        None => true,
+    }
+}
+
+// A turn of the client at the moment that the clock tells; or none, and that moment, where the pause may end and so
+// many seconds have passed since it began.
+fn turn_or_end<H: BuildHasher, L: Link, T: Timekeeper, E: Write>(
+    client: &mut Client<Global, H>,
+    connection: &mut Connection<'_, '_, '_, L, T, E>,
+    begin: Moment,
+    every: u64,
+    may_end: bool,
+    tally: &mut Tally,
+) -> Result<Option<Moment>, Stop>
+    ensures told { IfOk result (λ ended. (now : ℕ) × T.tells connection.old.time.now now connection.new.time.now
+        × IfSome ended (λ moment. moment.0 ≡ now) × IfNone ended (Turned (TurnsAt now) client.old client.new)) }
+    ensures ended { IfOk result (λ ended. IfSome ended (λ now. (may_end ≡ true) × HasPassed every begin.0 now.0
+        × (client.new ≡ client.old))) }
+    ensures asks { IfOk result (λ ended. IfNone ended (Turned AsksNothing client.old client.new)) }
+{
+    let now = connection.time.now()?;
+    if may_end && is_late(Some(every), begin, now) {
+        return Ok(Some(now));
+    }
+    get_turn(client, connection.link, now, tally);
+    Ok(None)
+}
+
 // Turns the client until so many seconds have passed since this moment, and it is through with the call: that moment.
 fn pause<H: BuildHasher, L: Link, T: Timekeeper, E: Write>(
     client: &mut Client<Global, H>,
@@ -239,11 +272,10 @@ fn pause<H: BuildHasher, L: Link, T: Timekeeper, E: Write>(
     let mut left = pending;
     // More turns than a program lives.
     for _turn in 0..u64::MAX {
-        let now = connection.time.now()?;
-        if left.is_none() && is_late(Some(every), begin, now) {
+        let may_end = is_through(left);
+        if let Some(now) = turn_or_end(client, connection, begin, every, may_end, tally)? {
             return Ok(now);
         }
-        get_turn(client, connection.link, now, tally);
         left = left_pending(client, left);
         bear_in_a_row(tally)?;
     }
@@ -266,11 +298,12 @@ fn polled<H: BuildHasher, L: Link, T: Timekeeper, O: Write, E: Write>(
     word: u64,
     out: &mut O,
 ) -> Result<Status, Stop>
-    ensures { IfOk result (λ status. (readings : List Reading)
+    ensures polled { IfOk result (λ status. (readings : List Reading)
         × (polling.now.options.now.times ≡ Some (length readings)) × (status ≡ read_status readings)
         × (s : State) × HasRead polling.now.options.now.give_up polling.now.every
         (asked_request Get polling.now.path.now polling.now.options.now []) readings client.old s
         × AreWritten polling.now.options.now readings (O.contents out.old) (O.contents out.new)) }
+    ensures sent { client.old.layer.layer.queue ≡ [] → OnOk result (client.new.layer.layer.queue ≡ []) }
 {
     let times = polling.options.times;
     if is_last(times, 0) {

@@ -1,5 +1,5 @@
 //! The request that the words ask for.
-ghost use Rattle.std.specs.Prelude.{◌≡◌, IfOk, IfSome, take};
+ghost use Rattle.std.specs.Prelude.{◌≡◌, ◌+◌, IfOk, IfSome, take};
 ghost use Rattle.coap_client.specs.Object.CallShown.{shown_request};
 ghost use Rattle.coap_commands.specs.Asked.{IsBody, IsContent, asked_method, asked_request};
 
@@ -105,11 +105,18 @@ fn file_bytes<R: AllocGlobal + Files>(rt: &R, name: &str, limit: BodyLimit) -> R
     } else {
         name
     };
-    let most = (limit.get() as u64).saturating_add(1);
     match fs::open(rt, name) {
-        Ok(file) => read_up_to(rt.alloc(), file, most),
+        Ok(file) => read_over(rt.alloc(), file, limit),
         Err(error) => Err(stop_of(&error)),
     }
+}
+
+// What there is to read; of more than the limit one byte more than that.
+fn read_over<R: Read + Drop>(alloc: Global, file: R, limit: BodyLimit) -> Result<Bytes, Stop>
+    ensures { IfOk result (λ bytes. IfSome (R.remaining file) (λ rest. bytes ≡ take (limit + 1) rest)) }
+{
+    let most = (limit.get() as u64).saturating_add(1);
+    read_up_to(alloc, file, most)
 }
 
 // What there is to read, up to so many bytes.

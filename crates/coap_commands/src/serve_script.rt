@@ -1,5 +1,5 @@
 //! `serve --script`: what a script says of how a server is set up.
-ghost use Rattle.std.specs.Prelude.{◌≡◌, ◌≤◌, ◌∷◌, ℕ, List, true, map, length, IfErr, IfNone, IfOk, IfSome, IsSome};
+ghost use Rattle.std.specs.Prelude.{◌≡◌, ◌≤◌, ◌∷◌, ℕ, List, map, length, IfErr, IfNone, IfOk, IfSome, IsSome};
 ghost use Rattle.std.specs.Prelude.{OnOk};
 ghost use Rattle.std.specs.Io.KnownBytes.{Appends};
 ghost use Rattle.coap_resource.specs.Entries.{content_of};
@@ -12,11 +12,13 @@ ghost use Rattle.coap_types.specs.declared.szx.TheConstants.{MAX_SZX as max_szx}
 ghost use Rattle.coap_scripts.specs.Script.{EachOf, IsFirstBad, lines_of};
 ghost use Rattle.coap_scripts.specs.Settings.{SaysSetting, setting_of};
 ghost use Rattle.coap_commands.specs.Printed.{bad_line_text};
-ghost use Rattle.coap_commands.specs.ScriptSettings.{AreMade, AreOfScript, HoldsBody, IsMade, limit_by, limit_with};
+ghost use Rattle.coap_commands.specs.ScriptSettings.{AreMade, AreOfScript, HoldsIf, IsFirstNotMade, IsMadeIf};
+ghost use Rattle.coap_commands.specs.ScriptSettings.{limit_by, limit_with};
 ghost use Rattle.coap_scripts.specs.declared.status.Status.TheVariants.{Words};
 
+use crate::ends::refusal_of;
 use coap_ends::{DelayRefusal, PlainRefusal, Server};
-use coap_resource::{MapStore, StoreRefusal};
+use coap_resource::MapStore;
 use coap_scripts::{ScriptRefusal, Setting, Status, Stop, settings_of, stop_of};
 use coap_types::{BodyLimit, Moment, Path};
 use std::alloc::Global;
@@ -62,13 +64,15 @@ fn hold<H: BuildHasher + Drop>(
 ) -> Result<bool, Stop>
     ensures { (limits : Limits) (setup : SetupSpec) (t : List Call)
         → Led limits max_szx setup t (state_of content_of server.old)
-        → IfOk result (λ is. is ≡ true → (after : List Call) × HoldsBody path.now format body.now t after
+        → IfOk result (λ is. (after : List Call) × HoldsIf is path.now format body.now t after
         × Led limits max_szx setup after (state_of content_of server.new)) }
 {
     match server.set(Moment(0), path, Some(format), body) {
         Ok(_) => Ok(true),
-        Err(StoreRefusal::Memory) => Err(Stop::Memory),
-        Err(_) => Ok(false),
+        Err(refusal) => {
+            let _why = refusal_of(refusal)?;
+            Ok(false)
+        }
     }
 }
 
@@ -80,8 +84,7 @@ fn delay<H: BuildHasher + Drop>(
 ) -> Result<bool, Stop>
     ensures { (limits : Limits) (setup : SetupSpec) (t : List Call)
         → Led limits max_szx setup t (state_of content_of server.old)
-        → IfOk result (λ is. is ≡ true
-        → Led limits max_szx setup (Delays path.now ms true ∷ t) (state_of content_of server.new)) }
+        → IfOk result (λ is. Led limits max_szx setup (Delays path.now ms is ∷ t) (state_of content_of server.new)) }
 {
     match server.set_delay(path, ms) {
         Ok(()) => Ok(true),
@@ -97,8 +100,7 @@ fn plain<H: BuildHasher + Drop>(
 ) -> Result<bool, Stop>
     ensures { (limits : Limits) (setup : SetupSpec) (t : List Call)
         → Led limits max_szx setup t (state_of content_of server.old)
-        → IfOk result (λ is. is ≡ true
-        → Led limits max_szx setup (Plains path.now true ∷ t) (state_of content_of server.new)) }
+        → IfOk result (λ is. Led limits max_szx setup (Plains path.now is ∷ t) (state_of content_of server.new)) }
 {
     match server.set_plain(path) {
         Ok(()) => Ok(true),
@@ -114,7 +116,7 @@ fn make<H: BuildHasher + Drop>(
 ) -> Result<bool, Stop>
     ensures { (limits : Limits) (setup : SetupSpec) (t : List Call)
         → Led limits max_szx setup t (state_of content_of server.old)
-        → IfOk result (λ is. is ≡ true → (after : List Call) × IsMade (setting_of setting.now) t after
+        → IfOk result (λ is. (after : List Call) × IsMadeIf is (setting_of setting.now) t after
         × Led limits max_szx setup after (state_of content_of server.new)) }
 {
     match setting {
@@ -135,6 +137,13 @@ pub fn make_all<H: BuildHasher + Drop>(
     ensures made { (limits : Limits) (setup : SetupSpec) (t : List Call)
         → Led limits max_szx setup t (state_of content_of server.old)
         → IfOk result (λ bad. IfNone bad ((after : List Call) × AreMade (map setting_of settings.now) t after
+        × Led limits max_szx setup after (state_of content_of server.new))) }
+    // The line that is named is the first that the server doesn't take: its store refuses that, or there is no place
+    // for one more such path.
+    ensures refused { (limits : Limits) (setup : SetupSpec) (t : List Call)
+        → Led limits max_szx setup t (state_of content_of server.old)
+        → IfOk result (λ bad. IfSome bad (λ line. (after : List Call)
+        × IsFirstNotMade (map setting_of settings.now) line.0 t after
         × Led limits max_szx setup after (state_of content_of server.new))) }
     // A line that a server doesn't take is one of those that its script has.
     ensures bad { IfOk result (λ bad. IfSome bad (λ line. (1 ≤ line.0) × (line.0 ≤ length settings.now))) }

@@ -3,6 +3,7 @@ ghost use Rattle.std.specs.Prelude.{◌≡◌, IfOk, OnOk};
 ghost use Rattle.std.specs.Io.KnownBytes.{Appends};
 ghost use Rattle.coap_links.specs.Pumping.{SendsAll};
 ghost use Rattle.coap_links.specs.Turning.{Turns};
+ghost use Rattle.coap_commands.specs.Bearing.{BearsServing, borne_serving};
 ghost use Rattle.coap_commands.specs.Printed.{served_text};
 ghost use Rattle.coap_commands.specs.Serves.{Feeds, Serves};
 ghost use Rattle.coap_scripts.specs.declared.status.Status.TheVariants.{Done};
@@ -24,8 +25,9 @@ pub(crate) fn serve_once<A: Allocator + Copy, E: End<A>, L: Link>(
     tally: &mut Tally,
     count: u64,
 ) -> Result<(), Stop>
-    ensures { OnOk result (Turns E.waiting E.gives L.sends L.receives L.fault_count E.quiet_feed E.feeds E.quiet_tick
-        E.ticks (E.state server.old) link.old now.0 tally.old (E.state server.new) link.new tally.new) }
+    ensures turned { Turns E.waiting E.gives L.sends L.receives L.fault_count E.quiet_feed E.feeds E.quiet_tick
+        E.ticks (E.state server.old) link.old now.0 tally.old (E.state server.new) link.new tally.new }
+    ensures borne { result ≡ borne_serving count (L.fault_count link.new) tally.new }
 {
     serve_turn(server, link, now, tally);
     bear_serving(link, tally, count)
@@ -39,9 +41,10 @@ fn serve_until<A: Allocator + Copy, E: End<A>, L: Link, T: Timekeeper>(
     count: u64,
     word: u64,
 ) -> Result<(), Stop>
-    ensures { IfOk result (λ _. Feeds
-        (Turns E.waiting E.gives L.sends L.receives L.fault_count E.quiet_feed E.feeds E.quiet_tick E.ticks) count word
-        (E.state server.old) link.old (E.state server.new) link.new) }
+    ensures { IfOk result (λ _. Feeds T.tells
+        (Turns E.waiting E.gives L.sends L.receives L.fault_count E.quiet_feed E.feeds E.quiet_tick E.ticks)
+        (BearsServing L.fault_count count) count word
+        time.old (E.state server.old) link.old time.new (E.state server.new) link.new) }
 {
     let mut tally = fresh_tally(word);
     // More turns than a program lives.
@@ -49,7 +52,8 @@ fn serve_until<A: Allocator + Copy, E: End<A>, L: Link, T: Timekeeper>(
         if tally.fed >= count {
             return Ok(());
         }
-        serve_once(server, link, time.now()?, &mut tally, count)?;
+        let now = time.now()?;
+        serve_once(server, link, now, &mut tally, count)?;
     }
     Err(Stop::Failed)
 }
@@ -64,12 +68,13 @@ pub fn serve_over<A: Allocator + Copy, E: End<A>, L: Link, T: Timekeeper, W: Wri
     word: u64,
     out: &mut W,
 ) -> Result<Status, Stop>
-    // A `serve` over any link ends with status 0, or stops: it ends after turns alone, once so many datagrams were fed
-    // and no later, and has sent what was out then.
-    ensures serves { IfOk result (λ status. (status ≡ Done) × Serves
+    // A `serve` over any link ends with status 0, or stops: it ends after turns alone, each at the moment that its
+    // clock tells, once so many datagrams were fed and no later, and has sent what was out then. It goes on only where
+    // it bears what failed.
+    ensures serves { IfOk result (λ status. (status ≡ Done) × Serves T.tells
         (Turns E.waiting E.gives L.sends L.receives L.fault_count E.quiet_feed E.feeds E.quiet_tick E.ticks)
-        (λ g k f m. SendsAll E.gives L.sends g k (E.waiting g) f m) count word
-        (E.state server.old) link.old (E.state server.new) link.new) }
+        (BearsServing L.fault_count count) (λ g k f m. SendsAll E.gives L.sends g k (E.waiting g) f m) count word
+        time.old (E.state server.old) link.old time.new (E.state server.new) link.new) }
     // What it prints is how many datagrams were to be fed, and nothing else.
     ensures printed { OnOk result (Appends (W.contents out.old) (W.contents out.new) (served_text count)) }
 {

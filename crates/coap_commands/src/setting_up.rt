@@ -173,7 +173,7 @@ fn set_up_by<H: BuildHasher + Drop>(
     ensures refused { (limits : Limits) (setup : SetupSpec) (t : List Call)
         → Led limits max_szx setup t (state_of content_of server.old)
         → IfOk result (λ why. IfSome why (IsRefused (λ after. Led limits max_szx setup after
-        (state_of content_of server.new)) options.now t)) }
+        (state_of content_of server.new)) options.now (map setting_of settings.now) t)) }
 {
     if let Some(refusal) = set_up(alloc, server, options)? {
         return Ok(Some(NotSetUp::Refused(refusal)));
@@ -199,7 +199,8 @@ pub fn server_by<H: BuildHasher + Drop>(
         (state_of content_of server))) }
     // A line of the script is named only where the script has one.
     ensures bad { IfOk result (λ made. IfErr made (IsOfSettings (map setting_of settings.now))) }
-    // A server is refused only where its store, which was empty, refused to set what the words name.
+    // A server is refused only where its store, which was empty, refused to set what the words name, or where it then
+    // didn't take the line that is named, and was as each before that says.
     ensures refused { IfOk result (λ made. IfErr made (IsRefusedAfter (record { word = word; base = 0 }) options.now
         (map setting_of settings.now))) }
 {
@@ -225,7 +226,8 @@ pub fn server_after<H: BuildHasher + Drop>(
         (map setting_of settings.now) (state_of content_of server))) }
     // A line is named only of a script that has one.
     ensures bad { IfOk result (λ made. IfErr made (IsOfSettings (map setting_of settings.now))) }
-    // `serve` refuses only where the store of its server, which was empty, refused to set what its words name.
+    // `serve` refuses only where the store of its server, which was empty, refused to set what its words name, or where
+    // it then didn't take the line that is named, and was as each before that says.
     ensures refused { IfOk result (λ made. IfErr made (IsRefusedAfter origin options.now
         (map setting_of settings.now))) }
 {

@@ -1,11 +1,14 @@
 //! An end over a link.
-ghost use Rattle.std.specs.Prelude.{◌≡◌, []};
+ghost use Rattle.std.specs.Prelude.{◌≡◌, ℕ, [], Ok, OnOk};
+ghost use Rattle.coap_links.specs.Pumping.{SendsAll};
+ghost use Rattle.coap_links.specs.Turning.{Turns};
+ghost use Rattle.coap_commands.specs.Bearing.{borne_in_all};
 
 use crate::bearing::bear_in_all;
+use crate::timekeeper::Timekeeper;
 use coap_ends::End;
 use coap_links::{Link, Tally, fresh_tally, send_all, turn};
 use coap_scripts::Stop;
-use coap_types::Moment;
 use std::alloc::Global;
 
 /// An end, the link that it sends over, and what counts over its turns.
@@ -26,11 +29,20 @@ impl<'a, E: End<Global>, L: Link> Side<'a, E, L> {
         }
     }
 
-    /// One turn, after which what is out is sent at once, and the other end need not wait for it.
-    pub fn turn(&mut self, now: Moment) -> Result<(), Stop>
+    /// One turn at the moment that the clock tells, after which what is out is sent at once, and the other end need not
+    /// wait for it.
+    pub fn turn<T: Timekeeper>(&mut self, time: &mut T) -> Result<(), Stop>
         // Behind a turn of an end nothing is out.
-        ensures { E.waiting (E.state self.new.end.now) ≡ [] }
+        ensures empty { OnOk result (E.waiting (E.state self.new.end.now) ≡ []) }
+        // An end is turned at the moment that its clock tells.
+        ensures turned { OnOk result ((now : ℕ) × T.tells time.old now time.new × (turned : E.State) × (link : L)
+            × Turns E.waiting E.gives L.sends L.receives L.fault_count E.quiet_feed E.feeds E.quiet_tick E.ticks
+            (E.state self.old.end.now) self.old.link.now now self.old.tally turned link self.new.tally
+            × SendsAll E.gives L.sends turned link (E.waiting turned) (E.state self.new.end.now) self.new.link.now) }
+        // An end that was turned goes on only where its program bears what failed.
+        ensures borne { OnOk result (borne_in_all (L.fault_count self.new.link.now) self.new.tally ≡ Ok tt) }
     {
+        let now = time.now()?;
         turn(self.end, self.link, now, &mut self.tally);
         send_all(self.end, self.link);
         bear_in_all(self.link, &self.tally)

@@ -1,20 +1,22 @@
 //! Observing a path, and observing it anew where nothing comes for long or the server ended that (RFC 7641).
-ghost use Rattle.std.specs.Prelude.{◌≡◌, ℕ, List, [], Option, Result, Ok, IfOk};
+ghost use Rattle.std.specs.Prelude.{◌≡◌, ℕ, Bool, List, [], Option, Result, Ok, IfOk};
 ghost use Rattle.std.specs.declared.alloc.Global.{Global};
 ghost use Rattle.coap_client.specs.Led.{State, Step};
 ghost use Rattle.coap_client.specs.Trace.{Observes as observes};
 ghost use Rattle.coap_client.specs.declared.client.report.Report as R;
 ghost use Rattle.coap_commands.specs.Terms.{asked_terms, setup_of, sizes_of};
 ghost use Rattle.coap_commands.specs.Watches.{Follows, IsFollowed, IsLeft, IsLeftBy, IsRegistered, IsRegisteredNext};
-ghost use Rattle.coap_commands.specs.Watches.{Watches};
+ghost use Rattle.coap_commands.specs.Observes.{Decides};
+ghost use Rattle.coap_commands.specs.Watches.{Watches, verdict};
 ghost use Rattle.coap_commands.specs.declared.anew.Left.{Left as LeftSpec};
 ghost use Rattle.coap_commands.specs.declared.anew.Left.TheVariants as lefts;
 ghost use Rattle.coap_commands.specs.declared.calling.Outcome.TheVariants.{Reported};
 ghost use Rattle.coap_client.specs.declared.refusals.CallRefusal.{CallRefusal as CallRefusalSpec};
 
 use crate::anew::{Left, pause, tell_left, verdict};
-use crate::bearing::bear_in_a_row;
+use crate::bearing::Counting;
 use crate::calling::Outcome;
+use crate::client_turns::turn_now;
 use crate::connection::{Connection, Terms};
 use crate::ends::fresh_client;
 use crate::leaving::{Heard, last_report, left_at};
@@ -24,7 +26,7 @@ use crate::put_away::put_away;
 use crate::timekeeper::Timekeeper;
 use coap_arguments::AskOptions;
 use coap_ends::{CallId, Client};
-use coap_links::{Link, fresh_tally, get_turn, send_all};
+use coap_links::{Link, fresh_tally, send_all};
 use coap_scripts::{Status, Stop};
 use coap_types::{Endpoint, Moment, Path};
 use std::alloc::Global;
@@ -65,8 +67,7 @@ fn awaited<H: BuildHasher, L: Link, T: Timekeeper, E: Write, W: Write>(
     let mut tally = fresh_tally(word);
     // More turns than a program lives.
     for _turn in 0..u64::MAX {
-        let now = connection.time.now()?;
-        get_turn(client, connection.link, now, &mut tally);
+        let now = turn_now(client, connection, Counting::InARow, &mut tally)?;
         if let Some(report) = last_report(
             alloc,
             client,
@@ -91,7 +92,6 @@ fn awaited<H: BuildHasher, L: Link, T: Timekeeper, E: Write, W: Write>(
         ) {
             return Ok(left);
         }
-        bear_in_a_row(&tally)?;
     }
     Err(Stop::Failed)
 }
@@ -149,6 +149,23 @@ fn observed_once<H: BuildHasher + Drop, L: Link, T: Timekeeper, E: Write, W: Wri
     left
 }
 
+// With which status the program ends where a registration is left so, at the moment that the clock tells; None: the
+// path is observed anew.
+fn verdict_now<T: Timekeeper>(
+    watching: &Watching<'_, '_>,
+    left: &Left,
+    heard: Heard,
+    time: &mut T,
+) -> Result<Option<Status>, Stop>
+    ensures { IfOk result (λ verdicted. (now : ℕ) × T.tells time.old now time.new × (is_over : Bool)
+        × Decides watching.now.options.now heard.since.0 heard.values now is_over
+        × (verdicted ≡ verdict left.now is_over)) }
+{
+    let now = time.now()?;
+    let is_over = is_over(watching.options, heard.since, heard.values, now);
+    Ok(verdict(left, is_over))
+}
+
 // What follows a registration that began at this moment: the end of the program with this status; or, where there is
 // none, another registration once so many seconds have passed, at the moment that is heard last then.
 fn follow<L: Link, T: Timekeeper, E: Write>(
@@ -195,9 +212,7 @@ fn observed_and_told<H: BuildHasher + Drop, L: Link, T: Timekeeper, E: Write, W:
     let left = observed_once(
         alloc, connection, server, hasher, watching, word, heard, out,
     )?;
-    let now = connection.time.now()?;
-    let is_over = is_over(watching.options, heard.since, heard.values, now);
-    let verdict = verdict(&left, is_over);
+    let verdict = verdict_now(watching, &left, *heard, connection.time)?;
     let told = tell_left(
         alloc,
         &left,

@@ -1,7 +1,7 @@
 use Rattle.std.proofs.Common.{◌≡◌, Option, Some, None, IfNone, refl}
 use Rattle.coap_client.specs.Trace.{NextReport}
 use Rattle.coap_commands.specs.Asks.{TurnsAt, TurnsInTime}
-use Rattle.coap_commands.proofs.TurnCalls.{client_turned_at, turned_by, turned_here, turned_on}
+use Rattle.coap_commands.proofs.TurnCalls.{turned_by, turned_here, turned_on}
 use Rattle.coap_commands.proofs.WaitedTurns.{turned_in_time}
 use Rattle.coap_commands.proofs.ask.awaited.Goals as goal
 
@@ -20,7 +20,7 @@ loop-turn-preserved g c =
     (turned_on like _ _ _ c.loop-turn.invariant
     (turned_in_time c.args.terms.now.give_up c.args.begin.0 c.in_ok-now.now.0 _ _
     (none_is _ _ c.passed.ensures.none c.in_default-passed.is)
-    (client_turned_at _ _ _ _ _ _ _ _ _ _ _ _ _ c.get_turn.ensures)))
+    c.in_ok-now.ensures.turned))
     (turned_by like _ _ (NextReport other.0) tt other.1)
 
 pub returns-in-Some-clause-comes : goal.returns-in-Some-clause-comes
@@ -29,7 +29,7 @@ returns-in-Some-clause-comes g c = (
   c.loop-turn.invariant,
   _,
   _,
-  client_turned_at _ _ _ _ _ _ _ _ _ _ _ _ _ c.get_turn.ensures,
+  c.in_ok-now.ensures.turned,
   _,
   c.in-Some.ensures.some,
 )
@@ -44,6 +44,6 @@ returns-in-Some-passed-clause-comes g c =
       c.in_ok-now.now.0,
       c.in-Some-passed.ensures.some.1,
       _,
-      turned_on like _ _ _ (client_turned_at _ _ _ _ _ _ _ _ _ _ _ _ _ c.get_turn.ensures)
+      turned_on like _ _ _ c.in_ok-now.ensures.turned
           (turned_by like _ _ (NextReport other.0) tt other.1),
     )

@@ -41,5 +41,5 @@ returns g c =
     let new = contents c.tell.new.out in
     shown (λ server sizes w. Led server sizes w [] c.args.client.now) c.args.terms.now.json old new _ _ outcome
     c.tell.result c.in_ok-outcome.ensures c.tell.ensures.shown
-    (subst (λ (is_json : Bool). IfOk c.tell.result (WritesFound is_json old new outcome)) c.in_ok-json.ensures
+    (subst (λ (is_json : Bool). IfOk c.tell.result (WritesFound is_json old new outcome)) c.in_ok-json.ensures.wanted
     (found c.in_ok-json.json c.tell.result old new outcome c.tell.ensures.written c.tell.ensures.told))

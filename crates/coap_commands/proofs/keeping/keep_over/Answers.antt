@@ -15,7 +15,8 @@ returns-in-Ok g c =
     if_ok c.go_on_kept.result
     (λ s gone. (
       keeping,
-      subst (λ (says : Says). IsKeepingBy options says keeping) c.says_of-says.ensures record {
+      subst (λ (says : Says). IsKeepingBy options c.args.journal.file.now says keeping) c.says_of-says.ensures record {
+        name = of.name;
         wishes = subst (λ (inputs : List ℕ). AreWishesBy options says inputs keeping.wishes) inputs of.wishes;
         drawn = subst (λ (b : Beginning). IsDrawnBy options says b) (sym of.drawn) c.in_ok-drawn.ensures.words;
         setup = of.setup ∙ inputs;

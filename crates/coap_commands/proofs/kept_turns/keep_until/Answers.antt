@@ -1,22 +1,23 @@
-use Rattle.std.proofs.Common.{ap, arith, refl}
+use Rattle.std.proofs.Common.{◌∙◌, arith, subst, sym}
+use Rattle.coap_links.specs.Turning.{Turns}
 use Rattle.coap_links.specs.declared.tally.Tally.{Tally}
-use Rattle.coap_resource.specs.Entries.{content_of}
-use Rattle.coap_server.specs.Object.Shown.{state_of}
-use Rattle.coap_commands.proofs.KeptCalls.{enough_fed, kept_turn}
-use Rattle.coap_commands.proofs.ServedCalls.{fed_here, most_on, most_same}
+use Rattle.coap_commands.specs.Bearing.{BearsServing}
+use Rattle.coap_commands.specs.Serves.{Turning, further, none, nothing_fed}
 use Rattle.coap_commands.proofs.kept_turns.keep_until.Goals as goal
 
 pub loop-turn-init : goal.loop-turn-init
 loop-turn-init g c =
-    let at = state_of content_of c.args.server.now.end.journaled.end in
-    most_same 0 _ at at (ap (λ (t : Tally). t.fed) c.fresh_tally-tally.ensures) (fed_here at at refl)
+    let end = g.E.End in
+    let link = g.L.Link in
+    let at = end.state c.args.server.now in
+    subst (λ (t : Tally). Turning g.T.Timekeeper.tells
+    (Turns end.waiting end.gives link.sends link.receives link.fault_count end.quiet_feed end.feeds end.quiet_tick
+    end.ticks)
+    (BearsServing link.fault_count c.args.count) c.args.count c.args.time.now at c.args.link.now
+    (nothing_fed c.args.word) c.args.time.now at c.args.link.now t) (sym c.fresh_tally-tally.ensures)
+    none
 
 pub loop-turn-preserved : goal.loop-turn-preserved
 loop-turn-preserved g c =
-    most_on 0 _ _ _ _ _ c.loop-turn.invariant
-    (kept_turn g.F.JournalFile.appends g.F.JournalFile.syncs _ g.L.Link.sends g.L.Link.receives g.L.Link.fault_count
-    _ _ _ _ _ _ _ c.in_ok-serve_once.ensures)
-
-pub returns-then-tally-count : goal.returns-then-tally-count
-returns-then-tally-count g c = enough_fed c.args.count _ _ _
-    (omega (arith, c.if-tally-count.true)) c.loop-turn.invariant
+    further _ _ _ _ _ _ _ _ _ c.loop-turn.invariant (omega (arith, c.if-tally-count.false)) c.in_ok-now.ensures
+    c.in_ok-serve_once.ensures.turned (sym c.serve_once.ensures.borne ∙ c.in_ok-serve_once.was)

@@ -1,10 +1,15 @@
-use Rattle.coap_resource.specs.Entries.{content_of}
-use Rattle.coap_server.specs.Object.Shown.{state_of}
-use Rattle.coap_commands.proofs.ServedCalls.{FedMost}
+use Rattle.coap_links.specs.Turning.{Turns}
+use Rattle.coap_commands.specs.Bearing.{BearsServing}
+use Rattle.coap_commands.specs.Serves.{Turning, nothing_fed}
 use Rattle.coap_commands.proofs.kept_turns.keep_until.Given as goal
 
--- so far the tally counts no more than was fed
+-- so far turns alone led here
 abbrev pub invariant-loop-turn : goal.invariant-loop-turn
 invariant-loop-turn g l =
-    FedMost 0 l.tally.fed (state_of content_of l.fn.server.end.journaled.end)
-    (state_of content_of l.server.end.journaled.end)
+    let end = g.E.End in
+    let link = g.L.Link in
+    Turning g.T.Timekeeper.tells
+    (Turns end.waiting end.gives link.sends link.receives link.fault_count end.quiet_feed end.feeds
+    end.quiet_tick end.ticks)
+    (BearsServing link.fault_count l.fn.count) l.fn.count
+    l.fn.time (end.state l.fn.server) l.fn.link (nothing_fed l.fn.word) l.time (end.state l.server) l.link l.tally

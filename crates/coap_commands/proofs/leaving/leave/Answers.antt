@@ -9,6 +9,6 @@ returns g c = (
   c.cancel-answer.ensures.step,
   turned_on AsksNothing _ _ _
       (client_turned AsksNothing (λ call is. is) _ _ _ _ _ _ _ _ _ _ _ _ _ c.get_turn.ensures)
-      (client_sent AsksNothing (λ call is. is) _ _ _ _ _ _ c.send_all.ensures.chain),
+      (client_sent AsksNothing (λ p. tt) _ _ _ _ _ _ c.send_all.ensures.chain),
   c.send_all.ensures.empty,
 )

@@ -1,9 +1,7 @@
 use Rattle.std.proofs.Common.{◌≡◌, ◌∙◌, Option, Some, None, IfNone, IfSome, subst, sym}
 use Rattle.coap_client.specs.Object.Shown.{shown_report}
-use Rattle.coap_commands.specs.Asks.{AsksNothing}
 use Rattle.coap_commands.specs.ObservedTurns.{at_first, on}
 use Rattle.coap_commands.proofs.ObservedCalls.{observed_here, observed_on, written_taken}
-use Rattle.coap_commands.proofs.TurnCalls.{client_turned, client_turned_at}
 use Rattle.coap_commands.proofs.observe.awaited.Goals as goal
 
 none_is : {X : Type 0} (P : Type 0) (o : Option X) → IfNone o P → o ≡ None → P
@@ -29,10 +27,10 @@ loop-turn-preserved g c =
           (none_is _ _
           (c.in_ok-report.ensures.more options begin c.args.client.now
           (observed_on options begin c.args.id.0 _ _ _ _ c.loop-turn.invariant.observed
-          (client_turned AsksNothing (λ call is. is) _ _ _ _ _ _ _ _ _ _ _ _ _ c.get_turn.ensures)))
+          c.in_ok-now.ensures.asks))
           c.in_default.is);
       written = on _ _ _ c.in_ok-now.now more.0 _ _ _ _ c.loop-turn.invariant.written
-          (_, client_turned_at _ _ _ _ _ _ _ _ _ _ _ _ _ c.get_turn.ensures, more.1) more.2 more.3
+          (_, c.in_ok-now.ensures.turned, more.1) more.2 more.3
           (written_taken options begin _ c.in_ok-now.now _ _ more.0 _ _ c.is_over-is_over.ensures c.of.ensures more.4)
           (none_is _ _ c.given_up.ensures.none c.in_default-given_up.is)
           (c.cancel_at_end.ensures.cancels, c.cancel_at_end.ensures.goes_on);
@@ -45,7 +43,7 @@ returns-in-Some-clause-comes g c =
       _,
       _,
       observed_on c.args.options.now c.args.begin.0 c.args.id.0 _ _ _ _ c.loop-turn.invariant.observed
-          (client_turned AsksNothing (λ call is. is) _ _ _ _ _ _ _ _ _ _ _ _ _ c.get_turn.ensures),
+          c.in_ok-now.ensures.asks,
       last.0,
       last.1,
     )
@@ -58,7 +56,7 @@ returns-in-Some-given_up-clause-comes g c = (
   none_is _ _
       (c.in_ok-report.ensures.more c.args.options.now c.args.begin.0 c.args.client.now
       (observed_on c.args.options.now c.args.begin.0 c.args.id.0 _ _ _ _ c.loop-turn.invariant.observed
-      (client_turned AsksNothing (λ call is. is) _ _ _ _ _ _ _ _ _ _ _ _ _ c.get_turn.ensures)))
+      c.in_ok-now.ensures.asks))
       c.in_default.is,
 )
 
@@ -73,7 +71,7 @@ returns-in-Some-clause-written g c =
         _,
         c.loop-turn.invariant.written,
         _,
-        (_, client_turned_at _ _ _ _ _ _ _ _ _ _ _ _ _ c.get_turn.ensures, last.0),
+        (_, c.in_ok-now.ensures.turned, last.0),
         written_taken c.args.options.now c.args.begin.0 _ c.in_ok-now.now _ _ (Some (shown_report c.in-Some.report)) _ _
             c.is_over-is_over.ensures c.of.ensures last.3,
       ),
@@ -95,7 +93,7 @@ returns-in-Some-given_up-clause-written g c =
         _,
         c.loop-turn.invariant.written,
         _,
-        (_, client_turned_at _ _ _ _ _ _ _ _ _ _ _ _ _ c.get_turn.ensures, more.1),
+        (_, c.in_ok-now.ensures.turned, more.1),
         written_taken c.args.options.now c.args.begin.0 _ c.in_ok-now.now _ _ more.0 _ _ c.is_over-is_over.ensures
             c.of.ensures more.4,
       ),

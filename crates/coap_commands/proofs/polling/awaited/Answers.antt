@@ -2,7 +2,7 @@ use Rattle.std.proofs.Common.{◌≡◌, Option, Some, None, IfNone, refl}
 use Rattle.coap_client.specs.Trace.{NextReport}
 use Rattle.coap_commands.specs.Asks.{TurnsAt, TurnsInTime}
 use Rattle.coap_commands.proofs.PolledCalls.{come_given_up, come_report}
-use Rattle.coap_commands.proofs.TurnCalls.{client_turned_at, turned_by, turned_here, turned_on}
+use Rattle.coap_commands.proofs.TurnCalls.{turned_by, turned_here, turned_on}
 use Rattle.coap_commands.proofs.WaitedTurns.{turned_in_time}
 use Rattle.coap_commands.proofs.polling.awaited.Goals as goal
 
@@ -21,13 +21,13 @@ loop-turn-preserved g c =
     (turned_on like _ _ _ c.loop-turn.invariant
     (turned_in_time c.args.give_up c.args.begin.0 c.in_ok-now.now.0 _ _
     (none_is _ _ c.passed.ensures.none c.in_default-passed.is)
-    (client_turned_at _ _ _ _ _ _ _ _ _ _ _ _ _ c.get_turn.ensures)))
+    c.in_ok-now.ensures.turned))
     (turned_by like _ _ (NextReport other.0) tt other.1)
 
 pub returns-in-Some : goal.returns-in-Some
 returns-in-Some g c =
     come_report c.args.give_up c.args.begin.0 c.args.id c.in-Some.report _ _ _ _ c.in_ok-now.now.0
-    c.loop-turn.invariant (client_turned_at _ _ _ _ _ _ _ _ _ _ _ _ _ c.get_turn.ensures) c.in-Some.ensures.some
+    c.loop-turn.invariant c.in_ok-now.ensures.turned c.in-Some.ensures.some
 
 pub returns-in-Some-passed : goal.returns-in-Some-passed
 returns-in-Some-passed g c =
@@ -35,5 +35,5 @@ returns-in-Some-passed g c =
     let other = none_is _ _ c.next_report_of.ensures.other c.in_default.is in
     come_given_up c.args.give_up c.args.begin.0 c.args.id _ _ _ _ c.in_ok-now.now.0 c.in-Some-passed.ensures.some.0
     c.in-Some-passed.ensures.some.1 c.loop-turn.invariant
-    (turned_on like _ _ _ (client_turned_at _ _ _ _ _ _ _ _ _ _ _ _ _ c.get_turn.ensures)
+    (turned_on like _ _ _ c.in_ok-now.ensures.turned
     (turned_by like _ _ (NextReport other.0) tt other.1))

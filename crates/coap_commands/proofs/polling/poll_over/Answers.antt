@@ -18,4 +18,4 @@ returns g c =
     c.polled-ended.result
     (subst (λ (t : Terms). Led c.args.server (sizes_of t) (setup_of t) [] client) c.of-terms.ensures
     (subst (λ (w : Setup). Led c.args.server (sizes_of c.of-terms.result) w [] client) c.setup.ensures
-    c.fresh_client-client.ensures)) c.polled-ended.ensures
+    c.fresh_client-client.ensures)) c.polled-ended.ensures.polled

@@ -6,6 +6,6 @@ use Rattle.coap_commands.proofs.serve.serve_with.Goals as goal
 
 pub returns-clause-serves : goal.returns-clause-serves
 returns-clause-serves g c =
-    served_from _ _ _ _ _ _ _ c.args.count c.args.word _ _ _ _ _ _
+    served_from _ _ _ _ _ _ _ _ _ c.args.count c.args.word _ _ _ _ _ _ _ _
     (ap (λ t. state_of content_of t.end) c.new-server.ensures)
     c.serve_over-ended.ensures.serves

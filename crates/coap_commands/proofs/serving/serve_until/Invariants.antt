@@ -1,4 +1,5 @@
 use Rattle.coap_links.specs.Turning.{Turns}
+use Rattle.coap_commands.specs.Bearing.{BearsServing}
 use Rattle.coap_commands.specs.Serves.{Turning, nothing_fed}
 use Rattle.coap_commands.proofs.serving.serve_until.Given as goal
 
@@ -7,6 +8,8 @@ abbrev pub invariant-loop-turn : goal.invariant-loop-turn
 invariant-loop-turn g l =
     let end = g.E.End in
     let link = g.L.Link in
-    Turning (Turns end.waiting end.gives link.sends link.receives link.fault_count end.quiet_feed end.feeds
+    Turning g.T.Timekeeper.tells
+    (Turns end.waiting end.gives link.sends link.receives link.fault_count end.quiet_feed end.feeds
     end.quiet_tick end.ticks)
-    l.fn.count (end.state l.fn.server) l.fn.link (nothing_fed l.fn.word) (end.state l.server) l.link l.tally
+    (BearsServing link.fault_count l.fn.count) l.fn.count
+    l.fn.time (end.state l.fn.server) l.fn.link (nothing_fed l.fn.word) l.time (end.state l.server) l.link l.tally

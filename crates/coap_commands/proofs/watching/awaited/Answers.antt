@@ -1,6 +1,5 @@
 use Rattle.std.proofs.Common.{◌≡◌, Option, Some, None, IfNone, IfSome, refl, subst}
 use Rattle.coap_commands.specs.Watches.{registered}
-use Rattle.coap_commands.proofs.TurnCalls.{client_turned_at}
 use Rattle.coap_commands.proofs.WatchedCalls.{left_by, left_in_turn, left_reported, not_left, turn_on}
 use Rattle.coap_commands.proofs.watching.awaited.Goals as goal
 
@@ -20,7 +19,7 @@ loop-turn-preserved g c =
     let again = c.args.watching.now.again in
     let heard = c.last_report.new.heard in
     turn_on options again c.args.id.0 _ _ _ _ _ c.in_ok-now.now _ _ _ _ _ c.loop-turn.invariant
-    (client_turned_at _ _ _ _ _ _ _ _ _ _ _ _ _ c.get_turn.ensures) _
+    c.in_ok-now.ensures.turned _
     (none_is _ _ c.in_ok-report.ensures.more c.in_default.is)
     (not_left options again heard.since.0 c.args.id.0 heard.values heard.last.0 c.in_ok-now.now.0 _ _ _
     c.left_at.ensures c.in_default-left_at.is)
@@ -31,7 +30,7 @@ returns-in-Some-clause-left g c =
     left_reported c.args.watching.now.options.now c.args.watching.now.again c.args.id.0 _ _ _ _ _ c.in_ok-now.now _ _ _
     _
     _ c.loop-turn.invariant
-    (client_turned_at _ _ _ _ _ _ _ _ _ _ _ _ _ c.get_turn.ensures) c.in-Some.report last.0 last.1 last.2 last.3
+    c.in_ok-now.ensures.turned c.in-Some.report last.0 last.1 last.2 last.3
 
 pub returns-in-Some-left_at-clause-left : goal.returns-in-Some-left_at-clause-left
 returns-in-Some-left_at-clause-left g c =
@@ -39,7 +38,7 @@ returns-in-Some-left_at-clause-left g c =
     let again = c.args.watching.now.again in
     let heard = c.last_report.new.heard in
     left_in_turn options again c.args.id.0 _ _ _ _ _ c.in_ok-now.now _ _ _ _ _ c.loop-turn.invariant
-    (client_turned_at _ _ _ _ _ _ _ _ _ _ _ _ _ c.get_turn.ensures) c.in-Some-left_at.left _
+    c.in_ok-now.ensures.turned c.in-Some-left_at.left _
     (none_is _ _ c.in_ok-report.ensures.more c.in_default.is)
     (left_by options again heard.since.0 c.args.id.0 heard.values heard.last.0 c.in_ok-now.now.0 _ _ _
     c.in-Some-left_at.left c.left_at.ensures c.in-Some-left_at.is)

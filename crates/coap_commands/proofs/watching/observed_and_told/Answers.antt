@@ -13,6 +13,7 @@ returns-clause-next g c =
     (λ left values held. IsRegistered c.args.server (sizes_of terms) (setup_of terms) c.args.watching.now.path.now
     options again heard.since.0 heard.last.0 heard.values (g.W.Write.contents c.args.out.now) left values held)
     options again heard.since heard.last.0 c.in_ok-left.left c.observed_once.new.heard c.follow.new.heard _
-    c.follow.result c.in_ok-now.now.0 _ _ _ c.in_ok-left.ensures.left c.in_ok-left.ensures.since
-    c.is_over-is_over.ensures c.verdict-verdict.ensures c.follow.ensures.follows c.follow.ensures.values
+    c.follow.result c.in_ok-verdict.ensures.0 c.in_ok-verdict.ensures.2 _ _ c.in_ok-left.ensures.left
+    c.in_ok-left.ensures.since c.in_ok-verdict.ensures.3 c.in_ok-verdict.ensures.4 c.follow.ensures.follows
+    c.follow.ensures.values
     c.in_ok-told.ensures
