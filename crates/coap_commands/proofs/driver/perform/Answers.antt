@@ -40,4 +40,5 @@ returns-in-Answer g c =
     let new = g.O.Write.contents c.answer.new.out in
     subst (λ (o : Order). IfOk c.answer.result (CarriesOut old new o)) (sym c.in-Answer.is)
     (subst (λ (d : List ℕ). IfOk c.answer.result (PrintsAnswer (server_limits default_limit) (usual 0)
-    c.in-Answer.path c.in-Answer.body.now old new 0 client_end 0 d)) c.as_slice-in-Answer.ensures.value c.answer.ensures.printed)
+    c.in-Answer.path c.in-Answer.body.now old new 0 client_end 0 d)) c.as_slice-in-Answer.ensures.value
+    c.answer.ensures.printed)
