@@ -1,7 +1,7 @@
 -- A dump is read line by line, and the worst status so far is that of the lines so far.
 use Rattle.std.proofs.Common.{◌≡◌, ◌≢◌, ◌∙◌, ◌+◌, ◌-◌, ap, sym, refl, subst, ℕ, Bool, true, false, cond, arith, max}
 use Rattle.std.proofs.Common.{map}
-use Rattle.std.proofs.Common.{List, [], ◌∷◌, ◌++◌, ◌==◌, ◌≤◌, length, Option, Some, None, IfSome, take, slice_index}
+use Rattle.std.proofs.Common.{List, [], ◌∷◌, ◌++◌, ◌==◌, length, Option, Some, None, IfSome, take, slice_index}
 use Rattle.std.proofs.Common.{nat_lt}
 use Rattle.std.proofs.Common.{◌&&◌, ◌⊎◌, if◌then◌else◌, inl, inr}
 use Rattle.std.specs.List.{onto_first}

@@ -1,5 +1,5 @@
 -- A server that commits each input to its journal is turned as one without: by what it is handed, and what is taken.
-use Rattle.std.proofs.Common.{◌≡◌, ◌⊎◌, ◌≤◌, ◌+◌, ℕ, Bool, false, List, [], ◌∷◌, Some, arith}
+use Rattle.std.proofs.Common.{◌≡◌, ◌⊎◌, ◌+◌, ℕ, Bool, false, List, [], ◌∷◌, Some, arith}
 use Rattle.std.proofs.Common.{if◌then◌else◌}
 use Rattle.std.proofs.Common.{ap, inl, inr, refl, subst, sym, ◌∙◌, ◌++◌, ◌<◌, Err, IfOk, Ok, OnOk}
 use Rattle.std.proofs.Common.{IfNone, None, Option, Result, get_or, length}

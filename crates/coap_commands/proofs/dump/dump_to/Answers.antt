@@ -1,8 +1,6 @@
 use Rattle.std.proofs.Common.{◌≡◌, ◌∙◌, ◌++◌, ℕ, List, IfSome, ap, arith, inl, refl, subst}
-use Rattle.std.proofs.lemmas.Grind.{common_steps}
 use Rattle.std.specs.Io.BufRead.{strip_last, take_through}
 use Rattle.coap_commands.specs.Dumps.{IsLineStatus}
-use Rattle.coap_commands.specs.Statuses.{IsOfScript}
 use Rattle.coap_commands.proofs.DumpedLines.{at_end, begun, goes_on, of_line, one_of, some_read}
 use Rattle.coap_commands.proofs.dump.dump_to.Goals as goal
 

@@ -1,7 +1,3 @@
-use Rattle.std.proofs.Common.{[]}
-use Rattle.coap_client.specs.Led.{Led}
-use Rattle.coap_commands.specs.ObservedTurns.{ObservesFrom}
-use Rattle.coap_commands.specs.Observes.{ObserveBecomes}
 use Rattle.coap_commands.proofs.ObservedCalls.{told_observed}
 use Rattle.coap_commands.proofs.observe.observe_and_tell.Goals as goal
 

@@ -1,5 +1,4 @@
 use Rattle.std.proofs.Common.{Bool, subst}
-use Rattle.std.proofs.Common.{true}
 use Rattle.coap_commands.specs.Pinged.{Hears, further, not_yet}
 use Rattle.coap_commands.proofs.pinging.awaited.Goals as goal
 
