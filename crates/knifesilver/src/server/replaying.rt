@@ -164,8 +164,9 @@ pub extern "C" fn ks_server_replay(
     ensures damaged { result ≡ pos 145 → IsDamagedAt file.now told.new.end }
     // That a journal isn't begun is answered only where no frame begins with the file.
     ensures bare { result ≡ pos 146 → BeginsFrame 0 file.now → ⊥ }
-    // A journal is of another format or another law only where its first frame names that.
+    // A replayed journal is of another format only where its first frame names that.
     ensures format { result ≡ pos 147 → (n : ℕ) × IsUnopened file.now (refusals.OtherFormat n) }
+    // It is of another law only where its first frame, in this format, names that.
     ensures law { result ≡ pos 148 → (n : ℕ) × IsUnopened file.now (refusals.OtherLaw n) }
     // It is unreadable only where its first frame spells no beginning, or none that a server has, or a frame behind
     // that holds nothing that the server can do.
