@@ -3,8 +3,8 @@ use Rattle.hex.specs.Hex.{encode_lower}
 use Rattle.coap_resource.specs.Entries.{content_of}
 use Rattle.coap_server.specs.Led.{State}
 use Rattle.coap_server.specs.Object.Shown.{state_of}
-use Rattle.coap_replay.proofs.Chains.{gives_more}
-use Rattle.coap_replay.specs.Replaying.{GivesOut}
+use Rattle.coap_replay.proofs.Facts.{gives_more}
+use Rattle.coap_replay.specs.Replaying.{Gives, GivesOut, Takes}
 use Rattle.coap_commands.proofs.LinkTexts.{nothing_written}
 use Rattle.coap_commands.proofs.SentTexts.{heard_text, lines_on, none_no_more, silent_text}
 use Rattle.coap_commands.proofs.answer.print_sent.Goals as goal
@@ -16,7 +16,7 @@ pub loop-datagram-preserved : goal.loop-datagram-preserved
 loop-datagram-preserved g c =
     let so_far = c.loop-datagram.invariant in (
       so_far.0 ++ c.in-Some.datagram ∷ [],
-      gives_more _ so_far.0 _ c.in-Some.datagram _ so_far.1
+      gives_more Takes Gives _ so_far.0 _ c.in-Some.datagram _ so_far.1
           (record { first = c.in-Some.ensures.some; step = c.in-Some.ensures.step }),
       none_no_more so_far.0 c.in-Some.datagram,
       lines_on so_far.0 c.in-Some.datagram _ _ _ (g.W.Write.contents c.writeln.new.self)
