@@ -58,6 +58,8 @@ impl<A: Allocator + Copy, S: BuildHasher> Answerer<A, S> {
         // Where no retransmission is due and there is room for a response, the tick takes no memory.
         ensures had { copies (max self.old.state.own.clock now.0) self.old.state.layer.open_cons ≡ []
             → self.old.room ≡ true → IsOk result }
+        // Room that was there is there after the tick.
+        ensures room { OnOk result (self.old.room ≡ true → self.new.room ≡ true) }
         // Where no copy is due and the layer has a failure, the tick tells that.
         ensures fails { copies (max self.old.state.own.clock now.0) self.old.state.layer.open_cons ≡ []
             → answer_of self.old.state.layer (max self.old.state.own.clock now.0) below.Ticks ≢ below.Idle

@@ -1,5 +1,5 @@
 //! Notifications to observers (RFC 7641, sections 4.2 and 4.5).
-ghost use Rattle.std.specs.Prelude.{◌≡◌, ℕ, max, true, false, IsOk, IfOk, OnErr};
+ghost use Rattle.std.specs.Prelude.{◌≡◌, ℕ, max, true, false, IsOk, IfOk, OnErr, OnOk};
 ghost use Rattle.coap_types.specs.declared.endpoint.Endpoint.{Endpoint as EndpointSpec};
 ghost use Rattle.coap_layer.specs.Machine.State.{answer_of};
 ghost use Rattle.coap_layer.specs.Trace as below;
@@ -48,6 +48,8 @@ impl<A: Allocator + Copy, S: BuildHasher> Answerer<A, S> {
         ensures err { OnErr result (self.new ≡ self.old) }
         // The question takes no memory where there is room already.
         ensures had { self.old.room ≡ true → IsOk result }
+        // Room that was there is there after the question.
+        ensures room { OnOk result (self.old.room ≡ true → self.new.room ≡ true) }
         // An answer that no notification may be sent takes no memory.
         ensures quiet { takes_con self.old.state now.0 to ≡ false → IsOk result }
     {

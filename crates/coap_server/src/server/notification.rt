@@ -1,6 +1,6 @@
 //! Which observer is notified next, and of what (RFC 7641, sections 4.2, 4.4 and 4.5).
 ghost use Rattle.std.specs.Prelude.{◌≡◌, ◌≤◌, ℕ, Option, true, false, None, is_some, IfOk, IfSome, IsOk, OnErr, OnOk};
-ghost use Rattle.std.specs.Prelude.{length};
+ghost use Rattle.std.specs.Prelude.{[], length};
 ghost use Rattle.std.specs.Option.{option_map};
 ghost use Rattle.coap_observe.specs.Notices.{but_noted, told, told_due};
 ghost use Rattle.coap_observe.specs.Observers.{Observer};
@@ -10,7 +10,7 @@ ghost use Rattle.coap_exchange.specs.AnswererLaw.{Exchanged, Step};
 ghost use Rattle.coap_exchange.specs.Machine.AnswererShown.{MayNotify};
 ghost use Rattle.coap_server.specs.Asks.{notifies_by};
 ghost use Rattle.coap_server.specs.Notifying as next;
-ghost use Rattle.coap_server.specs.Notifying.{behind, marked, notified, readies};
+ghost use Rattle.coap_server.specs.Notifying.{TellsNoPayload, behind, marked, notified, readies};
 ghost use Rattle.coap_server.specs.Object.Shown.{kept_of, seen};
 ghost use Rattle.coap_server.specs.Plain.{goes_plain};
 ghost use Rattle.coap_server.specs.Turns.Idle.{takes_notice};
@@ -44,6 +44,8 @@ fn first_ready<'o, A: Allocator + Copy, H: BuildHasher>(
     ensures none { takes_notice exchanges.old.state at.0 observers.now.list ≡ false
         → IfOk result (λ found. found ≡ None) }
     ensures quiet { takes_notice exchanges.old.state at.0 observers.now.list ≡ false → IsOk result }
+    ensures had { exchanges.old.room ≡ true → IsOk result }
+    ensures room { OnOk result (exchanges.old.room ≡ true → exchanges.new.room ≡ true) }
 {
     let mut passed = 0;
     'observers: while let Some(notice) = observers.due_after(passed) {
@@ -67,6 +69,7 @@ fn notification<S: Store<A>, A: Allocator + Copy>(
         (next.told (S.content store.old) (told notice.now true))) }
     ensures there { IfOk result (λ r. r.1 ≡ is_some ((S.content store.old).holds notice.now.path.now)) }
     ensures store { store.new ≡ store.old }
+    ensures quiet { (next.told (S.content store.old) (told notice.now true)).part ≡ [] → IsOk result }
 {
     let asking = Asking {
         method: Method::Get,
@@ -166,6 +169,8 @@ pub(crate) fn notify_next<S: Store<A>, A: Allocator + Copy, H: BuildHasher>(
         (record (kept_of parts.new) { exchanges = parts.old.exchanges.state } ≡ kept_of parts.old) }
     ensures quiet { takes_notice parts.old.exchanges.state parts.old.clock.0 parts.old.observers.list ≡ false
         → IsOk result }
+    ensures had { parts.old.exchanges.room ≡ true
+        → TellsNoPayload (S.content parts.old.store) parts.old.observers.list → IsOk result }
 {
     let at = parts.clock;
     let Some(notice) = first_ready(&mut parts.exchanges, &parts.observers, at)? else {

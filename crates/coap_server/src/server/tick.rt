@@ -1,5 +1,5 @@
 //! Time passes at a server (RFC 7252, sections 4.2 and 5.2.2; RFC 7641, section 4.5).
-ghost use Rattle.std.specs.Prelude.{◌≡◌, ◌≢◌, ◌≤◌, ℕ, max, Bool, false, [], IfOk, IsOk, OnErr, OnOk, length};
+ghost use Rattle.std.specs.Prelude.{◌≡◌, ◌≢◌, ◌≤◌, ℕ, max, Bool, true, false, [], IfOk, IsOk, OnErr, OnOk, length};
 ghost use Rattle.coap_types.specs.declared.token.TheConstants.{MAX_TOKEN_LEN as max_token_len};
 ghost use Rattle.coap_layer.specs.Machine.State.{answer_of, copies};
 ghost use Rattle.coap_layer.specs.Trace as below;
@@ -7,7 +7,9 @@ ghost use Rattle.coap_exchange.specs.declared.answerer.Asked.{Asked as AskedSpec
 ghost use Rattle.coap_exchange.specs.declared.answerer.Due.{Due as DueSpec};
 ghost use Rattle.coap_exchange.specs.declared.answerer.Due.TheVariants as dues;
 ghost use Rattle.coap_exchange.specs.Machine.AnswererShown.{MayRespond};
+ghost use Rattle.coap_exchange.specs.Machine.WhatIsDue.{takes_response};
 ghost use Rattle.coap_server.specs.Led.{Step};
+ghost use Rattle.coap_server.specs.Notifying.{TellsNoPayload};
 ghost use Rattle.coap_server.specs.Trace.{Handling, Ticks};
 ghost use Rattle.coap_server.specs.Object.Shown.{kept_of, seen};
 ghost use Rattle.coap_server.specs.Turns.Idle.{IsIdle, moment, takes_notice};
@@ -40,6 +42,8 @@ fn turn<S: Store<A>, A: Allocator + Copy, H: BuildHasher>(
     ensures idle { due ≡ dues.Idle → takes_notice parts.old.exchanges.state parts.old.clock.0 parts.old.observers.list
         ≡ false
         → IsOk result }
+    ensures had { due ≡ dues.Idle → parts.old.exchanges.room ≡ true
+        → TellsNoPayload (S.content parts.old.store) parts.old.observers.list → IsOk result }
     ensures timed { OnOk result (parts.new.observers.clock ≤ parts.new.clock.0) }
     ensures before { parts.new.exchanges.before ≡ parts.old.exchanges.before }
     ensures err { OnErr result
@@ -80,6 +84,10 @@ pub(crate) fn tick_parts<S: Store<A>, A: Allocator + Copy, H: BuildHasher>(
     ensures fails { copies (moment (seen S.content parts.old) now.0) parts.old.exchanges.state.layer.open_cons ≡ []
         → answer_of parts.old.exchanges.state.layer (moment (seen S.content parts.old) now.0) below.Ticks ≢ below.Idle
         → IsOk result }
+    ensures had { copies (moment (seen S.content parts.old) now.0) parts.old.exchanges.state.layer.open_cons ≡ []
+        → takes_response parts.old.exchanges.state (max parts.old.clock.0 now.0) ≡ false
+        → parts.old.exchanges.room ≡ true
+        → TellsNoPayload (S.content parts.old.store) parts.old.observers.list → IsOk result }
 {
     let was = parts.clock;
     let at = was.later(now);

@@ -49,6 +49,7 @@ observers-preserved g c =
           c.in_ok-ready.ensures.step c.if-branch.false;
       same = λ there. c.in_ok-ready.ensures.same there ∙ c.observers.invariant.same there;
       before = c.in_ok-ready.ensures.before ∙ c.observers.invariant.before;
+      room = λ had. c.in_ok-ready.ensures.room (c.observers.invariant.room had);
       within = omega (arith, within);
     }
 

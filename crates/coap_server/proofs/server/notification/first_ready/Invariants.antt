@@ -1,4 +1,4 @@
-use Rattle.std.proofs.Common.{◌≡◌, ◌≤◌, ◌-◌, length}
+use Rattle.std.proofs.Common.{◌≡◌, ◌≤◌, ◌-◌, true, length}
 use Rattle.coap_types.specs.declared.endpoint.Endpoint.{Endpoint}
 use Rattle.coap_exchange.specs.AnswererLaw.{Exchanged}
 use Rattle.coap_exchange.specs.Machine.WhatIsDue.{takes_con}
@@ -12,6 +12,7 @@ invariant-observers g l = record {
   same : (there : Endpoint) → takes_con l.exchanges.state l.at.0 there
       ≡ takes_con l.initial.exchanges.state l.at.0 there;
   before : l.exchanges.before ≡ l.initial.exchanges.before;
+  room : l.initial.exchanges.room ≡ true → l.exchanges.room ≡ true;
   within : l.passed ≤ length (marked l.observers.list);
 }
 
