@@ -1,5 +1,6 @@
 -- Which observer is notified next, and of what (RFC 7641, sections 4.2, 4.4 and 4.5; RFC 7959, section 2.6).
-use Rattle.std.specs.Prelude.{◌≡◌, ℕ, zero, suc, Bool, true, false, Option, Some, None, List, [], ◌∷◌, ◌++◌, filter, IfSome}
+use Rattle.std.specs.Prelude.{◌≡◌, ℕ, zero, suc, Bool, true, false, Option, Some, None, List, [], ◌∷◌, ◌++◌, filter}
+use Rattle.std.specs.Prelude.{IfSome}
 use Rattle.coap_types.specs.declared.request.Method.TheVariants.{Get}
 use Rattle.coap_observe.specs.Observers.{Observer, noted_to, removed, sent_to}
 use Rattle.coap_resource.specs.Content.{Content, Held}
