@@ -3,6 +3,7 @@ pub mod Bound
 pub mod Carried
 pub mod Faults
 pub mod MemoryCarries
+pub mod PeerTables
 pub mod Pumping
 pub mod SocketCalls
 pub mod Sockets

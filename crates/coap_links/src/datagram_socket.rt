@@ -30,6 +30,40 @@ pub trait DatagramSocket {
         ensures fits { IfOk result (λ came. came.0 ≤ length buf.new) };
 }
 
+/// A socket that the system has bound. Where that is, and whether it is connected, nobody can say here; what the system
+/// says, and what it is asked, a trait can.
+pub(crate) trait BoundSocket {
+    /// The socket, and what the system says of where it is.
+    ghost says: { Self → Result SocketAddrSpec ErrorSpec → Type 0 };
+
+    /// The socket before the system is asked to connect it, to which peer, and the socket after.
+    ghost joins: { Self → SocketAddrSpec → Self → Type 0 };
+
+    /// Where the system says that it is.
+    fn place(&self) -> io::Result<SocketAddr>
+        ensures { says self.now result };
+
+    /// Asks the system to connect it to a peer. Where the system does not, it stays as it is.
+    fn join(&mut self, peer: SocketAddr)
+        ensures { joins self.old peer self.new };
+}
+
+impl BoundSocket for UdpSocket {
+    ghost use Rattle.std.specs.Prelude.{⊤};
+
+    ghost says = { λ _ _. ⊤ };
+
+    ghost joins = { λ _ _ _. ⊤ };
+
+    fn place(&self) -> io::Result<SocketAddr> {
+        self.local_addr()
+    }
+
+    fn join(&mut self, peer: SocketAddr) {
+        let _joined = self.connect(peer);
+    }
+}
+
 impl DatagramSocket for UdpSocket {
     ghost use Rattle.std.specs.Prelude.{⊤};
 

@@ -9,11 +9,13 @@
 mod carried;
 mod datagram_socket;
 mod driver;
+mod lender;
 mod link;
 #[cfg(test)]
 mod link_tests;
 mod memory_link;
 mod peer_names;
+mod six_places;
 mod socket;
 #[cfg(test)]
 mod socket_tests;
@@ -37,6 +39,7 @@ mod udp_link;
 pub use carried::Carried;
 pub use datagram_socket::DatagramSocket;
 pub use driver::{Pumped, pump, send_all};
+pub use lender::{CellLender, Lender};
 pub use link::{Link, MAX_DATAGRAM_LEN};
 pub use memory_link::MemoryLink;
 pub use peer_names::{PeerNames, SixPeer};

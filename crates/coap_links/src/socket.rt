@@ -1,10 +1,10 @@
 //! A socket of UDP, whose calls that failed are counted.
-ghost use Rattle.std.specs.Prelude.{Ok, ◌≡◌, ◌≤◌, ◌⊎◌, ◌↔◌, IfOk, IfSome, IsErrAnd, length, true, false};
+ghost use Rattle.std.specs.Prelude.{Ok, Some, None, ◌≡◌, ◌≤◌, ◌⊎◌, ◌↔◌, IfOk, IfSome, IsErrAnd, length, true, false};
 ghost use Rattle.std.specs.IoError.{error_kind};
 ghost use Rattle.coap_links.specs.Faults.{MayRaise};
 ghost use Rattle.coap_links.specs.SocketCalls.{Hands, IsMissed, ReceivesOn, SendsOn, counted};
 
-use crate::datagram_socket::DatagramSocket;
+use crate::datagram_socket::{BoundSocket, DatagramSocket};
 use crate::link::raise;
 use std::io;
 use std::io::ErrorKind;
@@ -20,6 +20,10 @@ const _: () = prove!(RECEIVE_WAIT_MS == 10);
 #[derive(Drop)]
 pub(crate) struct Socket<D> {
     pub socket: D,
+    /// Where the system was asked to bind it.
+    pub asked: Option<SocketAddr>,
+    /// To which peer the system was asked to connect it.
+    pub joined: Option<SocketAddr>,
     pub faults: u64,
     pub is_refused: bool,
 }
@@ -29,31 +33,56 @@ impl Socket<UdpSocket> {
     pub fn bind<R: Net>(net: &R, address: SocketAddr) -> io::Result<Socket<UdpSocket>>
         ensures faults { IfOk result (λ socket. socket.faults ≡ 0) }
         ensures hears { IfOk result (λ socket. socket.is_refused ≡ false) }
+        ensures asked { IfOk result (λ socket. socket.asked ≡ Some address) }
+        ensures joined { IfOk result (λ socket. socket.joined ≡ None) }
     {
         let socket = UdpSocket::bind(net, address)?;
         socket.set_read_timeout(Some(Duration::from_millis(RECEIVE_WAIT_MS)))?;
-        Ok(Socket::over(socket))
+        Ok(Socket::asked_for(socket, address))
     }
+}
 
-    /// Where it is.
-    pub fn local_addr(&self) -> io::Result<SocketAddr> {
-        self.socket.local_addr()
+impl<D: BoundSocket> Socket<D> {
+    /// Where the system says that it is.
+    pub fn place(&self) -> io::Result<SocketAddr>
+        ensures { D.says self.now.socket result }
+    {
+        self.socket.place()
     }
 
     /// Has the system drop what comes from elsewhere, and say where nobody listens (RFC 1122, section 4.1.3.3). Where
     /// there is no way to that address yet, the socket stays as it is, and sends once there is one.
-    pub fn connect(&self, peer: SocketAddr) {
-        let _connected = self.socket.connect(peer);
+    pub fn connect(&mut self, peer: SocketAddr)
+        ensures joins { D.joins self.old.socket peer self.new.socket }
+        ensures left { self.new ≡ record self.old { socket = self.new.socket; joined = Some peer } }
+    {
+        self.socket.join(peer);
+        self.joined = Some(peer);
     }
 }
 
 impl<D> Socket<D> {
     /// A socket of which no call failed.
     pub fn over(socket: D) -> Socket<D>
-        ensures { result ≡ record { socket = socket; faults = 0; is_refused = false } }
+        ensures { result ≡ record { socket = socket; asked = None; joined = None; faults = 0; is_refused = false } }
     {
         Socket {
             socket,
+            asked: None,
+            joined: None,
+            faults: 0,
+            is_refused: false,
+        }
+    }
+
+    // .. that the system was asked to bind there.
+    fn asked_for(socket: D, address: SocketAddr) -> Socket<D>
+        ensures { result ≡ record { socket = socket; asked = Some address; joined = None; faults = 0; is_refused = false } }
+    {
+        Socket {
+            socket,
+            asked: Some(address),
+            joined: None,
             faults: 0,
             is_refused: false,
         }

@@ -1,18 +1,26 @@
 //! A link over a socket of UDP over IPv6.
-ghost use Rattle.std.specs.Prelude.{ℕ, List, Option, ◌≡◌, ◌+◌, ◌⊎◌, true, IfOk, length};
+ghost use Rattle.std.specs.Prelude.{ℕ, List, Option, Some, None, ◌≡◌, ◌+◌, true, IfOk, IfErr, Result, Ok};
+ghost use Rattle.std.specs.Prelude.{length};
 ghost use Rattle.std.specs.Net.Addr.{ipv6_segments, segments_of};
 ghost use Rattle.std.specs.Net.Socket.{v6_ip, v6_port, v6_scope_id};
+ghost use Rattle.std.specs.declared.io.Error.{Error as ErrorSpec};
 ghost use Rattle.std.specs.declared.net.socket_addr.SocketAddr.{SocketAddr as SocketAddrSpec};
-ghost use Rattle.coap_links.specs.Addressing.{IsCarriedBySix, IsNamed, IsReachedAt, SendsWhere};
-ghost use Rattle.coap_links.specs.Bound.{IsClientAddress, IsClientSix};
+ghost use Rattle.std.specs.declared.net.socket_addr.SocketAddr.TheVariants.{V6};
+ghost use Rattle.coap_links.specs.Addressing.{IsAddressFor, IsCarriedBySix, IsNamed, IsReachedAt, SendsWhere, Told};
+ghost use Rattle.coap_links.specs.Bound.{IsBoundAtSix, IsClientAddress, IsClientSix, IsPlacedSix};
+ghost use Rattle.coap_links.specs.PeerTables.{NamesPeer};
 ghost use Rattle.coap_links.specs.SocketCalls.{ReceivesOn};
 ghost use Rattle.coap_links.specs.Sockets.{is_of_this_network};
+ghost use Rattle.coap_links.specs.declared.peer_names.SixPeer.{SixPeer as SixPeerSpec};
 ghost use Rattle.coap_links.specs.Sources.{IsSource, four_or_nowhere, mapped_segments, peer_at};
+ghost use Rattle.coap_links.specs.declared.udp6_link.Source.TheVariants.{Six};
 ghost use Rattle.coap_links.specs.declared.link.TheConstants.{MAX_DATAGRAM_LEN as max_datagram_len};
 
-use crate::datagram_socket::DatagramSocket;
+use crate::datagram_socket::{BoundSocket, DatagramSocket};
+use crate::lender::{CellLender, Lender};
 use crate::link::{Link, MAX_DATAGRAM_LEN};
 use crate::peer_names::{PeerNames, SixPeer, is_name};
+use crate::six_places::place_of_six;
 use crate::socket::Socket;
 use crate::timekeeper::Timekeeper;
 use crate::udp_link::{ANY_PORT, NO_PORT, endpoint_of, put_in, reached_at};
@@ -80,6 +88,16 @@ pub(crate) fn address_of_six(peer: SixPeer) -> SocketAddrV6
     SocketAddrV6::new(Ipv6Addr::from_octets(peer.ip), peer.port, 0, peer.scope)
 }
 
+/// The socket address of a peer over IPv6, where there is one.
+pub(crate) fn address_for(peer: Option<SixPeer>) -> Option<SocketAddr>
+    ensures { IsAddressFor peer result }
+{
+    match peer {
+        Some(peer) => Some(SocketAddr::V6(address_of_six(peer))),
+        None => None,
+    }
+}
+
 /// The socket address of IPv6 that stands for a peer over IPv4.
 pub(crate) fn address_of_four(to: Endpoint) -> SocketAddrV6
     ensures ip { ipv6_segments (v6_ip result) ≡ mapped_segments to.ip }
@@ -107,6 +125,32 @@ fn client_address(server: &SocketAddrV6) -> SocketAddrV6
     SocketAddrV6::new(client_ip(server.ip()), ANY_PORT, 0, server.scope_id())
 }
 
+// The name of a peer; want of memory, where the table names none.
+fn name_for<S: BuildHasher + Copy + Drop, A: Allocator + Copy, L: Lender + Drop>(
+    names: &PeerNames<S, A, L>,
+    now: Moment,
+    peer: &SixPeer,
+) -> io::Result<Endpoint>
+    ensures name { IfOk result (λ name. is_of_this_network name.ip ≡ true) }
+    ensures named { IfOk result (λ name. NamesPeer L.is_lent now.0 peer.now (Some name)) }
+    ensures refused { IfErr result (λ _. NamesPeer L.is_lent now.0 peer.now None) }
+{
+    match names.name_of(now, peer) {
+        Some(name) => Ok(name),
+        None => Err(io::Error::from(ErrorKind::OutOfMemory)),
+    }
+}
+
+// The peer that a socket is to others that is at this address; a failure, where it is none over IPv6.
+fn own_peer(at: &SocketAddrV6) -> io::Result<SixPeer>
+    ensures { IfOk result (λ own. IsSource (V6 at.now) (Six own)) }
+{
+    match source_of(SocketAddr::V6(*at)) {
+        Source::Six(own) => Ok(own),
+        Source::Four(_) | Source::Nowhere => Err(io::Error::from(ErrorKind::AddrNotAvailable)),
+    }
+}
+
 /// A UDP socket of IPv6. The endpoint of a peer over IPv6 is its name, which is in 0.0.0.0/8; the endpoint of a peer
 /// over IPv4 is its address. At `::` the system may hand it what comes over IPv4, too.
 #[derive(Drop)]
@@ -116,48 +160,47 @@ pub struct Udp6Link<
     A: Allocator + Copy,
     T: Timekeeper + Drop,
     D = UdpSocket,
+    L: Lender + Drop = CellLender,
 > {
     socket: Socket<D>,
+    // Where it is, as the system says, and the name of that.
+    at: SocketAddrV6,
     address: Endpoint,
-    names: &'a PeerNames<S, A>,
+    names: &'a PeerNames<S, A, L>,
     time: T,
 }
 
-impl<'a, S: BuildHasher + Copy + Drop, A: Allocator + Copy, T: Timekeeper + Drop> Udp6Link<
+impl<
     'a,
-    S,
-    A,
-    T,
-    UdpSocket,
-> {
+    S: BuildHasher + Copy + Drop,
+    A: Allocator + Copy,
+    T: Timekeeper + Drop,
+    L: Lender + Drop,
+> Udp6Link<'a, S, A, T, UdpSocket, L> {
     /// A socket at an address of this machine; at port 0, at a port of it that is free. Its peers have names of this
     /// table, which forgets them by this clock.
     pub fn bind<R: Net>(
         net: &R,
         address: SocketAddrV6,
-        names: &'a PeerNames<S, A>,
+        names: &'a PeerNames<S, A, L>,
         time: T,
-    ) -> io::Result<Udp6Link<'a, S, A, T, UdpSocket>>
+    ) -> io::Result<Udp6Link<'a, S, A, T, UdpSocket, L>>
         // A link over IPv6 that is bound has failed no call.
         ensures faults { IfOk result (λ link. link.socket.faults ≡ 0) }
         // The endpoint of a link over IPv6 is a name.
         ensures name { IfOk result (λ link. is_of_this_network link.address.ip ≡ true) }
+        // A link over IPv6 that is bound is at the address that was asked for, and at the port, but where any would do.
+        ensures bound { IfOk result (λ link. IsBoundAtSix address link.at) }
+        // A link over IPv6 is over a socket that the system was asked to bind at this address.
+        ensures asked { IfOk result (λ link. link.socket.asked ≡ Some (V6 address)) }
+        // A link over IPv6 that is bound is connected to nobody.
+        ensures free { IfOk result (λ link. link.socket.joined ≡ None) }
+        // The endpoint of a link over IPv6 is the name that the table gives the address where it is.
+        ensures named { IfOk result (λ link. (now : ℕ) × (own : SixPeerSpec) × IsSource (V6 link.at) (Six own)
+            × NamesPeer L.is_lent now own (Some link.address)) }
     {
         let socket = Socket::bind(net, SocketAddr::V6(address))?;
-        let mut time = time;
-        let now = time.now()?;
-        let Source::Six(own) = source_of(socket.local_addr()?) else {
-            return Err(io::Error::from(ErrorKind::AddrNotAvailable));
-        };
-        match names.name_of(now, &own) {
-            Some(address) => Ok(Udp6Link {
-                socket,
-                address,
-                names,
-                time,
-            }),
-            None => Err(io::Error::from(ErrorKind::OutOfMemory)),
-        }
+        Udp6Link::placed(socket, &address, names, time)
     }
 
     /// A socket for a client of this server, at a port that is free, and the name of that server. It is at ::1 where
@@ -166,20 +209,60 @@ impl<'a, S: BuildHasher + Copy + Drop, A: Allocator + Copy, T: Timekeeper + Drop
     pub fn client<R: Net>(
         net: &R,
         server: SocketAddrV6,
-        names: &'a PeerNames<S, A>,
+        names: &'a PeerNames<S, A, L>,
         time: T,
-    ) -> io::Result<(Udp6Link<'a, S, A, T, UdpSocket>, Endpoint)>
+    ) -> io::Result<(Udp6Link<'a, S, A, T, UdpSocket, L>, Endpoint)>
         // A client's link over IPv6 that is bound has failed no call.
         ensures faults { IfOk result (λ bound. bound.0.socket.faults ≡ 0) }
         // The endpoint by which a client knows its server over IPv6 is a name.
         ensures name { IfOk result (λ bound. is_of_this_network bound.1.ip ≡ true) }
+        // A client's link over IPv6 is at ::1 where its server is there, and else at `::`.
+        ensures bound { IfOk result (λ bound. IsClientSix (v6_ip server) (v6_ip bound.0.at)) }
+        // A client's link over IPv6 is over a socket that the system was asked to connect to its server.
+        ensures joined { IfOk result (λ bound. bound.0.socket.joined ≡ Some (V6 server)) }
+        // A client knows its server over IPv6 by the name that the table gives the server's address.
+        ensures named { IfOk result (λ bound. NamesPeer L.is_lent 0 (peer_at server) (Some bound.1)) }
     {
-        let link = Udp6Link::bind(net, client_address(&server), names, time)?;
+        let mut link = Udp6Link::bind(net, client_address(&server), names, time)?;
         link.socket.connect(SocketAddr::V6(server));
-        match names.name_of(Moment(0), &peer_at(&server)) {
-            Some(name) => Ok((link, name)),
-            None => Err(io::Error::from(ErrorKind::OutOfMemory)),
-        }
+        let name = name_for(names, Moment(0), &peer_at(&server))?;
+        Ok((link, name))
+    }
+}
+
+impl<
+    'a,
+    S: BuildHasher + Copy + Drop,
+    A: Allocator + Copy,
+    T: Timekeeper + Drop,
+    D: BoundSocket + Drop,
+    L: Lender + Drop,
+> Udp6Link<'a, S, A, T, D, L> {
+    // A link over a socket that was asked to be at this address, where the system says that it is there.
+    fn placed(
+        socket: Socket<D>,
+        asked: &SocketAddrV6,
+        names: &'a PeerNames<S, A, L>,
+        time: T,
+    ) -> io::Result<Udp6Link<'a, S, A, T, D, L>>
+        ensures kept { IfOk result (λ link. link.socket ≡ socket) }
+        ensures placed { IfOk result (λ link. (said : Result SocketAddrSpec ErrorSpec) × D.says socket.socket said
+            × IsPlacedSix asked.now said (Ok link.at)) }
+        ensures name { IfOk result (λ link. is_of_this_network link.address.ip ≡ true) }
+        ensures named { IfOk result (λ link. (now : ℕ) × (own : SixPeerSpec) × IsSource (V6 link.at) (Six own)
+            × NamesPeer L.is_lent now own (Some link.address)) }
+    {
+        let at = place_of_six(&socket, asked)?;
+        let own = own_peer(&at)?;
+        let mut time = time;
+        let address = name_for(names, time.now()?, &own)?;
+        Ok(Udp6Link {
+            socket,
+            at,
+            address,
+            names,
+            time,
+        })
     }
 }
 
@@ -189,10 +272,11 @@ impl<
     A: Allocator + Copy,
     T: Timekeeper + Drop,
     D: DatagramSocket + Drop,
-> Udp6Link<'a, S, A, T, D> {
+    L: Lender + Drop,
+> Udp6Link<'a, S, A, T, D, L> {
     // The moment that it is; where the clock fails, none later than the last.
     fn now(&mut self) -> Moment
-        ensures told { (T.tells self.old.time result.0 self.new.time) ⊎ (result.0 ≡ 0) }
+        ensures told { Told T.tells self.old.time self.new.time result.0 }
         ensures socket { self.new.socket ≡ self.old.socket }
         ensures address { self.new.address ≡ self.old.address }
     {
@@ -207,7 +291,7 @@ impl<
     fn named(&mut self, source: Source) -> Option<Endpoint>
         ensures socket { self.new.socket ≡ self.old.socket }
         ensures address { self.new.address ≡ self.old.address }
-        ensures named { IsNamed source result }
+        ensures named { IsNamed L.is_lent (Told T.tells self.old.time self.new.time) source result }
     {
         match source {
             Source::Four(endpoint) => Some(endpoint),
@@ -223,12 +307,11 @@ impl<
     fn address_of(&mut self, to: Endpoint) -> Option<SocketAddr>
         ensures socket { self.new.socket ≡ self.old.socket }
         ensures address { self.new.address ≡ self.old.address }
-        ensures reached { IsReachedAt (is_of_this_network to.ip) to result }
+        ensures reached { IsReachedAt L.is_lent (Told T.tells self.old.time self.new.time) (is_of_this_network to.ip) to result }
     {
         if is_name(to) {
             let now = self.now();
-            let peer = self.names.sent(now, &to)?;
-            Some(SocketAddr::V6(address_of_six(peer)))
+            address_for(self.names.sent(now, &to))
         } else {
             Some(SocketAddr::V6(address_of_four(to)))
         }
@@ -241,14 +324,16 @@ impl<
     A: Allocator + Copy,
     T: Timekeeper + Drop,
     D: DatagramSocket + Drop,
-> Link for Udp6Link<'a, S, A, T, D> {
+    L: Lender + Drop,
+> Link for Udp6Link<'a, S, A, T, D, L> {
     ghost sends = { λ before to bytes after. (address : Option SocketAddrSpec)
-        × IsReachedAt (is_of_this_network to.ip) to address
+        × IsReachedAt L.is_lent (Told T.tells before.time after.time) (is_of_this_network to.ip) to address
         × SendsWhere D.hands before.socket address bytes after.socket × (after.address ≡ before.address) };
 
     ghost receives = { λ before given after. (found : Option (ℕ × SocketAddrSpec)) × (bytes : List ℕ)
         × ReceivesOn D.takes before.socket bytes found after.socket × (length bytes ≡ max_datagram_len + 1)
-        × IsCarriedBySix found bytes given × (after.address ≡ before.address) };
+        × IsCarriedBySix L.is_lent (Told T.tells before.time after.time) found bytes given
+        × (after.address ≡ before.address) };
 
     ghost fault_count = { λ link. link.socket.faults };
 

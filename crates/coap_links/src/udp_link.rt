@@ -1,15 +1,16 @@
 //! A link over a socket of UDP.
-ghost use Rattle.std.specs.Prelude.{ℕ, List, Option, Some, None, ◌≡◌, ◌+◌, ◌<◌, ◌≤◌, ◌⊎◌, IfOk, IfSome, IfNone, length};
-ghost use Rattle.std.specs.Prelude.{take, true, false};
+ghost use Rattle.std.specs.Prelude.{ℕ, List, Option, Some, None, ◌≡◌, ◌+◌, ◌<◌, ◌≤◌, ◌⊎◌, ◌↔◌, IfOk, IfErr, IfSome, IfNone};
+ghost use Rattle.std.specs.Prelude.{Result, Ok, Err, length, take, true, false};
+ghost use Rattle.std.specs.declared.io.Error.{Error as ErrorSpec};
 ghost use Rattle.std.specs.declared.net.socket_addr.SocketAddr.{SocketAddr as SocketAddrSpec};
-ghost use Rattle.coap_links.specs.Addressing.{IsAddressOf, carried_from, carried_in};
-ghost use Rattle.coap_links.specs.Bound.{IsBoundAt, bound_endpoint, client_ip};
+ghost use Rattle.coap_links.specs.Addressing.{IsAddressOf, IsThatOf, carried_from, carried_in};
+ghost use Rattle.coap_links.specs.Bound.{IsBoundAt, IsPlaced, bound_endpoint, client_ip};
 ghost use Rattle.coap_links.specs.Carried.{received};
 ghost use Rattle.coap_links.specs.SocketCalls.{ReceivesOn, SendsOn};
 ghost use Rattle.coap_links.specs.Sockets.{endpoint_in, is_of_this_network, reached_at};
 ghost use Rattle.coap_links.specs.declared.link.TheConstants.{MAX_DATAGRAM_LEN as max_datagram_len};
 
-use crate::datagram_socket::DatagramSocket;
+use crate::datagram_socket::{BoundSocket, DatagramSocket};
 use crate::link::{Link, MAX_DATAGRAM_LEN};
 use crate::peer_names::is_name;
 use crate::socket::Socket;
@@ -92,9 +93,19 @@ fn socket_address(to: Endpoint) -> SocketAddr
 
 // Whether a socket is where it was asked to be; at `ANY_PORT`, at whichever port.
 fn is_bound_at(asked: Endpoint, address: Endpoint) -> bool
-    ensures { result ≡ true → IsBoundAt asked address }
+    ensures { (result ≡ true) ↔ IsBoundAt asked address }
 {
     address.ip == asked.ip && (asked.port == ANY_PORT || address.port == asked.port)
+}
+
+// Where a socket is that was asked to be there, as the system says.
+fn place_of<D: BoundSocket>(socket: &Socket<D>, asked: Endpoint) -> io::Result<Endpoint>
+    ensures { (said : Result SocketAddrSpec ErrorSpec) × D.says socket.now.socket said × IsPlaced asked said result }
+{
+    match bound_endpoint(socket.place()?) {
+        Some(bound) if is_bound_at(asked, bound) => Ok(bound),
+        _ => Err(io::Error::from(ErrorKind::AddrNotAvailable)),
+    }
 }
 
 // The address of a client's socket, by that of its server.
@@ -121,15 +132,13 @@ impl UdpLink<UdpSocket> {
         ensures faults { IfOk result (λ link. link.socket.faults ≡ 0) }
         // A link that is bound has the address that was asked for, and the port, but where any would do.
         ensures bound { IfOk result (λ link. IsBoundAt address link.address) }
+        // A link is over a socket that the system was asked to bind at this address.
+        ensures asked { IfOk result (λ link. IsThatOf address link.socket.asked) }
+        // A link that is bound is connected to nobody.
+        ensures free { IfOk result (λ link. link.socket.joined ≡ None) }
     {
         let socket = Socket::bind(net, socket_address(address))?;
-        match bound_endpoint(socket.local_addr()?) {
-            Some(bound) if is_bound_at(address, bound) => Ok(UdpLink {
-                socket,
-                address: bound,
-            }),
-            _ => Err(io::Error::from(ErrorKind::AddrNotAvailable)),
-        }
+        UdpLink::placed(socket, address)
     }
 
     /// A socket for a client of this server, at a port that is free. It is at `LOOPBACK` where the server is at
@@ -142,14 +151,30 @@ impl UdpLink<UdpSocket> {
         ensures faults { IfOk result (λ link. link.socket.faults ≡ 0) }
         // A client's link is at 127.0.0.1 where its server is in 127.0.0.0/8, and else at 0.0.0.0.
         ensures bound { IfOk result (λ link. link.address.ip ≡ client_ip server.ip) }
+        // A client's link is over a socket that the system was asked to connect to its server.
+        ensures joined { IfOk result (λ link. IsThatOf server link.socket.joined) }
     {
         let address = Endpoint {
             ip: client_ip(server.ip),
             port: ANY_PORT,
         };
-        let link = UdpLink::bind(net, address)?;
+        let mut link = UdpLink::bind(net, address)?;
         link.socket.connect(socket_address(server));
         Ok(link)
+    }
+}
+
+impl<D: BoundSocket + Drop> UdpLink<D> {
+    // A link over a socket that was asked to be at this address, where the system says that it is there.
+    fn placed(socket: Socket<D>, asked: Endpoint) -> io::Result<UdpLink<D>>
+        ensures kept { IfOk result (λ link. link.socket ≡ socket) }
+        ensures placed { IfOk result (λ link. (said : Result SocketAddrSpec ErrorSpec) × D.says socket.socket said
+            × IsPlaced asked said (Ok link.address)) }
+        ensures refused { IfErr result (λ error. (said : Result SocketAddrSpec ErrorSpec) × D.says socket.socket said
+            × IsPlaced asked said (Err error)) }
+    {
+        let address = place_of(&socket, asked)?;
+        Ok(UdpLink { socket, address })
     }
 }
 
@@ -158,7 +183,7 @@ impl<D> UdpLink<D> {
     pub fn over(socket: D, address: Endpoint) -> UdpLink<D>
         // A link over a socket has failed no call, and is where it is said to be.
         ensures { result ≡ record {
-          socket = record { socket = socket; faults = 0; is_refused = false };
+          socket = record { socket = socket; asked = None; joined = None; faults = 0; is_refused = false };
           address = address;
         } }
     {
