@@ -24,6 +24,11 @@ abbrev pub bound_endpoint : SocketAddr → Option Endpoint
 bound_endpoint (V4 a) = Some (record { ip = ipv4_octets (v4_ip a); port = v4_port a })
 bound_endpoint (V6 a) = None
 
+-- the system said that a socket is at this endpoint
+abbrev pub IsSaidAt : Endpoint → Option SocketAddr → Type 0
+IsSaidAt address None = ⊥
+IsSaidAt address (Some at) = bound_endpoint at ≡ Some address
+
 -- What comes of a socket of which the system says that it is there: a link at that address, exactly where it is the one
 -- that was asked for.
 abbrev pub IsPlaced : Endpoint → Result SocketAddr Error → Result Endpoint Error → Type 0

@@ -1,6 +1,8 @@
 //! Names for the peers of a socket of IPv6. An end compares endpoints and reads nothing in them: so the endpoint of
 //! such a peer is a name of it, from 0.0.0.0/8, where no IPv4 datagram comes from.
-ghost use Rattle.std.specs.Prelude.{◌≡◌, true, IfSome};
+ghost use Rattle.std.specs.Prelude.{◌≡◌, true, IfOk, IfSome};
+ghost use Rattle.coap_names.specs.Tables.{start};
+ghost use Rattle.coap_names.specs.declared.numbering.Numbering.TheVariants.{ThisNetwork};
 ghost use Rattle.coap_links.specs.PeerTables.{Answers, IsNameOf, NamesPeer, SendsToName, TellsPeer, name_in};
 ghost use Rattle.coap_links.specs.Sockets.{is_of_this_network};
 
@@ -30,6 +32,17 @@ pub(crate) fn is_name(endpoint: Endpoint) -> bool
         [0, ..] => true,
         _ => false,
     }
+}
+
+// A table of so many names of "this network", of which none is given yet.
+fn table_of<S: BuildHasher + Copy + Drop, A: Allocator + Copy>(
+    alloc: A,
+    most: Places,
+    hasher: S,
+) -> Result<Names<SixPeer, S, A>, AllocError>
+    ensures { IfOk result (λ names. names ≡ start (record { most = most; numbering = ThisNetwork })) }
+{
+    Names::with_hasher(alloc, most, Numbering::ThisNetwork, hasher)
 }
 
 // The name of an answer, where it is a name of "this network".
@@ -81,7 +94,7 @@ pub struct PeerNames<
 impl<S: BuildHasher + Copy + Drop, A: Allocator + Copy> PeerNames<S, A> {
     /// Names for so many peers at once, of which none is named yet.
     pub fn new(alloc: A, most: Places, hasher: S) -> Result<PeerNames<S, A>, AllocError> {
-        let names = Names::with_hasher(alloc, most, Numbering::ThisNetwork, hasher)?;
+        let names = table_of(alloc, most, hasher)?;
         Ok(PeerNames {
             names: RefCell::new(names),
             lender: CellLender,

@@ -1,9 +1,10 @@
 //! Where a socket of IPv6 is, by what the system says.
-ghost use Rattle.std.specs.Prelude.{◌≡◌, ◌↔◌, true, Result};
+ghost use Rattle.std.specs.Prelude.{◌≡◌, ◌↔◌, true, IfOk, Result, Some};
 ghost use Rattle.std.specs.Net.Addr.{ipv6_segments};
 ghost use Rattle.std.specs.Net.Socket.{v6_ip, v6_scope_id};
 ghost use Rattle.std.specs.declared.io.Error.{Error as ErrorSpec};
 ghost use Rattle.std.specs.declared.net.socket_addr.SocketAddr.{SocketAddr as SocketAddrSpec};
+ghost use Rattle.std.specs.declared.net.socket_addr.SocketAddr.TheVariants.{V6};
 ghost use Rattle.coap_links.specs.Bound.{IsBoundAtSix, IsLinkLocal, IsPlacedSix};
 
 use crate::datagram_socket::BoundSocket;
@@ -31,8 +32,8 @@ fn is_in_zone(asked: &SocketAddrV6, at: &SocketAddrV6) -> bool
     }
 }
 
-// Whether a socket is where it was asked to be; at `ANY_PORT`, at whichever port.
-fn is_bound_at_six(asked: &SocketAddrV6, at: &SocketAddrV6) -> bool
+/// Whether a socket is where it was asked to be; at `ANY_PORT`, at whichever port.
+pub(crate) fn is_bound_at_six(asked: &SocketAddrV6, at: &SocketAddrV6) -> bool
     ensures { (result ≡ true) ↔ IsBoundAtSix asked.now at.now }
 {
     is_same_ip(asked.ip(), at.ip())
@@ -42,11 +43,13 @@ fn is_bound_at_six(asked: &SocketAddrV6, at: &SocketAddrV6) -> bool
 
 /// Where a socket is that was asked to be there, as the system says.
 pub(crate) fn place_of_six<D: BoundSocket>(
-    socket: &Socket<D>,
+    socket: &mut Socket<D>,
     asked: &SocketAddrV6,
 ) -> io::Result<SocketAddrV6>
-    ensures { (said : Result SocketAddrSpec ErrorSpec) × D.says socket.now.socket said
+    ensures placed { (said : Result SocketAddrSpec ErrorSpec) × D.says socket.old.socket said
         × IsPlacedSix asked.now said result }
+    ensures said { IfOk result (λ at. socket.new.at ≡ Some (V6 at)) }
+    ensures kept { socket.new ≡ record socket.old { at = socket.new.at } }
 {
     match socket.place()? {
         SocketAddr::V6(at) if is_bound_at_six(asked, &at) => Ok(at),

@@ -22,6 +22,8 @@ pub(crate) struct Socket<D> {
     pub socket: D,
     /// Where the system was asked to bind it.
     pub asked: Option<SocketAddr>,
+    /// Where the system said that it is.
+    pub at: Option<SocketAddr>,
     /// To which peer the system was asked to connect it.
     pub joined: Option<SocketAddr>,
     pub faults: u64,
@@ -44,10 +46,14 @@ impl Socket<UdpSocket> {
 
 impl<D: BoundSocket> Socket<D> {
     /// Where the system says that it is.
-    pub fn place(&self) -> io::Result<SocketAddr>
-        ensures { D.says self.now.socket result }
+    pub fn place(&mut self) -> io::Result<SocketAddr>
+        ensures says { D.says self.old.socket result }
+        ensures at { IfOk result (λ at. self.new.at ≡ Some at) }
+        ensures left { self.new ≡ record self.old { at = self.new.at } }
     {
-        self.socket.place()
+        let at = self.socket.place()?;
+        self.at = Some(at);
+        Ok(at)
     }
 
     /// Has the system drop what comes from elsewhere, and say where nobody listens (RFC 1122, section 4.1.3.3). Where
@@ -64,11 +70,19 @@ impl<D: BoundSocket> Socket<D> {
 impl<D> Socket<D> {
     /// A socket of which no call failed.
     pub fn over(socket: D) -> Socket<D>
-        ensures { result ≡ record { socket = socket; asked = None; joined = None; faults = 0; is_refused = false } }
+        ensures { result ≡ record {
+          socket = socket;
+          asked = None;
+          at = None;
+          joined = None;
+          faults = 0;
+          is_refused = false;
+        } }
     {
         Socket {
             socket,
             asked: None,
+            at: None,
             joined: None,
             faults: 0,
             is_refused: false,
@@ -77,11 +91,19 @@ impl<D> Socket<D> {
 
     // .. that the system was asked to bind there.
     fn asked_for(socket: D, address: SocketAddr) -> Socket<D>
-        ensures { result ≡ record { socket = socket; asked = Some address; joined = None; faults = 0; is_refused = false } }
+        ensures { result ≡ record {
+          socket = socket;
+          asked = Some address;
+          at = None;
+          joined = None;
+          faults = 0;
+          is_refused = false;
+        } }
     {
         Socket {
             socket,
             asked: Some(address),
+            at: None,
             joined: None,
             faults: 0,
             is_refused: false,

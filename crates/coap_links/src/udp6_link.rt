@@ -193,6 +193,8 @@ impl<
         ensures bound { IfOk result (λ link. IsBoundAtSix address link.at) }
         // A link over IPv6 is over a socket that the system was asked to bind at this address.
         ensures asked { IfOk result (λ link. link.socket.asked ≡ Some (V6 address)) }
+        // A link over IPv6 that is bound is where the system said that its socket is.
+        ensures said { IfOk result (λ link. link.socket.at ≡ Some (V6 link.at)) }
         // A link over IPv6 that is bound is connected to nobody.
         ensures free { IfOk result (λ link. link.socket.joined ≡ None) }
         // The endpoint of a link over IPv6 is the name that the table gives the address where it is.
@@ -245,14 +247,16 @@ impl<
         names: &'a PeerNames<S, A, L>,
         time: T,
     ) -> io::Result<Udp6Link<'a, S, A, T, D, L>>
-        ensures kept { IfOk result (λ link. link.socket ≡ socket) }
+        ensures kept { IfOk result (λ link. link.socket ≡ record socket { at = link.socket.at }) }
+        ensures said { IfOk result (λ link. link.socket.at ≡ Some (V6 link.at)) }
         ensures placed { IfOk result (λ link. (said : Result SocketAddrSpec ErrorSpec) × D.says socket.socket said
             × IsPlacedSix asked.now said (Ok link.at)) }
         ensures name { IfOk result (λ link. is_of_this_network link.address.ip ≡ true) }
         ensures named { IfOk result (λ link. (now : ℕ) × (own : SixPeerSpec) × IsSource (V6 link.at) (Six own)
             × NamesPeer L.is_lent now own (Some link.address)) }
     {
-        let at = place_of_six(&socket, asked)?;
+        let mut socket = socket;
+        let at = place_of_six(&mut socket, asked)?;
         let own = own_peer(&at)?;
         let mut time = time;
         let address = name_for(names, time.now()?, &own)?;
@@ -307,7 +311,8 @@ impl<
     fn address_of(&mut self, to: Endpoint) -> Option<SocketAddr>
         ensures socket { self.new.socket ≡ self.old.socket }
         ensures address { self.new.address ≡ self.old.address }
-        ensures reached { IsReachedAt L.is_lent (Told T.tells self.old.time self.new.time) (is_of_this_network to.ip) to result }
+        ensures reached { IsReachedAt L.is_lent (Told T.tells self.old.time self.new.time) (is_of_this_network to.ip) to
+            result }
     {
         if is_name(to) {
             let now = self.now();

@@ -1,6 +1,7 @@
 //! Tests of a link over IPv6.
 use crate::link::{Link, MAX_DATAGRAM_LEN};
 use crate::peer_names::{PeerNames, SixPeer};
+use crate::six_places::is_bound_at_six;
 use crate::timekeeper::Timekeeper;
 use crate::udp_link::{LOOPBACK, UdpLink};
 use crate::udp6_link::{Source, Udp6Link, address_of_four, address_of_six, source_of};
@@ -84,6 +85,26 @@ fn where_datagrams_come_from(rt: HostRuntime) -> Result<(), Fail> {
         source_of(SocketAddr::V6(address_of_four(FOUR))),
         Source::Four(FOUR)
     );
+    Ok(())
+}
+
+#[test]
+fn where_a_socket_is_that_was_asked_to_be_there(rt: HostRuntime) -> Result<(), Fail> {
+    let far = SocketAddrV6::new(Ipv6Addr::from_octets(LINK_LOCAL_OCTETS), 5_683, 0, 3);
+    let all = SocketAddrV6::new(Ipv6Addr::UNSPECIFIED, 5_683, 0, 0);
+    let all_of_a_zone = SocketAddrV6::new(Ipv6Addr::UNSPECIFIED, 5_683, 0, 2);
+    let rows = [
+        (link_local(5_683, 0), link_local(5_683, 9), true),
+        (link_local(0, 0), link_local(5_683, 0), true),
+        (link_local(5_684, 0), link_local(5_683, 0), false),
+        // The zone tells addresses of a single link apart, and no others.
+        (link_local(5_683, 0), far, false),
+        (all_of_a_zone, all, true),
+        (link_local(5_683, 0), all_of_a_zone, false),
+    ];
+    for (asked, at, is) in rows {
+        assert_eq!(rt; is_bound_at_six(&asked, &at), is);
+    }
     Ok(())
 }
 

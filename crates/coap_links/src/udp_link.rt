@@ -4,7 +4,7 @@ ghost use Rattle.std.specs.Prelude.{Result, Ok, Err, length, take, true, false};
 ghost use Rattle.std.specs.declared.io.Error.{Error as ErrorSpec};
 ghost use Rattle.std.specs.declared.net.socket_addr.SocketAddr.{SocketAddr as SocketAddrSpec};
 ghost use Rattle.coap_links.specs.Addressing.{IsAddressOf, IsThatOf, carried_from, carried_in};
-ghost use Rattle.coap_links.specs.Bound.{IsBoundAt, IsPlaced, bound_endpoint, client_ip};
+ghost use Rattle.coap_links.specs.Bound.{IsBoundAt, IsPlaced, IsSaidAt, bound_endpoint, client_ip};
 ghost use Rattle.coap_links.specs.Carried.{received};
 ghost use Rattle.coap_links.specs.SocketCalls.{ReceivesOn, SendsOn};
 ghost use Rattle.coap_links.specs.Sockets.{endpoint_in, is_of_this_network, reached_at};
@@ -99,8 +99,11 @@ fn is_bound_at(asked: Endpoint, address: Endpoint) -> bool
 }
 
 // Where a socket is that was asked to be there, as the system says.
-fn place_of<D: BoundSocket>(socket: &Socket<D>, asked: Endpoint) -> io::Result<Endpoint>
-    ensures { (said : Result SocketAddrSpec ErrorSpec) × D.says socket.now.socket said × IsPlaced asked said result }
+fn place_of<D: BoundSocket>(socket: &mut Socket<D>, asked: Endpoint) -> io::Result<Endpoint>
+    ensures placed { (said : Result SocketAddrSpec ErrorSpec) × D.says socket.old.socket said
+        × IsPlaced asked said result }
+    ensures said { IfOk result (λ address. IsSaidAt address socket.new.at) }
+    ensures kept { socket.new ≡ record socket.old { at = socket.new.at } }
 {
     match bound_endpoint(socket.place()?) {
         Some(bound) if is_bound_at(asked, bound) => Ok(bound),
@@ -134,6 +137,8 @@ impl UdpLink<UdpSocket> {
         ensures bound { IfOk result (λ link. IsBoundAt address link.address) }
         // A link is over a socket that the system was asked to bind at this address.
         ensures asked { IfOk result (λ link. IsThatOf address link.socket.asked) }
+        // A link that is bound has the address where the system said that its socket is.
+        ensures said { IfOk result (λ link. IsSaidAt link.address link.socket.at) }
         // A link that is bound is connected to nobody.
         ensures free { IfOk result (λ link. link.socket.joined ≡ None) }
     {
@@ -167,13 +172,15 @@ impl UdpLink<UdpSocket> {
 impl<D: BoundSocket + Drop> UdpLink<D> {
     // A link over a socket that was asked to be at this address, where the system says that it is there.
     fn placed(socket: Socket<D>, asked: Endpoint) -> io::Result<UdpLink<D>>
-        ensures kept { IfOk result (λ link. link.socket ≡ socket) }
+        ensures kept { IfOk result (λ link. link.socket ≡ record socket { at = link.socket.at }) }
+        ensures said { IfOk result (λ link. IsSaidAt link.address link.socket.at) }
         ensures placed { IfOk result (λ link. (said : Result SocketAddrSpec ErrorSpec) × D.says socket.socket said
             × IsPlaced asked said (Ok link.address)) }
         ensures refused { IfErr result (λ error. (said : Result SocketAddrSpec ErrorSpec) × D.says socket.socket said
             × IsPlaced asked said (Err error)) }
     {
-        let address = place_of(&socket, asked)?;
+        let mut socket = socket;
+        let address = place_of(&mut socket, asked)?;
         Ok(UdpLink { socket, address })
     }
 }
@@ -183,7 +190,7 @@ impl<D> UdpLink<D> {
     pub fn over(socket: D, address: Endpoint) -> UdpLink<D>
         // A link over a socket has failed no call, and is where it is said to be.
         ensures { result ≡ record {
-          socket = record { socket = socket; asked = None; joined = None; faults = 0; is_refused = false };
+          socket = record { socket = socket; asked = None; at = None; joined = None; faults = 0; is_refused = false };
           address = address;
         } }
     {
