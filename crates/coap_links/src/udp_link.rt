@@ -1,6 +1,6 @@
 //! A link over a socket of UDP.
-ghost use Rattle.std.specs.Prelude.{ℕ, List, Option, Some, None, ◌≡◌, ◌+◌, ◌<◌, ◌≤◌, ◌⊎◌, ◌↔◌, IfOk, IfErr, IfSome, IfNone};
-ghost use Rattle.std.specs.Prelude.{Result, Ok, Err, length, take, true, false};
+ghost use Rattle.std.specs.Prelude.{ℕ, List, Option, Some, None, ◌≡◌, ◌+◌, ◌<◌, ◌≤◌, ◌⊎◌, ◌↔◌};
+ghost use Rattle.std.specs.Prelude.{IfOk, IfErr, IfSome, IfNone, Result, Ok, Err, length, take, true, false};
 ghost use Rattle.std.specs.declared.io.Error.{Error as ErrorSpec};
 ghost use Rattle.std.specs.declared.net.socket_addr.SocketAddr.{SocketAddr as SocketAddrSpec};
 ghost use Rattle.coap_links.specs.Addressing.{IsAddressOf, IsThatOf, carried_from, carried_in};

@@ -1,1 +1,6 @@
+pub mod Shown
+pub mod ShownDatagrams
+pub mod WrittenHex
+pub mod WrittenOptions
+pub mod WrittenPaths
 pub mod WrittenSegments

@@ -1,6 +1,6 @@
--- A segment of a path in a URI (RFC 3986, section 3.3, and RFC 7252, section 6.5).
+-- A path in a URI, and its segments (RFC 3986, section 3.3, and RFC 7252, section 6.5).
 use Rattle.std.specs.Prelude.{ℕ, Bool, ◌||◌, ◌&&◌, ◌==◌, nat_le, List, [], ◌∷◌, codes, if◌then◌else◌}
-use Rattle.std.specs.List.{flat_map, list_any}
+use Rattle.std.specs.List.{flat_map, join_by, list_any}
 use Rattle.percent_encoding.specs.Percent.{percent_encode_byte}
 
 abbrev pub is_within : ℕ → ℕ → ℕ → Bool
@@ -20,3 +20,12 @@ segment_byte byte = if is_pchar byte then byte ∷ [] else percent_encode_byte b
 
 abbrev pub segment_text : List ℕ → List ℕ
 segment_text bytes = flat_map segment_byte bytes
+
+-- a slash, where one is wanted
+abbrev pub slash_if : Bool → List ℕ
+slash_if wanted = if wanted then codes "/" else []
+
+-- the segments, with a slash between two; a slash where there is none (RFC 7252, section 6.5)
+abbrev pub path_text : List (List ℕ) → List ℕ
+path_text [] = codes "/"
+path_text (segment ∷ segments) = join_by segment_text (codes "/") (segment ∷ segments)

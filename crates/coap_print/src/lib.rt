@@ -15,8 +15,8 @@ mod values;
 
 pub use chart::draw_run;
 pub use colours::Colour;
-pub use message_words::{DatagramWords, FaultWords, code_name, segment_law};
-pub use place_words::{EndpointWords, PathWords};
+pub use message_words::{DatagramWords, FaultWords, code_name, datagram_law, hex_law, write_hex};
+pub use place_words::{EndpointWords, PathWords, path_law, segment_law};
 pub use printing::{Ink, Printing};
 pub use run_lines::tell_run;
 pub use values::{hex_or_dash, report_text};

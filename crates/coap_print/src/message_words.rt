@@ -1,20 +1,27 @@
 //! A datagram in words.
-ghost use Rattle.std.specs.Prelude.{◌≡◌, ℕ, List, All, ◌<◌, ◌^◌, ◌/◌, ◌%◌};
+ghost use Rattle.std.specs.Prelude.{◌≡◌, ◌∷◌, ◌/◌, ◌%◌, [], length, List, ℕ, Some};
 ghost use Rattle.std.specs.Fmt.{WritesOnOk};
 ghost use Rattle.std.specs.Option.{option_map};
+ghost use Rattle.hex.specs.Hex.{encode_lower};
+ghost use Rattle.coap_types.specs.Bytes.{AreBytes};
+ghost use Rattle.coap_types.specs.CoapOption.{option_of};
+ghost use Rattle.coap_types.specs.RequestPath.{path_of};
 ghost use Rattle.coap_print.specs.CodeNames.{client_error_names, code_name, name_at, request_names, server_error_names};
 ghost use Rattle.coap_print.specs.CodeNames.{is_request_code, success_names};
+ghost use Rattle.coap_print.specs.Datagrams.{asked_text, block_text, bytes_text, datagram_text, fault_text, head_text};
+ghost use Rattle.coap_print.specs.Datagrams.{is_listed, length_text, message_text, name_text, named_text, option_text};
+ghost use Rattle.coap_print.specs.Datagrams.{options_text, value_text};
 ghost use Rattle.coap_print.specs.OptionNames.{option_form};
-ghost use Rattle.coap_print.specs.Printable.{ArePrintable};
-ghost use Rattle.coap_print.specs.Segments.{is_pchar, segment_byte, segment_text};
+ghost use Rattle.coap_print.specs.Printable.{ArePrintable, AreShown};
+ghost use Rattle.coap_print.specs.Segments.{path_text};
 
-use coap_codec::{Fault, View, decode};
+use crate::place_words::{write_next, write_slash};
+use coap_codec::{Fault, View, decode, one_reading, spelling_law};
 use coap_types::option_number::{
     ACCEPT, BLOCK1, BLOCK2, CONTENT_FORMAT, ETAG, IF_MATCH, IF_NONE_MATCH, OBSERVE, PROXY_SCHEME,
     PROXY_URI, SIZE1, SIZE2, URI_HOST, URI_PATH, URI_PORT,
 };
 use coap_types::{Block, Code, Opt, uint_of};
-use percent_encoding::percent_encode_byte;
 use std::fmt;
 
 /// A fault in words: the number of the reason, its name and its place.
@@ -22,6 +29,8 @@ use std::fmt;
 pub struct FaultWords(pub Fault);
 
 impl fmt::Display for FaultWords {
+    ghost output = { λ words. Some (fault_text words.0.reason words.0.at) };
+
     fn fmt<W: fmt::Write>(&self, f: &mut fmt::Formatter<W>) -> fmt::Result {
         let number = self.0.reason.number();
         let reason = self.0.reason;
@@ -37,37 +46,89 @@ impl fmt::Display for FaultWords {
 pub struct DatagramWords<'a>(pub &'a [u8]);
 
 impl<'a> fmt::Display for DatagramWords<'a> {
+    ghost output = { λ words. Some (datagram_text words.0.now) };
+
     fn fmt<W: fmt::Write>(&self, f: &mut fmt::Formatter<W>) -> fmt::Result {
-        match decode(self.0) {
-            Ok(message) => write_message(f, &message),
-            Err(fault) => {
-                let words = FaultWords(fault);
-                write!(f, "{words}")
-            }
+        write_datagram(f, self.0)
+    }
+}
+
+/// What is written of a datagram takes a terminal for no command.
+pub fn datagram_law()
+    // Whatever bytes a datagram has, each character of its words is a printable one of ASCII, or a blank.
+    ensures { (bytes : List ℕ) → AreBytes bytes → AreShown (datagram_text bytes) }
+{
+    one_reading();
+    spelling_law();
+}
+
+fn write_datagram<W: fmt::Write>(f: &mut fmt::Formatter<W>, bytes: &[u8]) -> fmt::Result
+    ensures { WritesOnOk W.write_str_gives f.old result (datagram_text bytes.now) f.new }
+{
+    match decode(bytes) {
+        Ok(message) => write_message(f, &message),
+        Err(fault) => {
+            let words = FaultWords(fault);
+            write!(f, "{words}")
         }
     }
 }
 
-fn write_message<W: fmt::Write>(f: &mut fmt::Formatter<W>, message: &View<'_>) -> fmt::Result {
+fn write_message<W: fmt::Write>(f: &mut fmt::Formatter<W>, message: &View<'_>) -> fmt::Result
+    ensures { WritesOnOk W.write_str_gives f.old result (message_text message.now) f.new }
+{
+    write_head(f, message)?;
+    write_name(f, message.code())?;
+    write_asked(f, message)?;
+    write_options(f, message)?;
+    write_len(f, message.payload().len())
+}
+
+// The type, the code, the Message ID and the token.
+fn write_head<W: fmt::Write>(f: &mut fmt::Formatter<W>, message: &View<'_>) -> fmt::Result
+    ensures { WritesOnOk W.write_str_gives f.old result (head_text message.now) f.new }
+{
     let kind = message.kind();
     let code = message.code();
-    let id = message.id().0;
-    write!(f, "{kind} {code} {id:04x} [")?;
+    let id = message.id().0.to_be_bytes();
+    write!(f, "{kind} {code} ")?;
+    write_hex(f, &id)?;
+    f.write_str(" [")?;
     write_hex(f, message.token())?;
-    f.write_str("]")?;
-    if let Some(name) = code_name(code) {
-        write!(f, " {name}")?;
+    f.write_str("]")
+}
+
+/// What a code is called, a space in front; nothing where it has no name.
+pub(crate) fn write_name<W: fmt::Write>(f: &mut fmt::Formatter<W>, code: Code) -> fmt::Result
+    ensures { WritesOnOk W.write_str_gives f.old result (name_text code.0) f.new }
+{
+    match code_name(code) {
+        Some(name) => write!(f, " {name}"),
+        None => Ok(()),
     }
-    if is_request(code) {
+}
+
+// The path of a request, a space in front.
+fn write_asked<W: fmt::Write>(f: &mut fmt::Formatter<W>, message: &View<'_>) -> fmt::Result
+    ensures { WritesOnOk W.write_str_gives f.old result (asked_text message.now) f.new }
+{
+    if is_request(message.code()) {
         f.write_str(" ")?;
-        write_path(f, message)?;
+        write_path(f, message)
+    } else {
+        Ok(())
     }
-    write_options(f, message)?;
-    let len = message.payload().len();
+}
+
+/// How many bytes there are, a comma in front; nothing where there are none.
+pub(crate) fn write_len<W: fmt::Write>(f: &mut fmt::Formatter<W>, len: usize) -> fmt::Result
+    ensures { WritesOnOk W.write_str_gives f.old result (length_text len) f.new }
+{
     if len > 0 {
-        write!(f, ", {len} B")?;
+        write!(f, ", {len} B")
+    } else {
+        Ok(())
     }
-    Ok(())
 }
 
 // A code of class 0 but that of an Empty message (RFC 7252, section 12.1.1).
@@ -155,74 +216,47 @@ pub fn code_name(code: Code) -> Option<&'static str>
     }
 }
 
-// The segments of a path, with a slash between two; a slash where there is none (RFC 7252, section 6.5).
-fn write_path<W: fmt::Write>(f: &mut fmt::Formatter<W>, message: &View<'_>) -> fmt::Result {
-    let mut is_empty = true;
+// The path that the options of a message say.
+fn write_path<W: fmt::Write>(f: &mut fmt::Formatter<W>, message: &View<'_>) -> fmt::Result
+    ensures { WritesOnOk W.write_str_gives f.old result (path_text (path_of message.now.options)) f.new }
+{
+    let mut is_first = true;
     for option in message.options() {
         if option.number == URI_PATH {
-            if !is_empty {
-                f.write_str("/")?;
-            }
-            is_empty = false;
-            write_segment(f, option.value)?;
+            write_next(f, is_first, option.value)?;
+            is_first = false;
         }
     }
-    if is_empty {
-        f.write_str("/")?;
-    }
-    Ok(())
+    write_slash(f, is_first)
 }
 
-/// A segment, percent-encoded but for the characters that a segment may have (RFC 3986, section 3.3).
-pub(crate) fn write_segment<W: fmt::Write>(f: &mut fmt::Formatter<W>, segment: &[u8]) -> fmt::Result
-    ensures { WritesOnOk W.write_str_gives f.old result (segment_text segment.now) f.new }
+// Each option but the path of a request.
+fn write_options<W: fmt::Write>(f: &mut fmt::Formatter<W>, message: &View<'_>) -> fmt::Result
+    ensures { WritesOnOk W.write_str_gives f.old result
+        (options_text message.now.code message.now.options) f.new }
 {
-    for byte in segment {
-        write_byte(f, *byte)?;
-    }
-    Ok(())
-}
-
-// A byte of a segment.
-fn write_byte<W: fmt::Write>(f: &mut fmt::Formatter<W>, byte: u8) -> fmt::Result
-    ensures { WritesOnOk W.write_str_gives f.old result (segment_byte byte) f.new }
-{
-    if is_plain(byte) {
-        f.write_char(byte as char)
-    } else {
-        f.write_str(percent_encode_byte(byte))
-    }
-}
-
-/// What is written of a segment takes a terminal for no command.
-pub fn segment_law()
-    // Whatever bytes a segment has, each character that is written of it is a printable one of ASCII.
-    ensures { (bytes : List ℕ) → All (λ b. b < 2 ^ 8) bytes → ArePrintable (segment_text bytes) }
-{}
-
-// What stands for itself in a segment: a `pchar` that is not percent-encoded (RFC 3986, section 3.3).
-fn is_plain(byte: u8) -> bool
-    ensures { result ≡ is_pchar byte }
-{
-    match byte {
-        b'A'..=b'Z' | b'a'..=b'z' | b'0'..=b'9' => true,
-        b'-' | b'.' | b'_' | b'~' => true,
-        b'!' | b'$' | b'&' | b'\'' | b'(' | b')' | b'*' | b'+' | b',' | b';' | b'=' => true,
-        b':' | b'@' => true,
-        _ => false,
-    }
-}
-
-// Each option but the path of a request, a comma in front.
-fn write_options<W: fmt::Write>(f: &mut fmt::Formatter<W>, message: &View<'_>) -> fmt::Result {
-    let is_request = is_request(message.code());
+    let code = message.code();
     for option in message.options() {
-        if !is_request || option.number != URI_PATH {
-            f.write_str(", ")?;
+        if is_listed(code, &option) {
             write_option(f, &option)?;
         }
     }
     Ok(())
+}
+
+// It stands among the options: it is none of the path of a request.
+fn is_listed(code: Code, option: &Opt<'_>) -> bool
+    ensures { result ≡ is_listed code.0 (option_of option.now) }
+{
+    !is_request(code) || option.number != URI_PATH
+}
+
+// An option, a comma in front.
+fn write_option<W: fmt::Write>(f: &mut fmt::Formatter<W>, option: &Opt<'_>) -> fmt::Result
+    ensures { WritesOnOk W.write_str_gives f.old result (option_text (option_of option.now)) f.new }
+{
+    f.write_str(", ")?;
+    write_named(f, option)
 }
 
 // How the value of an option is told.
@@ -258,7 +292,10 @@ fn option_form(number: u16) -> Option<(&'static str, Form)>
 }
 
 // The name and the value; the number and the bytes of one that has no name here.
-fn write_option<W: fmt::Write>(f: &mut fmt::Formatter<W>, option: &Opt<'_>) -> fmt::Result {
+fn write_named<W: fmt::Write>(f: &mut fmt::Formatter<W>, option: &Opt<'_>) -> fmt::Result
+    ensures { WritesOnOk W.write_str_gives f.old result
+        (named_text (option_form option.now.number) (option_of option.now)) f.new }
+{
     let number = option.number;
     match option_form(number) {
         Some((name, form)) => {
@@ -272,33 +309,58 @@ fn write_option<W: fmt::Write>(f: &mut fmt::Formatter<W>, option: &Opt<'_>) -> f
     }
 }
 
-// A value, a space in front: a number, a block (NUM/M/size, as in RFC 7959, section 3), or its bytes, as where it
-// is not what it should be.
-fn write_value<W: fmt::Write>(f: &mut fmt::Formatter<W>, form: Form, value: &[u8]) -> fmt::Result {
+// A value, a space in front: a number, a block, or its bytes, as where it is not what it should be.
+fn write_value<W: fmt::Write>(f: &mut fmt::Formatter<W>, form: Form, value: &[u8]) -> fmt::Result
+    ensures { WritesOnOk W.write_str_gives f.old result (value_text form value.now) f.new }
+{
     match (form, uint_of(value), Block::read(value)) {
         (Form::Number, Some(number), _) => write!(f, " {number}"),
-        (Form::Block, _, Some(block)) => {
-            let num = block.num;
-            let more = block.more as u8;
-            let size = block.szx.size();
-            write!(f, " {num}/{more}/{size}")
-        }
+        (Form::Block, _, Some(block)) => write_block(f, block),
         _ => write_bytes(f, value),
     }
 }
 
+// A block, a space in front: NUM/M/size (RFC 7959, section 3).
+fn write_block<W: fmt::Write>(f: &mut fmt::Formatter<W>, block: Block) -> fmt::Result
+    ensures { WritesOnOk W.write_str_gives f.old result (block_text (Some block) []) f.new }
+{
+    let num = block.num;
+    let more = block.more as u8;
+    let size = block.szx.size();
+    write!(f, " {num}/{more}/{size}")
+}
+
 // Bytes in hex, a space in front; nothing where there are none.
-fn write_bytes<W: fmt::Write>(f: &mut fmt::Formatter<W>, bytes: &[u8]) -> fmt::Result {
-    if !bytes.is_empty() {
-        f.write_str(" ")?;
+fn write_bytes<W: fmt::Write>(f: &mut fmt::Formatter<W>, bytes: &[u8]) -> fmt::Result
+    ensures { WritesOnOk W.write_str_gives f.old result (bytes_text bytes.now) f.new }
+{
+    if bytes.is_empty() {
+        return Ok(());
     }
+    f.write_str(" ")?;
     write_hex(f, bytes)
 }
 
-/// Bytes in hex.
-pub(crate) fn write_hex<W: fmt::Write>(f: &mut fmt::Formatter<W>, bytes: &[u8]) -> fmt::Result {
+/// Writes bytes in hex.
+pub fn write_hex<W: fmt::Write>(f: &mut fmt::Formatter<W>, bytes: &[u8]) -> fmt::Result
+    // What is written of bytes is two digits each, in lower case.
+    ensures { WritesOnOk W.write_str_gives f.old result (encode_lower bytes.now) f.new }
+{
     for byte in bytes {
-        write!(f, "{byte:02x}")?;
+        write_hex_byte(f, *byte)?;
     }
     Ok(())
+}
+
+/// What is written of bytes in hex takes a terminal for no command.
+pub fn hex_law()
+    // Whatever the bytes, each digit that is written of them is a printable character of ASCII.
+    ensures { (bytes : List ℕ) → AreBytes bytes → ArePrintable (encode_lower bytes) }
+{}
+
+// A byte in hex: two digits.
+fn write_hex_byte<W: fmt::Write>(f: &mut fmt::Formatter<W>, byte: u8) -> fmt::Result
+    ensures { WritesOnOk W.write_str_gives f.old result (encode_lower (byte ∷ [])) f.new }
+{
+    write!(f, "{byte:02x}")
 }

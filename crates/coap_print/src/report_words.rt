@@ -1,5 +1,10 @@
 //! A report in words.
-use crate::message_words::{code_name, write_hex};
+ghost use Rattle.std.specs.Prelude.{Some};
+ghost use Rattle.std.specs.Fmt.{WritesOnOk};
+ghost use Rattle.std.specs.Option.{option_map};
+ghost use Rattle.coap_print.specs.ReportWords.{code_words, fetched_words, format_words, report_words, tag_words};
+
+use crate::message_words::{write_hex, write_name};
 use coap_ends::{Fetched, Report};
 use coap_types::{Code, Tag};
 use std::alloc::Allocator;
@@ -10,6 +15,8 @@ use std::fmt;
 pub(crate) struct ReportWords<'a, A: Allocator + Copy>(pub(crate) &'a Report<A>);
 
 impl<'a, A: Allocator + Copy> fmt::Display for ReportWords<'a, A> {
+    ghost output = { λ words. Some (report_words words.0.now) };
+
     fn fmt<W: fmt::Write>(&self, f: &mut fmt::Formatter<W>) -> fmt::Result {
         match self.0 {
             Report::Body(fetched) => {
@@ -44,17 +51,19 @@ impl<'a, A: Allocator + Copy> fmt::Display for ReportWords<'a, A> {
 fn write_fetched<A: Allocator + Copy, W: fmt::Write>(
     f: &mut fmt::Formatter<W>,
     fetched: &Fetched<A>,
-) -> fmt::Result {
-    write_tag(f, fetched.tag.as_ref())?;
-    if let Some(format) = fetched.format {
-        write!(f, ", Content-Format {format}")?;
-    }
+) -> fmt::Result
+    ensures { WritesOnOk W.write_str_gives f.old result (fetched_words fetched.now) f.new }
+{
     let len = fetched.body.len();
+    write_tag(f, fetched.tag.as_ref())?;
+    write_format(f, fetched.format)?;
     write!(f, ", {len} B")
 }
 
 // An entity-tag, where there is one.
-fn write_tag<W: fmt::Write>(f: &mut fmt::Formatter<W>, tag: Option<&Tag>) -> fmt::Result {
+fn write_tag<W: fmt::Write>(f: &mut fmt::Formatter<W>, tag: Option<&Tag>) -> fmt::Result
+    ensures { WritesOnOk W.write_str_gives f.old result (tag_words (option_map (λ t. t.now) tag.entry)) f.new }
+{
     match tag {
         Some(tag) => {
             f.write_str(", ETag ")?;
@@ -64,11 +73,20 @@ fn write_tag<W: fmt::Write>(f: &mut fmt::Formatter<W>, tag: Option<&Tag>) -> fmt
     }
 }
 
-// What came, with a code: its number, and its name where it has one.
-fn write_code<W: fmt::Write>(f: &mut fmt::Formatter<W>, what: &str, code: Code) -> fmt::Result {
-    write!(f, "{what} {code}")?;
-    match code_name(code) {
-        Some(name) => write!(f, " {name}"),
+// A Content-Format, where there is one.
+fn write_format<W: fmt::Write>(f: &mut fmt::Formatter<W>, format: Option<u16>) -> fmt::Result
+    ensures { WritesOnOk W.write_str_gives f.old result (format_words format) f.new }
+{
+    match format {
+        Some(format) => write!(f, ", Content-Format {format}"),
         None => Ok(()),
     }
+}
+
+// What came, with a code: its number, and its name where it has one.
+fn write_code<W: fmt::Write>(f: &mut fmt::Formatter<W>, what: &str, code: Code) -> fmt::Result
+    ensures { WritesOnOk W.write_str_gives f.old result (code_words what.now code) f.new }
+{
+    write!(f, "{what} {code}")?;
+    write_name(f, code)
 }

@@ -1,5 +1,7 @@
 //! How old what is reported is: how long before its report the server last held it so.
-ghost use Rattle.std.specs.Prelude.{◌≡◌, option_copied};
+ghost use Rattle.std.specs.Prelude.{◌≡◌, Some, option_copied};
+ghost use Rattle.std.specs.Fmt.{WritesOnOk};
+ghost use Rattle.coap_print.specs.Happenings.{age_text, fraction_text};
 ghost use Rattle.coap_print.specs.Lines.{asked_path, holding_after, makes, shown_tag, takes};
 
 use crate::run_lines::is_begin;
@@ -21,19 +23,30 @@ const HUNDREDTH_MS: u64 = 10;
 pub(super) struct Age(pub(super) u64);
 
 impl fmt::Display for Age {
+    ghost output = { λ age. Some (age_text age.0) };
+
     fn fmt<W: fmt::Write>(&self, f: &mut fmt::Formatter<W>) -> fmt::Result {
-        let (seconds, ms) = (self.0 / SECOND_MS, self.0 % SECOND_MS);
-        let (tenths, hundredths) = (ms / TENTH_MS, ms / HUNDREDTH_MS);
+        let seconds = self.0 / SECOND_MS;
         write!(f, "age {seconds}")?;
-        if ms == 0 {
-            f.write_str(" s")
-        } else if ms % TENTH_MS == 0 {
-            write!(f, ".{tenths} s")
-        } else if ms % HUNDREDTH_MS == 0 {
-            write!(f, ".{hundredths:02} s")
-        } else {
-            write!(f, ".{ms:03} s")
-        }
+        write_fraction(f, self.0 % SECOND_MS)
+    }
+}
+
+// What is behind whole seconds, in milliseconds: no more digits than it takes.
+fn write_fraction<W: fmt::Write>(f: &mut fmt::Formatter<W>, ms: u64) -> fmt::Result
+    ensures { WritesOnOk W.write_str_gives f.old result (fraction_text ms) f.new }
+{
+    let tenths = ms / TENTH_MS;
+    let hundredths = ms / HUNDREDTH_MS % 10;
+    let thousandths = ms % HUNDREDTH_MS;
+    if ms == 0 {
+        f.write_str(" s")
+    } else if ms % TENTH_MS == 0 {
+        write!(f, ".{tenths} s")
+    } else if ms % HUNDREDTH_MS == 0 {
+        write!(f, ".{tenths}{hundredths} s")
+    } else {
+        write!(f, ".{tenths}{hundredths}{thousandths} s")
     }
 }
 

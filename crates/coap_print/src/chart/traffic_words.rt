@@ -1,4 +1,9 @@
 //! Datagrams on their way, in words.
+ghost use Rattle.std.specs.Prelude.{◌≡◌, Some};
+ghost use Rattle.std.specs.Fmt.{WritesOnOk};
+ghost use Rattle.coap_print.specs.TrafficWords.{again_text, arrival_text, arrived_text, sent_text};
+ghost use Rattle.coap_print.specs.TrafficWords.{stranger_text, to_text};
+
 use crate::chart::traffic::Arrival;
 use crate::message_words::DatagramWords;
 use crate::place_words::EndpointWords;
@@ -18,18 +23,38 @@ pub(super) struct SentWords<'a> {
 }
 
 impl<'a> fmt::Display for SentWords<'a> {
+    ghost output = { λ words. Some (sent_text words) };
+
     fn fmt<W: fmt::Write>(&self, f: &mut fmt::Formatter<W>) -> fmt::Result {
         let number = self.number;
-        write!(f, "{number}")?;
-        if let Some(first) = self.first {
-            write!(f, " ({first} again)")?;
-        }
-        if let Some(to) = self.to {
-            let to = EndpointWords(to);
-            write!(f, " to {to}")?;
-        }
         let words = DatagramWords(self.bytes);
+        write!(f, "{number}")?;
+        write_again(f, self.first)?;
+        write_to(f, self.to)?;
         write!(f, ": {words}")
+    }
+}
+
+// The first datagram of the same bytes, where that is another one.
+fn write_again<W: fmt::Write>(f: &mut fmt::Formatter<W>, first: Option<usize>) -> fmt::Result
+    ensures { WritesOnOk W.write_str_gives f.old result (again_text first) f.new }
+{
+    match first {
+        Some(first) => write!(f, " ({first} again)"),
+        None => Ok(()),
+    }
+}
+
+// For whom a datagram is, where that is no end.
+fn write_to<W: fmt::Write>(f: &mut fmt::Formatter<W>, to: Option<Endpoint>) -> fmt::Result
+    ensures { WritesOnOk W.write_str_gives f.old result (to_text to) f.new }
+{
+    match to {
+        Some(to) => {
+            let to = EndpointWords(to);
+            write!(f, " to {to}")
+        }
+        None => Ok(()),
     }
 }
 
@@ -43,15 +68,24 @@ pub(super) struct ArrivedWords {
 }
 
 impl fmt::Display for ArrivedWords {
+    ghost output = { λ words. Some (arrived_text words) };
+
     fn fmt<W: fmt::Write>(&self, f: &mut fmt::Formatter<W>) -> fmt::Result {
         let number = self.number;
         let ms = self.ms;
-        let how = match self.arrival {
-            Arrival::InOrder => "",
-            Arrival::Late => " late,",
-            Arrival::Again => " again,",
-        };
+        let how = arrival_text(self.arrival);
         write!(f, "{number}{how} after {ms} ms")
+    }
+}
+
+// How a datagram arrives.
+fn arrival_text(arrival: Arrival) -> &'static str
+    ensures { result.now ≡ arrival_text arrival }
+{
+    match arrival {
+        Arrival::InOrder => "",
+        Arrival::Late => " late,",
+        Arrival::Again => " again,",
     }
 }
 
@@ -63,6 +97,8 @@ pub(super) struct StrangerWords<'a> {
 }
 
 impl<'a> fmt::Display for StrangerWords<'a> {
+    ghost output = { λ words. Some (stranger_text words) };
+
     fn fmt<W: fmt::Write>(&self, f: &mut fmt::Formatter<W>) -> fmt::Result {
         let from = EndpointWords(self.from);
         let words = DatagramWords(self.bytes);

@@ -1,10 +1,10 @@
 use Rattle.std.proofs.Common.{take}
 use Rattle.std.specs.Fmt.{HasWritten, IsPlainFormatter}
-use Rattle.coap_print.specs.Segments.{segment_text}
-use Rattle.coap_print.proofs.message_words.write_segment.Given as goal
+use Rattle.hex.specs.Hex.{encode_lower}
+use Rattle.coap_print.proofs.message_words.write_hex.Given as goal
 
 -- the first bytes are written
 abbrev pub invariant-loop-byte : goal.invariant-loop-byte
 invariant-loop-byte g l =
     IsPlainFormatter l.initial.f
-    → HasWritten g.W.Write.write_str_gives l.initial.f (segment_text (take l.byte-index l.segment)) l.f
+    → HasWritten g.W.Write.write_str_gives l.initial.f (encode_lower (take l.byte-index l.bytes)) l.f

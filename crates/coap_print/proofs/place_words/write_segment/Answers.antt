@@ -1,7 +1,7 @@
 use Rattle.std.proofs.Common.{rules, arith}
 use Rattle.std.proofs.lemmas.Grind.{put_two}
 use Rattle.coap_print.proofs.WrittenSegments.{one_more}
-use Rattle.coap_print.proofs.message_words.write_segment.Goals as goal
+use Rattle.coap_print.proofs.place_words.write_segment.Goals as goal
 
 pub loop-byte-preserved : goal.loop-byte-preserved
 loop-byte-preserved g c = λ plain.

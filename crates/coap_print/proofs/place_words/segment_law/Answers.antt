@@ -1,5 +1,5 @@
 use Rattle.coap_print.proofs.WrittenSegments.{printable}
-use Rattle.coap_print.proofs.message_words.segment_law.Goals as goal
+use Rattle.coap_print.proofs.place_words.segment_law.Goals as goal
 
 pub returns : goal.returns
 returns c = printable
