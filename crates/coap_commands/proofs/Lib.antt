@@ -7,6 +7,7 @@ pub mod PairTexts
 pub mod PolledCalls
 pub mod ScriptCalls
 pub mod KeptCalls
+pub mod LinkedTurns
 pub mod ServedCalls
 pub mod SettingUpCalls
 pub mod Statuses

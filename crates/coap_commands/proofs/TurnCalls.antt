@@ -6,10 +6,6 @@ use Rattle.std.proofs.Common.{OnOk, inl, inr, false}
 use Rattle.coap_types.specs.declared.endpoint.Endpoint.{Endpoint}
 use Rattle.coap_layer.specs.Trace as layer
 use Rattle.coap_client.specs.Led.{State, Step}
-use Rattle.coap_layer.specs.Trace.{Answer}
-use Rattle.coap_exchange.specs.declared.asker.AskRefusal.{AskRefusal}
-use Rattle.coap_exchange.specs.declared.asker.Event.{Event}
-use Rattle.coap_exchange.specs.declared.asker.Turn.{Turn}
 use Rattle.coap_client.specs.Trace.{Call, Feeds, NextOut, Ticks}
 use Rattle.coap_links.specs.Carried.{Packet}
 use Rattle.coap_links.specs.Pumping.{IsFedOrLost, SendsAll}
@@ -17,6 +13,7 @@ use Rattle.coap_links.specs.Turning.{Rests, Steps, Turns, further, next_word, no
 use Rattle.coap_links.specs.declared.driver.Pumped.{Pumped}
 use Rattle.coap_links.specs.declared.tally.Tally.{Tally}
 use Rattle.coap_commands.specs.Asks.{AsksNothing, Chain, Each, Turned, TurnsAt}
+use Rattle.coap_commands.specs.Linked.{client_feeds, client_gives, client_ticks}
 
 pub chain_join : (old mid new : State) (later earlier : List Call) → Chain old earlier mid → Chain mid later new
     → Chain old (later ++ earlier) new
@@ -90,20 +87,7 @@ module _ {L : Type 0} (like : Call → Type 0) (now : ℕ) (waiting : State → 
         turned_on like e g f (turned_on like e pump.0 g sent came)
         (turned_on like g ticks_out.0 f ticked (rested ticks_out.0 ticks_out.1 f u ticks_out.3))
 
--- ---- a turn of a client: the relations that it has as an end
-
-abbrev client_gives : State → layer.Packet → State → Type 0
-client_gives s packet n = Step s (NextOut (Some packet)) n
-
-abbrev client_feeds : State → ℕ → Endpoint → List ℕ → ℕ → State → Type 0
-client_feeds s now from bytes word n =
-    (up : Answer) × (settled : Bool) × (event : Option Event) × (sent : Answer) × (token : Result (List ℕ) AskRefusal)
-    × (kept : Bool) × Step s (Feeds now from bytes word up settled event sent token kept) n
-
-abbrev client_ticks : State → ℕ → ℕ → Bool → State → Type 0
-client_ticks s now word did n =
-    (below : Answer) × (due : Turn) × (sent : Answer) × (token : Result (List ℕ) AskRefusal) × (kept : Bool)
-    × Step s (Ticks now word below due sent token kept did) n
+-- ---- a turn of a client
 
 pub client_turned : {L : Type 0} (like : Call → Type 0) (nothing : (c : Call) → AsksNothing c → like c)
     (waiting : State → List layer.Packet) (sends : L → Endpoint → List ℕ → L → Type 0)

@@ -15,8 +15,10 @@ pub mod JsonLines
 pub mod JsonValues
 pub mod Kept
 pub mod KeptWords
+pub mod Linked
 pub mod ObservedTurns
 pub mod Observes
+pub mod PairTurns
 pub mod Pairs
 pub mod PingLines
 pub mod Pinged

@@ -12,6 +12,7 @@ ghost use Rattle.coap_client.specs.declared.client.report.Report as R;
 ghost use Rattle.coap_commands.specs.Asks.{AsksNothing, Becomes, Comes, Turned, changed_status};
 ghost use Rattle.coap_commands.specs.Asks.{got_status, status_after};
 ghost use Rattle.coap_commands.specs.JsonLines.{Tells, WritesRequest};
+ghost use Rattle.coap_commands.specs.Linked.{IsRunOver, PassesNothing, RunsOver};
 ghost use Rattle.coap_commands.specs.Printed.{WritesGot, WritesInWords, WritesSaid};
 ghost use Rattle.coap_commands.specs.Terms.{setup_of, sizes_of};
 ghost use Rattle.coap_commands.specs.declared.calling.Outcome.TheVariants as outcomes;
@@ -43,6 +44,7 @@ pub(crate) fn next_report_of<H: BuildHasher>(
         (NextReport (Some (record { number = id.0; report = shown_report report }))) client.new) }
     ensures none { IfNone result (Turned AsksNothing client.old client.new) }
     ensures other { IfNone result ((taken : Option Reported) × Step client.old (NextReport taken) client.new) }
+    ensures own { Turned PassesNothing client.old client.new }
 {
     match client.next_report() {
         Some((of, report)) if of.0 == id.0 => Some(report),
@@ -60,6 +62,8 @@ fn awaited<H: BuildHasher, L: Link, T: Timekeeper, E: Write>(
     terms: &Terms,
 ) -> Result<Outcome, Stop>
     ensures comes { IfOk result (Comes terms.now.give_up begin.0 client.old id.0) }
+    ensures over { IfOk result (λ _. RunsOver L.sends L.receives L.fault_count terms.now.word client.old
+        connection.old.link.now client.new connection.new.link.now) }
     ensures sent { (report : R.Report Global) → result ≡ Ok (outcomes.Reported report)
         → client.new.layer.layer.queue ≡ [] }
 {
@@ -85,8 +89,12 @@ pub(crate) fn outcome_of<H: BuildHasher, L: Link, T: Timekeeper, E: Write>(
     request: Request,
     terms: &Terms,
 ) -> Result<Outcome, Stop>
-    ensures { IfOk result (λ outcome. (server : EndpointSpec) (sizes : Sizes) (w : SetupSpec)
+    ensures becomes { IfOk result (λ outcome. (server : EndpointSpec) (sizes : Sizes) (w : SetupSpec)
         → Led server sizes w [] client.old → Becomes server sizes w terms.now.give_up (shown_request request) outcome) }
+    ensures over { IfOk result (λ _. RunsOver L.sends L.receives L.fault_count terms.now.word client.old
+        connection.old.link.now client.new connection.new.link.now) }
+    ensures sent { (report : R.Report Global) → result ≡ Ok (outcomes.Reported report)
+        → client.new.layer.layer.queue ≡ [] }
 {
     let begin = connection.time.now()?;
     match call(client, begin, request)? {
@@ -208,9 +216,11 @@ fn ask_and_tell<H: BuildHasher, L: Link, T: Timekeeper, O: Write, E: Write>(
     terms: &Terms,
     out: &mut O,
 ) -> Result<Status, Stop>
-    ensures { IfOk result (λ status. (server : EndpointSpec) (sizes : Sizes) (w : SetupSpec)
+    ensures tells { IfOk result (λ status. (server : EndpointSpec) (sizes : Sizes) (w : SetupSpec)
         → Led server sizes w [] client.old → Tells terms.now.json (O.contents out.old) (O.contents out.new)
         server sizes w terms.now.give_up (shown_request request) status) }
+    ensures over { IfOk result (λ _. RunsOver L.sends L.receives L.fault_count terms.now.word client.old
+        connection.old.link.now client.new connection.new.link.now) }
 {
     let method = request.method;
     let outcome = outcome_of(client, connection, request, terms)?;
@@ -241,8 +251,11 @@ pub fn ask_over<L: Link, T: Timekeeper, H: BuildHasher + Drop, O: Write, E: Writ
     // first turn after as many seconds as may pass; the status is 0 where a body (of a GET) or success was reported of
     // it, and else 1. Where that is told in JSON, what is written is the line of what became of the request; else the
     // body that a GET got, or, on a line, what else became of the request, unless it was given up; and nothing else.
-    ensures { IfOk result (Tells terms.now.json (O.contents out.old) (O.contents out.new)
+    ensures tells { IfOk result (Tells terms.now.json (O.contents out.old) (O.contents out.new)
         server (sizes_of terms.now) (setup_of terms.now) terms.now.give_up (shown_request request)) }
+    // What a client of a request is fed came over its link, in turns, and all that it gives out is sent over it.
+    ensures over { IfOk result (λ _. IsRunOver L.sends L.receives L.fault_count server (sizes_of terms.now)
+        (setup_of terms.now) connection.old.link.now connection.new.link.now) }
 {
     let mut client = fresh_client(
         alloc,

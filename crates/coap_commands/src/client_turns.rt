@@ -2,6 +2,7 @@
 ghost use Rattle.std.specs.Prelude.{◌≡◌, Ok, IfOk, OnOk};
 ghost use Rattle.coap_commands.specs.Asks.{AsksNothing, Turned, TurnsAt};
 ghost use Rattle.coap_commands.specs.Bearing.{borne_by};
+ghost use Rattle.coap_commands.specs.Linked.{HasTurn};
 
 use crate::bearing::{Counting, bear};
 use crate::connection::Connection;
@@ -23,6 +24,8 @@ pub(crate) fn turn_now<H: BuildHasher, L: Link, T: Timekeeper, E: Write>(
     tally: &mut Tally,
 ) -> Result<Moment, Stop>
     ensures told { IfOk result (λ now. T.tells connection.old.time.now now.0 connection.new.time.now) }
+    ensures over { IfOk result (λ now. HasTurn L.sends L.receives L.fault_count client.old connection.old.link.now now.0
+        tally.old client.new connection.new.link.now tally.new) }
     ensures turned { IfOk result (λ now. Turned (TurnsAt now.0) client.old client.new) }
     ensures asks { IfOk result (λ _. Turned AsksNothing client.old client.new) }
     ensures borne { OnOk result (borne_by counting (L.fault_count connection.old.link.now) tally.old ≡ Ok tt) }

@@ -7,6 +7,7 @@ ghost use Rattle.coap_layer.specs.declared.setup.Setup.{Setup as SetupSpec};
 ghost use Rattle.coap_client.specs.Led.{Led};
 ghost use Rattle.coap_client.specs.Object.CallShown.{shown_request};
 ghost use Rattle.coap_commands.specs.Discovers.{Discovers, IsCore, IsShown, PrintsLinks, ReadsLinks, WritesShown};
+ghost use Rattle.coap_commands.specs.Linked.{IsRunOver, RunsOver};
 ghost use Rattle.coap_commands.specs.Discovers.{WritesTold, bad_links_text};
 ghost use Rattle.coap_commands.specs.JsonLines.{WritesObject, outcome_object};
 ghost use Rattle.coap_commands.specs.Printed.{WritesSaid};
@@ -150,10 +151,12 @@ fn ask_and_tell<H: BuildHasher, L: Carrier, T: Timekeeper, O: Write, E: Write>(
     terms: &Terms,
     out: &mut O,
 ) -> Result<Status, Stop>
-    ensures { IfOk result (λ status. (server : EndpointSpec) (sizes : Sizes) (w : SetupSpec)
+    ensures discovers { IfOk result (λ status. (server : EndpointSpec) (sizes : Sizes) (w : SetupSpec)
         → Led server sizes w [] client.old
         → Discovers terms.now.json (O.contents out.old) (O.contents out.new)
         server sizes w terms.now.give_up (shown_request request) status) }
+    ensures over { IfOk result (λ _. RunsOver L.sends L.receives L.fault_count terms.now.word client.old
+        connection.old.link.now client.new connection.new.link.now) }
 {
     let outcome = outcome_of(client, connection, request, terms)?;
     let json = told_at(terms.json, connection.time)?;
@@ -175,8 +178,11 @@ pub fn discover_over<L: Carrier, T: Timekeeper, H: BuildHasher + Drop, O: Write,
     // where a body was reported of it that spells links (RFC 6690, section 2), and else 1. What is written in words is
     // each of these links on a line, or where the body is no such text; or, on a line, what else became of the request,
     // unless it was given up; and nothing else. Told in JSON, what else became of it is the line of its object.
-    ensures { IfOk result (Discovers terms.now.json (O.contents out.old) (O.contents out.new)
+    ensures discovers { IfOk result (Discovers terms.now.json (O.contents out.old) (O.contents out.new)
         server (sizes_of terms.now) (setup_of terms.now) terms.now.give_up (shown_request request)) }
+    // What a client that discovers is fed came over its link, in turns, and all that it gives out is sent over it.
+    ensures over { IfOk result (λ _. IsRunOver L.sends L.receives L.fault_count server (sizes_of terms.now)
+        (setup_of terms.now) connection.old.link.now connection.new.link.now) }
 {
     let mut client = fresh_client(
         alloc,

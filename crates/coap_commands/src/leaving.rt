@@ -3,7 +3,8 @@ ghost use Rattle.std.specs.Prelude.{◌≡◌, ◌↔◌, ◌+◌, Option, Some,
 ghost use Rattle.coap_client.specs.Led.{Step};
 ghost use Rattle.coap_client.specs.Object.Shown.{shown_report};
 ghost use Rattle.coap_client.specs.Trace.{Report as ReportSpec, is_value};
-ghost use Rattle.coap_commands.specs.Asks.{takes_report};
+ghost use Rattle.coap_commands.specs.Asks.{Turned, takes_report};
+ghost use Rattle.coap_commands.specs.Linked.{GoesOver, LeavesOver, PassesNothing};
 ghost use Rattle.coap_commands.specs.Observes.{HasGivenUp, WritesTaken};
 ghost use Rattle.coap_commands.specs.Waiting.{HasPassed};
 ghost use Rattle.coap_commands.specs.Watches.{CancelsAtEnd, IsNoEnd, IsSilent, Leaves, LeavesAt, TakesReport, heard_at};
@@ -67,6 +68,7 @@ pub(crate) fn last_report<H: BuildHasher, W: Write, E: Write>(
         × (heard.new.last.0 ≡ heard_at now.0 took heard.old.last.0) × (heard.new.since ≡ heard.old.since)
         × WritesTaken options.now heard.old.since.0 heard.old.values now (W.contents out.old) (W.contents out.new)
         took)) }
+    ensures own { Turned PassesNothing client.old client.new }
 {
     let Some(report) = next_report_of(client, id) else {
         return Ok(None);
@@ -88,7 +90,8 @@ fn cancel_at_end<H: BuildHasher>(
     heard: Heard,
     now: Moment,
 )
-    ensures { CancelsAtEnd options.now heard.since.0 id.0 now.0 heard.values client.old client.new }
+    ensures cancels { CancelsAtEnd options.now heard.since.0 id.0 now.0 heard.values client.old client.new }
+    ensures own { Turned PassesNothing client.old client.new }
 {
     if is_over(options, heard.since, heard.values, now) {
         let _answer = client.cancel(now, id);
@@ -124,7 +127,9 @@ fn leave<H: BuildHasher, L: Link>(
     now: Moment,
     tally: &mut Tally,
 )
-    ensures { Leaves id.0 now.0 client.old client.new }
+    ensures leaves { Leaves id.0 now.0 client.old client.new }
+    ensures over { LeavesOver L.sends L.receives L.fault_count id.0 now.0 client.old link.old tally.old client.new
+        link.new tally.new }
 {
     let _answer = client.cancel(now, id);
     get_turn(client, link, now, tally);
@@ -141,8 +146,10 @@ pub(crate) fn left_at<H: BuildHasher, L: Link>(
     now: Moment,
     tally: &mut Tally,
 ) -> Option<Left>
-    ensures { LeavesAt watching.now.options.now watching.now.again heard.since.0 id.0 heard.values heard.last.0 now.0
-        client.old result client.new }
+    ensures leaves { LeavesAt watching.now.options.now watching.now.again heard.since.0 id.0 heard.values heard.last.0
+        now.0 client.old result client.new }
+    ensures over { GoesOver L.sends L.receives L.fault_count client.old link.old tally.old client.new link.new
+        tally.new }
 {
     if let Some(seconds) = given_up(watching.options, heard, now) {
         return Some(Left::Ended(Outcome::GaveUp(seconds)));

@@ -13,8 +13,9 @@ ghost use Rattle.coap_client.specs.Trace.{Observes as observes};
 ghost use Rattle.coap_client.specs.declared.client.report.Report as R;
 ghost use Rattle.coap_client.specs.declared.refusals.CancelRefusal.{CancelRefusal as CancelRefusalSpec};
 ghost use Rattle.coap_arguments.specs.declared.orders.AskOptions.{AskOptions as OptionsSpec};
-ghost use Rattle.coap_commands.specs.Asks.{takes_report};
+ghost use Rattle.coap_commands.specs.Asks.{Turned, takes_report};
 ghost use Rattle.coap_commands.specs.JsonLines.{WritesEnd};
+ghost use Rattle.coap_commands.specs.Linked.{IsRunOver, PassesNothing, RunsOver};
 ghost use Rattle.coap_commands.specs.JsonValues.{WritesTook, WritesValue, form_of};
 ghost use Rattle.coap_commands.specs.Observes.{HasAll, IsLate, IsOver, ObserveBecomes, ObserveComes, Observed};
 ghost use Rattle.coap_commands.specs.Observes.{HasGivenUp};
@@ -171,6 +172,7 @@ fn last_report<H: BuildHasher, W: Write, E: Write>(
         × WritesTook form is_over (W.contents out.old) (W.contents out.new) took)) }
     ensures more { (options : OptionsSpec) (begin : ℕ) (s : State) → Observed options begin id.0 s values.old client.old
         → IfOk result (λ last. IfNone last (Observed options begin id.0 s values.new client.new)) }
+    ensures own { Turned PassesNothing client.old client.new }
 {
     let Some(report) = next_report_of(client, id) else {
         return Ok(None);
@@ -197,6 +199,7 @@ fn cancel_at_end<H: BuildHasher>(
     ensures cancels { IsOver options.now begin.0 values now.0 → (answer : Option CancelRefusalSpec)
         × Step client.old (Cancels now.0 id.0 answer) client.new }
     ensures goes_on { (IsOver options.now begin.0 values now.0 → ⊥) → client.new ≡ client.old }
+    ensures own { Turned PassesNothing client.old client.new }
 {
     if is_over(options, begin, values, now) {
         let _answer = client.cancel(now, id);
@@ -228,6 +231,8 @@ fn awaited<H: BuildHasher, L: Link, T: Timekeeper, E: Write, W: Write>(
     out: &mut W,
 ) -> Result<Outcome, Stop>
     ensures comes { IfOk result (ObserveComes options.now begin.0 id.0 client.old) }
+    ensures over { IfOk result (λ _. RunsOver L.sends L.receives L.fault_count word client.old
+        connection.old.link.now client.new connection.new.link.now) }
     ensures sent { (report : R.Report Global) → result ≡ Ok (Reported report) → client.new.layer.layer.queue ≡ [] }
     ensures written { IfOk result (λ outcome. IsObserved options.now begin.0 id.0 client.old
         (W.contents out.old) outcome
@@ -292,6 +297,9 @@ fn outcome_of<H: BuildHasher, L: Link, T: Timekeeper, E: Write, W: Write>(
         → Led server sizes w [] client.old → ObserveBecomes server sizes w path.now options.now outcome) }
     ensures written { IfOk result (λ outcome. ObservesFrom client.old path.now options.now (W.contents out.old) outcome
         (W.contents out.new)) }
+    ensures over { IfOk result (λ _. RunsOver L.sends L.receives L.fault_count word client.old
+        connection.old.link.now client.new connection.new.link.now) }
+    ensures sent { (report : R.Report Global) → result ≡ Ok (Reported report) → client.new.layer.layer.queue ≡ [] }
 {
     let begin = connection.time.now()?;
     match register(client, begin, path)? {
@@ -341,9 +349,11 @@ fn observe_and_tell<H: BuildHasher, L: Link, T: Timekeeper, O: Write, E: Write>(
     word: u64,
     out: &mut O,
 ) -> Result<Status, Stop>
-    ensures { IfOk result (λ status. (server : EndpointSpec) (sizes : Sizes) (w : SetupSpec)
+    ensures observes { IfOk result (λ status. (server : EndpointSpec) (sizes : Sizes) (w : SetupSpec)
         → Led server sizes w [] client.old → Observes (O.contents out.old) (O.contents out.new) server sizes w path.now
         options.now status) }
+    ensures over { IfOk result (λ _. RunsOver L.sends L.receives L.fault_count word client.old
+        connection.old.link.now client.new connection.new.link.now) }
 {
     let outcome = outcome_of(alloc, client, connection, path, options, word, out)?;
     tell(
@@ -374,8 +384,12 @@ pub fn observe_over<L: Link, T: Timekeeper, H: BuildHasher + Drop, O: Write, E: 
     // cancelled, and else 1. Each value that came before that is written once, whole, and nothing else but how it
     // ended, in JSON where that is wanted. It is given up in the first turn after as many seconds as may pass without
     // a value.
-    ensures { IfOk result (Observes (O.contents out.old) (O.contents out.new) server
+    ensures observes { IfOk result (Observes (O.contents out.old) (O.contents out.new) server
         (sizes_of (asked_terms word options.now)) (setup_of (asked_terms word options.now)) path.now options.now) }
+    // What a client that observes is fed came over its link, in turns, and all that it gives out is sent over it.
+    ensures over { IfOk result (λ _. IsRunOver L.sends L.receives L.fault_count server
+        (sizes_of (asked_terms word options.now)) (setup_of (asked_terms word options.now)) connection.old.link.now
+        connection.new.link.now) }
 {
     let terms = Terms::of(options, word);
     let mut client = fresh_client(

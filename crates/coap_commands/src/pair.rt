@@ -11,9 +11,13 @@ ghost use Rattle.coap_client.specs.Led.{Led, State, Step};
 ghost use Rattle.coap_client.specs.Object.CallShown.{shown_request};
 ghost use Rattle.coap_client.specs.Object.Shown.{shown_report};
 ghost use Rattle.coap_client.specs.Trace.{Call};
+ghost use Rattle.coap_links.specs.Pumping.{SendsAll};
+ghost use Rattle.coap_links.specs.Turning.{Turns};
 ghost use Rattle.coap_commands.specs.Asks.{AsksNothing, Turned, TurnsAt, changed_status, takes_report};
 ghost use Rattle.coap_commands.specs.Bearing.{borne_in_all};
 ghost use Rattle.coap_commands.specs.Ends.{client_sizes, server_limits};
+ghost use Rattle.coap_commands.specs.Linked.{HasSent, HasTurn};
+ghost use Rattle.coap_commands.specs.PairTurns.{EndsWith, SideTurns, TakesTurn};
 ghost use Rattle.coap_commands.specs.Pairs.{CameBack, IsHanded, IsPaired, Pairs, paired_setup};
 ghost use Rattle.coap_commands.specs.Printed.{WritesGet, WritesNamed, WritesPut};
 ghost use Rattle.coap_commands.specs.Statuses.{IsCarriedOut};
@@ -52,6 +56,9 @@ fn turn_client<H: BuildHasher, C: Link, T: Timekeeper>(
     ensures told { OnOk result ((now : ℕ) × T.tells time.old now time.new
         × Turned (TurnsAt now) client.old client.new) }
     ensures turned { OnOk result (Turned AsksNothing client.old client.new) }
+    ensures over { OnOk result (TakesTurn T.tells (HasTurn C.sends C.receives C.fault_count)
+        (HasSent C.sends C.receives C.fault_count) time.old client.old link.old tally.old time.new client.new link.new
+        tally.new) }
     ensures sent { OnOk result (client.new.layer.layer.queue ≡ []) }
     ensures borne { OnOk result (borne_in_all (C.fault_count link.new) tally.new ≡ Ok tt) }
 {
@@ -70,8 +77,13 @@ fn reported<H: BuildHasher, C: Link, E: End<Global>, S: Link, T: Timekeeper>(
     time: &mut T,
     id: CallId,
 ) -> Result<Report, Stop>
-    ensures { IfOk result (λ report. (turned : State) × Turned AsksNothing client.old turned
+    ensures reports { IfOk result (λ report. (turned : State) × Turned AsksNothing client.old turned
         × Step turned (takes_report id.0 (shown_report report)) client.new) }
+    ensures turns { IfOk result (λ report. EndsWith (TakesTurn T.tells (HasTurn C.sends C.receives C.fault_count)
+        (HasSent C.sends C.receives C.fault_count)) (SideTurns T.tells
+        (Turns E.waiting E.gives S.sends S.receives S.fault_count E.quiet_feed E.feeds E.quiet_tick E.ticks)
+        (λ g k f m. SendsAll E.gives S.sends g k (E.waiting g) f m) E.state) (takes_report id.0 (shown_report report))
+        time.old client.old link.old tally.old server.old time.new client.new link.new tally.new server.new) }
 {
     // More turns than a program lives.
     for _turn in 0..u64::MAX {

@@ -9,6 +9,7 @@ ghost use Rattle.coap_client.specs.Led.{Led, State};
 ghost use Rattle.coap_arguments.specs.declared.orders.What.TheVariants.{Get};
 ghost use Rattle.coap_commands.specs.Asked.{asked_request};
 ghost use Rattle.coap_commands.specs.Asks.{AsksNothing, Turned, TurnsAt, got_status};
+ghost use Rattle.coap_commands.specs.Linked.{GoesOver, HasTurn, IsRunOver, PassesNothing, RunsOver};
 ghost use Rattle.coap_commands.specs.Printed.{WritesReading};
 ghost use Rattle.coap_commands.specs.Polls.{AreWritten, Closes, Goes, HasCome, HasRead, IsLeft, Polls, Reading, Reads};
 ghost use Rattle.coap_commands.specs.Polls.{WritesAs, pending_after, read_status};
@@ -76,7 +77,10 @@ fn awaited<H: BuildHasher, L: Link, T: Timekeeper, E: Write>(
     give_up: Option<u64>,
     tally: &mut Tally,
 ) -> Result<Outcome, Stop>
-    ensures { IfOk result (λ came. Goes (λ calls. HasCome give_up begin.0 (Ok id.0) calls came) client.old client.new) }
+    ensures comes { IfOk result (λ came. Goes (λ calls. HasCome give_up begin.0 (Ok id.0) calls came) client.old
+        client.new) }
+    ensures over { IfOk result (λ _. GoesOver L.sends L.receives L.fault_count client.old connection.old.link.now
+        tally.old client.new connection.new.link.now tally.new) }
 {
     // More turns than a program lives.
     for _turn in 0..u64::MAX {
@@ -100,8 +104,10 @@ fn taken<H: BuildHasher, L: Link, T: Timekeeper, E: Write>(
     give_up: Option<u64>,
     tally: &mut Tally,
 ) -> Result<(Outcome, Option<CallId>), Stop>
-    ensures { IfOk result (λ made. Goes (λ calls. HasCome give_up begin.0 (Ok id.0) calls made.0) client.old client.new
-        × (made.1 ≡ pending_after made.0 id)) }
+    ensures comes { IfOk result (λ made. Goes (λ calls. HasCome give_up begin.0 (Ok id.0) calls made.0) client.old
+        client.new × (made.1 ≡ pending_after made.0 id)) }
+    ensures over { IfOk result (λ _. GoesOver L.sends L.receives L.fault_count client.old connection.old.link.now
+        tally.old client.new connection.new.link.now tally.new) }
 {
     let outcome = awaited(client, connection, id, begin, give_up, tally)?;
     let pending = pending_after(&outcome, id);
@@ -116,9 +122,11 @@ fn read<H: BuildHasher, L: Link, T: Timekeeper, E: Write>(
     begin: Moment,
     tally: &mut Tally,
 ) -> Result<(Outcome, Option<CallId>), Stop>
-    ensures { IfOk result (λ made. Reads polling.now.options.now.give_up
+    ensures reads { IfOk result (λ made. Reads polling.now.options.now.give_up
         (asked_request Get polling.now.path.now polling.now.options.now []) begin.0 made.0 made.1
         client.old client.new) }
+    ensures over { IfOk result (λ _. GoesOver L.sends L.receives L.fault_count client.old connection.old.link.now
+        tally.old client.new connection.new.link.now tally.new) }
 {
     let request = request_of(polling.path, What::Get, polling.options, Bytes::new())?;
     match call(client, begin, request)? {
@@ -185,12 +193,14 @@ fn read_and_tell<H: BuildHasher, L: Link, T: Timekeeper, O: Write, E: Write>(
     tally: &mut Tally,
     out: &mut O,
 ) -> Result<Made, Stop>
-    ensures { IfOk result (λ made. (came : OutcomeSpec) × (made.status ≡ got_status came)
+    ensures reads { IfOk result (λ made. (came : OutcomeSpec) × (made.status ≡ got_status came)
         × Reads polling.now.options.now.give_up
         (asked_request Get polling.now.path.now polling.now.options.now []) begin.0 came made.pending
         client.old client.new
         × WritesAs polling.now.options.now.json polling.now.options.now.hex (O.contents out.old) (O.contents out.new)
         came) }
+    ensures over { IfOk result (λ _. GoesOver L.sends L.receives L.fault_count client.old connection.old.link.now
+        tally.old client.new connection.new.link.now tally.new) }
 {
     let (outcome, pending) = read(client, connection, polling, begin, tally)?;
     let status = tell_as(
@@ -210,7 +220,8 @@ fn left_pending<H: BuildHasher>(
     client: &mut Client<Global, H>,
     pending: Option<CallId>,
 ) -> Option<CallId>
-    ensures { Goes (IsLeft pending result) client.old client.new }
+    ensures left { Goes (IsLeft pending result) client.old client.new }
+    ensures own { Turned PassesNothing client.old client.new }
 {
     let Some(id) = pending else {
         return None;
@@ -245,10 +256,14 @@ fn turn_or_end<H: BuildHasher, L: Link, T: Timekeeper, E: Write>(
     tally: &mut Tally,
 ) -> Result<Option<Moment>, Stop>
     ensures told { IfOk result (λ ended. (now : ℕ) × T.tells connection.old.time.now now connection.new.time.now
-        × IfSome ended (λ moment. moment.0 ≡ now) × IfNone ended (Turned (TurnsAt now) client.old client.new)) }
+        × IfSome ended (λ moment. moment.0 ≡ now) × IfNone ended (Turned (TurnsAt now) client.old client.new
+        × HasTurn L.sends L.receives L.fault_count client.old connection.old.link.now now tally.old client.new
+        connection.new.link.now tally.new)) }
     ensures ended { IfOk result (λ ended. IfSome ended (λ now. (may_end ≡ true) × HasPassed every begin.0 now.0
         × (client.new ≡ client.old))) }
     ensures asks { IfOk result (λ ended. IfNone ended (Turned AsksNothing client.old client.new)) }
+    ensures over { IfOk result (λ _. GoesOver L.sends L.receives L.fault_count client.old connection.old.link.now
+        tally.old client.new connection.new.link.now tally.new) }
 {
     let now = connection.time.now()?;
     if may_end && is_late(Some(every), begin, now) {
@@ -267,7 +282,9 @@ fn pause<H: BuildHasher, L: Link, T: Timekeeper, E: Write>(
     pending: Option<CallId>,
     tally: &mut Tally,
 ) -> Result<Moment, Stop>
-    ensures { IfOk result (λ now. HasPassed every begin.0 now.0 × Goes (Closes pending) client.old client.new) }
+    ensures paused { IfOk result (λ now. HasPassed every begin.0 now.0 × Goes (Closes pending) client.old client.new) }
+    ensures over { IfOk result (λ _. GoesOver L.sends L.receives L.fault_count client.old connection.old.link.now
+        tally.old client.new connection.new.link.now tally.new) }
 {
     let mut left = pending;
     // More turns than a program lives.
@@ -303,6 +320,8 @@ fn polled<H: BuildHasher, L: Link, T: Timekeeper, O: Write, E: Write>(
         × (s : State) × HasRead polling.now.options.now.give_up polling.now.every
         (asked_request Get polling.now.path.now polling.now.options.now []) readings client.old s
         × AreWritten polling.now.options.now readings (O.contents out.old) (O.contents out.new)) }
+    ensures over { IfOk result (λ _. RunsOver L.sends L.receives L.fault_count word client.old
+        connection.old.link.now client.new connection.new.link.now) }
     ensures sent { client.old.layer.layer.queue ≡ [] → OnOk result (client.new.layer.layer.queue ≡ []) }
 {
     let times = polling.options.times;
@@ -348,10 +367,14 @@ pub fn poll_over<L: Link, T: Timekeeper, H: BuildHasher + Drop, O: Write, E: Wri
     // A call is given up in the first turn after as many seconds as may pass.
     // The status is 0 where a body was reported of the last, or none was called for, and else 1. What is written is,
     // in order, an object of JSON of each time, or each body on a line, and nothing else.
-    ensures { IfOk result (Polls (O.contents out.old) (O.contents out.new) server
+    ensures polls { IfOk result (Polls (O.contents out.old) (O.contents out.new) server
         (sizes_of (asked_terms word polling.now.options.now))
         (setup_of (asked_terms word polling.now.options.now))
         (asked_request Get polling.now.path.now polling.now.options.now []) polling.now.every polling.now.options.now) }
+    // What a client that polls is fed came over its link, in turns, and all that it gives out is sent over it.
+    ensures over { IfOk result (λ _. IsRunOver L.sends L.receives L.fault_count server
+        (sizes_of (asked_terms word polling.now.options.now)) (setup_of (asked_terms word polling.now.options.now))
+        connection.old.link.now connection.new.link.now) }
 {
     let terms = Terms::of(polling.options, word);
     let mut client = fresh_client(

@@ -1,8 +1,9 @@
 //! An end over a link.
-ghost use Rattle.std.specs.Prelude.{◌≡◌, ℕ, [], Ok, OnOk};
+ghost use Rattle.std.specs.Prelude.{◌≡◌, [], Ok, OnOk};
 ghost use Rattle.coap_links.specs.Pumping.{SendsAll};
 ghost use Rattle.coap_links.specs.Turning.{Turns};
 ghost use Rattle.coap_commands.specs.Bearing.{borne_in_all};
+ghost use Rattle.coap_commands.specs.PairTurns.{SideTurns};
 
 use crate::bearing::bear_in_all;
 use crate::timekeeper::Timekeeper;
@@ -35,10 +36,9 @@ impl<'a, E: End<Global>, L: Link> Side<'a, E, L> {
         // Behind a turn of an end nothing is out.
         ensures empty { OnOk result (E.waiting (E.state self.new.end.now) ≡ []) }
         // An end is turned at the moment that its clock tells.
-        ensures turned { OnOk result ((now : ℕ) × T.tells time.old now time.new × (turned : E.State) × (link : L)
-            × Turns E.waiting E.gives L.sends L.receives L.fault_count E.quiet_feed E.feeds E.quiet_tick E.ticks
-            (E.state self.old.end.now) self.old.link.now now self.old.tally turned link self.new.tally
-            × SendsAll E.gives L.sends turned link (E.waiting turned) (E.state self.new.end.now) self.new.link.now) }
+        ensures turned { OnOk result (SideTurns T.tells
+            (Turns E.waiting E.gives L.sends L.receives L.fault_count E.quiet_feed E.feeds E.quiet_tick E.ticks)
+            (λ g k f m. SendsAll E.gives L.sends g k (E.waiting g) f m) E.state time.old self.old time.new self.new) }
         // An end that was turned goes on only where its program bears what failed.
         ensures borne { OnOk result (borne_in_all (L.fault_count self.new.link.now) self.new.tally ≡ Ok tt) }
     {

@@ -6,6 +6,7 @@ ghost use Rattle.coap_client.specs.Trace.{Observes as observes};
 ghost use Rattle.coap_client.specs.declared.client.report.Report as R;
 ghost use Rattle.coap_commands.specs.Terms.{asked_terms, setup_of, sizes_of};
 ghost use Rattle.coap_commands.specs.Watches.{Follows, IsFollowed, IsLeft, IsLeftBy, IsRegistered, IsRegisteredNext};
+ghost use Rattle.coap_commands.specs.Linked.{IsRunOver, RunsOver};
 ghost use Rattle.coap_commands.specs.Observes.{Decides};
 ghost use Rattle.coap_commands.specs.Watches.{Watches, verdict};
 ghost use Rattle.coap_commands.specs.declared.anew.Left.{Left as LeftSpec};
@@ -61,6 +62,8 @@ fn awaited<H: BuildHasher, L: Link, T: Timekeeper, E: Write, W: Write>(
         heard.old.last.0 heard.old.values client.old (W.contents out.old) ended heard.new.values
         (W.contents out.new)) }
     ensures since { IfOk result (λ _. heard.new.since ≡ heard.old.since) }
+    ensures over { IfOk result (λ _. RunsOver L.sends L.receives L.fault_count word client.old
+        connection.old.link.now client.new connection.new.link.now) }
     ensures sent { (report : R.Report Global) → result ≡ Ok (lefts.Ended (Reported report))
         → client.new.layer.layer.queue ≡ [] }
 {
@@ -111,6 +114,8 @@ fn registered<H: BuildHasher, L: Link, T: Timekeeper, E: Write, W: Write>(
         × IsLeftBy watching.now.options.now watching.now.again heard.old.since.0 heard.old.last.0 heard.old.values
         answer s (W.contents out.old) ended heard.new.values (W.contents out.new)) }
     ensures since { IfOk result (λ _. heard.new.since ≡ heard.old.since) }
+    ensures over { IfOk result (λ _. RunsOver L.sends L.receives L.fault_count word client.old
+        connection.old.link.now client.new connection.new.link.now) }
 {
     match register(client, heard.last, watching.path)? {
         Ok(id) => awaited(alloc, client, connection, id, watching, word, heard, out),
@@ -134,6 +139,9 @@ fn observed_once<H: BuildHasher + Drop, L: Link, T: Timekeeper, E: Write, W: Wri
         watching.now.again heard.old.since.0 heard.old.last.0 heard.old.values (W.contents out.old) ended
         heard.new.values (W.contents out.new)) }
     ensures since { IfOk result (λ _. heard.new.since ≡ heard.old.since) }
+    ensures over { IfOk result (λ _. IsRunOver L.sends L.receives L.fault_count server
+        (sizes_of (asked_terms word watching.now.options.now)) (setup_of (asked_terms word watching.now.options.now))
+        connection.old.link.now connection.new.link.now) }
 {
     let terms = Terms::of(watching.options, word);
     let mut client = fresh_client(

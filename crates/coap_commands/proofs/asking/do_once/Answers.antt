@@ -17,4 +17,4 @@ returns-in-Request g c =
     (sym c.in-Request.is)
     (subst (λ (t : Terms). IfOk c.ask_over.result
     (Tells t.json old new server (sizes_of t) (setup_of t) t.give_up (shown_request c.in-Request.request)))
-    c.of-terms.ensures c.ask_over.ensures)
+    c.of-terms.ensures c.ask_over.ensures.tells)

@@ -2,6 +2,9 @@ use Rattle.coap_commands.specs.Asks.{AsksNothing}
 use Rattle.coap_commands.proofs.TurnCalls.{client_turned, client_turned_at}
 use Rattle.coap_commands.proofs.client_turns.turn_now.Goals as goal
 
+pub returns-clause-over : goal.returns-clause-over
+returns-clause-over g c = c.get_turn.ensures
+
 pub returns-clause-turned : goal.returns-clause-turned
 returns-clause-turned g c = client_turned_at _ _ _ _ _ _ _ _ _ _ _ _ _ c.get_turn.ensures
 

@@ -11,6 +11,7 @@ use Rattle.coap_commands.specs.Discovers.{Discovers, IsShown, WritesFound, Write
 use Rattle.coap_commands.specs.declared.calling.Outcome.{Outcome}
 use Rattle.coap_scripts.specs.declared.status.Status.{Status}
 use Rattle.coap_scripts.specs.declared.status.Stop.{Stop}
+use Rattle.coap_commands.proofs.LinkedTurns.{where_ok}
 use Rattle.coap_commands.proofs.discovering.ask_and_tell.Goals as goal
 
 -- it is told in words where no moment is to be told
@@ -33,13 +34,16 @@ shown Leads json old new give_up request outcome (Ok s) becomes is written =
     λ server sizes w led. (outcome, becomes server sizes w led, is, written)
 shown Leads json old new give_up request outcome (Err stop) becomes is written = tt
 
-pub returns : goal.returns
-returns g c =
+pub returns-clause-discovers : goal.returns-clause-discovers
+returns-clause-discovers g c =
     let contents = g.O.Write.contents in
     let outcome = c.in_ok-outcome.outcome in
     let old = contents c.args.out.now in
     let new = contents c.tell.new.out in
     shown (λ server sizes w. Led server sizes w [] c.args.client.now) c.args.terms.now.json old new _ _ outcome
-    c.tell.result c.in_ok-outcome.ensures c.tell.ensures.shown
+    c.tell.result c.in_ok-outcome.ensures.becomes c.tell.ensures.shown
     (subst (λ (is_json : Bool). IfOk c.tell.result (WritesFound is_json old new outcome)) c.in_ok-json.ensures.wanted
     (found c.in_ok-json.json c.tell.result old new outcome c.tell.ensures.written c.tell.ensures.told))
+
+pub returns-clause-over : goal.returns-clause-over
+returns-clause-over g c = where_ok c.tell.result c.in_ok-outcome.ensures.over

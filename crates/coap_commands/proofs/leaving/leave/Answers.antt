@@ -2,8 +2,8 @@ use Rattle.coap_commands.specs.Asks.{AsksNothing}
 use Rattle.coap_commands.proofs.TurnCalls.{client_sent, client_turned, turned_on}
 use Rattle.coap_commands.proofs.leaving.leave.Goals as goal
 
-pub returns : goal.returns
-returns g c = (
+pub returns-clause-leaves : goal.returns-clause-leaves
+returns-clause-leaves g c = (
   _,
   _,
   c.cancel-answer.ensures.step,
@@ -12,3 +12,7 @@ returns g c = (
       (client_sent AsksNothing (λ p. tt) _ _ _ _ _ _ c.send_all.ensures.chain),
   c.send_all.ensures.empty,
 )
+
+pub returns-clause-over : goal.returns-clause-over
+returns-clause-over g c =
+    (_, _, c.cancel-answer.ensures.step, _, _, c.get_turn.ensures, c.send_all.ensures.chain)

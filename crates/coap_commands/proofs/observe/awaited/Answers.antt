@@ -1,6 +1,8 @@
 use Rattle.std.proofs.Common.{◌≡◌, ◌∙◌, Option, Some, None, IfNone, IfSome, subst, sym}
 use Rattle.coap_client.specs.Object.Shown.{shown_report}
 use Rattle.coap_commands.specs.ObservedTurns.{at_first, on}
+use Rattle.coap_commands.specs.Linked.{called}
+use Rattle.coap_commands.proofs.LinkedTurns.{begins_over, sent_over, turned_over}
 use Rattle.coap_commands.proofs.ObservedCalls.{observed_here, observed_on, written_taken}
 use Rattle.coap_commands.proofs.observe.awaited.Goals as goal
 
@@ -12,17 +14,24 @@ some_is : {X : Type 0} (P : X → Type 0) (o : Option X) (x : X) → IfSome o P 
 some_is P o x h is = subst (λ a. IfSome a P) is h
 
 pub loop-turn-init : goal.loop-turn-init
-loop-turn-init g c = record {
-  observed = observed_here c.args.options.now c.args.begin.0 c.args.id.0 _;
-  written = at_first;
-}
+loop-turn-init g c =
+    let link = g.L.Link in
+    record {
+      observed = observed_here c.args.options.now c.args.begin.0 c.args.id.0 _;
+      written = at_first;
+      over = begins_over link.sends link.receives link.fault_count c.args.word _ _ _ c.fresh_tally-tally.ensures;
+    }
 
 pub loop-turn-preserved : goal.loop-turn-preserved
 loop-turn-preserved g c =
     let options = c.args.options.now in
     let begin = c.args.begin.0 in
     let more = none_is _ _ c.in_ok-report.ensures.counted c.in_default.is in
+    let link = g.L.Link in
     record {
+      over = called _ _ _ _
+          (turned_over link.sends link.receives link.fault_count _ _ _ _ _ _ _ _ _ _ _ c.loop-turn.invariant.over
+          c.in_ok-now.ensures.over c.in_ok-report.ensures.own) c.cancel_at_end.ensures.own;
       observed = c.cancel_at_end.ensures.observed c.args.client.now
           (none_is _ _
           (c.in_ok-report.ensures.more options begin c.args.client.now
@@ -97,4 +106,20 @@ returns-in-Some-given_up-clause-written g c =
         written_taken c.args.options.now c.args.begin.0 _ c.in_ok-now.now _ _ more.0 _ _ c.is_over-is_over.ensures
             c.of.ensures more.4,
       ),
+    )
+
+pub returns-in-Some-clause-over : goal.returns-in-Some-clause-over
+returns-in-Some-clause-over g c =
+    let link = g.L.Link in (
+      _,
+      sent_over link.sends link.receives link.fault_count _ _ _ _ _ _ _ _ _ _ _ _ _ c.loop-turn.invariant.over
+          c.in_ok-now.ensures.over c.in_ok-report.ensures.own c.send_all.ensures.chain,
+    )
+
+pub returns-in-Some-given_up-clause-over : goal.returns-in-Some-given_up-clause-over
+returns-in-Some-given_up-clause-over g c =
+    let link = g.L.Link in (
+      _,
+      turned_over link.sends link.receives link.fault_count _ _ _ _ _ _ _ _ _ _ _ c.loop-turn.invariant.over
+          c.in_ok-now.ensures.over c.in_ok-report.ensures.own,
     )

@@ -1,3 +1,5 @@
+use Rattle.coap_client.specs.Trace.{Cancels}
+use Rattle.coap_commands.proofs.LinkedTurns.{own_call}
 use Rattle.coap_commands.proofs.ObservedCalls.{observed_cancel}
 use Rattle.coap_commands.proofs.observe.cancel_at_end.Goals as goal
 
@@ -8,3 +10,6 @@ returns-then-is_over-clause-observed g c = λ s h.
 
 pub returns-then-is_over-clause-cancels : goal.returns-then-is_over-clause-cancels
 returns-then-is_over-clause-cancels g c = λ over. (_, c.cancel-answer.ensures.step)
+
+pub returns-then-is_over-clause-own : goal.returns-then-is_over-clause-own
+returns-then-is_over-clause-own g c = own_call _ _ (Cancels c.args.now.0 c.args.id.0 _) tt c.cancel-answer.ensures.step

@@ -1,5 +1,7 @@
 use Rattle.std.proofs.Common.{[]}
 use Rattle.coap_client.specs.Led.{Led}
+use Rattle.coap_client.specs.Trace.{Observes as observes}
+use Rattle.coap_commands.proofs.LinkedTurns.{own_call, runs_by, runs_on}
 use Rattle.coap_commands.proofs.ObservedCalls.{refused_observes, taken_observes}
 use Rattle.coap_commands.proofs.observe.outcome_of.Goals as goal
 
@@ -15,3 +17,15 @@ pub returns-in-Err-clause-becomes : goal.returns-in-Err-clause-becomes
 returns-in-Err-clause-becomes g c = λ server sizes w led.
     refused_observes server sizes w c.args.options.now c.in_ok-begin.begin.0 c.args.path.now _ _ _ c.in-Err.is
     (c.in_ok-id.ensures.led server sizes w [] led)
+
+pub returns-in-Ok-clause-over : goal.returns-in-Ok-clause-over
+returns-in-Ok-clause-over g c =
+    let link = g.L.Link in
+    runs_on link.sends link.receives link.fault_count c.args.word _ _ _ _ _ c.awaited.result
+    (own_call _ _ (observes c.in_ok-begin.begin.0 c.args.path.now _) tt c.in_ok-id.ensures.step) c.awaited.ensures.over
+
+pub returns-in-Err-clause-over : goal.returns-in-Err-clause-over
+returns-in-Err-clause-over g c =
+    let link = g.L.Link in
+    runs_by link.sends link.receives link.fault_count c.args.word _ _ _
+    (own_call _ _ (observes c.in_ok-begin.begin.0 c.args.path.now _) tt c.in_ok-id.ensures.step)

@@ -6,7 +6,7 @@ pub returns-in_ok-report-in-Ok : goal.returns-in_ok-report-in-Ok
 returns-in_ok-report-in-Ok g c =
     taken_handed c.in_ok-now.now.0 (shown_request c.args.request) _ c.in-Ok.id c.args.client.now _ _
     c.in_ok-report-in-Ok.report
-    c.in-Ok.is c.in_ok-id.ensures.led c.in_ok-report-in-Ok.ensures
+    c.in-Ok.is c.in_ok-id.ensures.led c.in_ok-report-in-Ok.ensures.reports
 
 pub returns-in-Err : goal.returns-in-Err
 returns-in-Err g c =

@@ -20,3 +20,7 @@ returns-clause-turned g c =
 
 pub returns-clause-borne : goal.returns-clause-borne
 returns-clause-borne g c = was_borne c.bear_in_all.result _ c.bear_in_all.ensures
+
+pub returns-clause-over : goal.returns-clause-over
+returns-clause-over g c =
+    on_ok c.bear_in_all.result (_, c.in_ok-now.ensures, _, _, c.turn.ensures, c.send_all.ensures.chain)

@@ -5,11 +5,12 @@ use Rattle.coap_arguments.specs.declared.orders.What.TheVariants.{Get}
 use Rattle.coap_commands.specs.Asked.{asked_request}
 use Rattle.coap_commands.specs.Terms.{asked_terms, setup_of, sizes_of}
 use Rattle.coap_commands.specs.declared.connection.Terms.{Terms}
+use Rattle.coap_commands.proofs.LinkedTurns.{run_by}
 use Rattle.coap_commands.proofs.PolledCalls.{polled_by}
 use Rattle.coap_commands.proofs.polling.poll_over.Goals as goal
 
-pub returns : goal.returns
-returns g c =
+pub returns-clause-polls : goal.returns-clause-polls
+returns-clause-polls g c =
     let options = c.args.polling.now.options.now in
     let terms = asked_terms c.args.word options in
     let client = c.fresh_client-client.result in
@@ -19,3 +20,14 @@ returns g c =
     (subst (λ (t : Terms). Led c.args.server (sizes_of t) (setup_of t) [] client) c.of-terms.ensures
     (subst (λ (w : Setup). Led c.args.server (sizes_of c.of-terms.result) w [] client) c.setup.ensures
     c.fresh_client-client.ensures)) c.polled-ended.ensures.polled
+
+pub returns-clause-over : goal.returns-clause-over
+returns-clause-over g c =
+    let link = g.L.Link in
+    let terms = asked_terms c.args.word c.args.polling.now.options.now in
+    let client = c.fresh_client-client.result in
+    run_by link.sends link.receives link.fault_count c.args.server (sizes_of terms) (setup_of terms) client _ _ _
+    c.polled-ended.result
+    (subst (λ (t : Terms). Led c.args.server (sizes_of t) (setup_of t) [] client) c.of-terms.ensures
+    (subst (λ (w : Setup). Led c.args.server (sizes_of c.of-terms.result) w [] client) c.setup.ensures
+    c.fresh_client-client.ensures)) c.polled-ended.ensures.over

@@ -1,12 +1,19 @@
 use Rattle.std.proofs.Common.{[]}
 use Rattle.coap_arguments.specs.declared.orders.What.TheVariants.{Get}
 use Rattle.coap_commands.specs.Asked.{asked_request}
+use Rattle.coap_commands.specs.Linked.{GoesOver}
 use Rattle.coap_commands.specs.Polls.{IsNext}
+use Rattle.coap_commands.specs.Serves.{nothing_fed}
 use Rattle.coap_commands.proofs.polling.polled.Given as goal
 
--- so many readings were made and written, and the next may begin
+-- so many readings were made and written, over the client's link, and the next may begin
 abbrev pub invariant-loop-before : goal.invariant-loop-before
 invariant-loop-before g l =
     let options = l.polling.options.now in
-    IsNext options l.polling.every (asked_request Get l.polling.path.now options []) l.before l.begin.0
-    l.fn.client l.client (g.O.Write.contents l.fn.out) (g.O.Write.contents l.out)
+    let link = g.L.Link in
+    record {
+      next : IsNext options l.polling.every (asked_request Get l.polling.path.now options []) l.before l.begin.0
+          l.fn.client l.client (g.O.Write.contents l.fn.out) (g.O.Write.contents l.out);
+      over : GoesOver link.sends link.receives link.fault_count l.fn.client l.fn.connection.link.now
+          (nothing_fed l.fn.word) l.client l.connection.link.now l.tally;
+    }
