@@ -5,6 +5,7 @@ pub mod ObservedCalls
 pub mod PairCalls
 pub mod PairTexts
 pub mod PolledCalls
+pub mod ReadFiles
 pub mod ScriptCalls
 pub mod KeptCalls
 pub mod LinkedTurns

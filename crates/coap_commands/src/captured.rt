@@ -1,5 +1,5 @@
 //! `dump --pcap`: the datagrams of a capture in words.
-ghost use Rattle.std.specs.Prelude.{◌≡◌, ℕ, List, true, false, IfOk, map};
+ghost use Rattle.std.specs.Prelude.{◌≡◌, ℕ, List, true, false, IfOk, IfSome, map};
 ghost use Rattle.coap_pcap.specs.Files.{seen};
 ghost use Rattle.coap_commands.specs.Captured.{IsCaptureStatus, IsPacketsStatus, IsSpelled, Spelled};
 ghost use Rattle.coap_scripts.specs.declared.status.Status.TheVariants as statuses;
@@ -128,14 +128,30 @@ pub(crate) fn dump_capture<R: AllocGlobal + Files, W: Write>(
     printing: Printing,
     out: &mut W,
 ) -> Result<Status, Stop>
-    ensures { IfOk result (λ status. (bytes : List ℕ) × IsCaptureStatus bytes status) }
+    ensures some { IfOk result (λ status. (bytes : List ℕ) × IsCaptureStatus bytes status) }
+    ensures exact { IfOk result (λ status. (file : R.File) × IfSome (R.File.remaining file)
+        (λ bytes. IsCaptureStatus bytes status)) }
 {
-    let mut bytes = Vec::new(rt.alloc());
     match fs::open(rt, name) {
-        Ok(mut file) => match file.read_to_end(&mut bytes) {
-            Ok(_) => show_capture(rt.alloc(), bytes.as_slice(), printing, out),
-            Err(error) => Err(stop_of(&error)),
-        },
+        Ok(file) => dump_capture_in(rt.alloc(), file, printing, out),
+        Err(error) => Err(stop_of(&error)),
+    }
+}
+
+// Prints what the datagrams say of the capture that a file has.
+fn dump_capture_in<F: Read + Drop, W: Write>(
+    alloc: Global,
+    file: F,
+    printing: Printing,
+    out: &mut W,
+) -> Result<Status, Stop>
+    ensures some { IfOk result (λ status. (bytes : List ℕ) × IsCaptureStatus bytes status) }
+    ensures exact { IfOk result (λ status. IfSome (F.remaining file) (λ bytes. IsCaptureStatus bytes status)) }
+{
+    let mut file = file;
+    let mut bytes = Vec::new(alloc);
+    match file.read_to_end(&mut bytes) {
+        Ok(_) => show_capture(alloc, bytes.as_slice(), printing, out),
         Err(error) => Err(stop_of(&error)),
     }
 }

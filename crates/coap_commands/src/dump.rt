@@ -132,7 +132,9 @@ pub fn dump_to<I: BufRead, W: Write>(
 
 /// Prints what the datagrams say that standard input has.
 pub(crate) fn dump<R: AllocGlobal + Files, W: Write>(rt: &R, out: &mut W) -> Result<Status, Stop>
-    ensures { IfOk result IsOfScript }
+    ensures kinds { IfOk result IsOfScript }
+    ensures worst { IfOk result (λ status. (file : R.File) × IfSome (R.File.remaining file)
+        (λ text. IsDumped text status)) }
 {
     match fs::open(rt, STANDARD_INPUT_FILE) {
         Ok(file) => dump_file(rt.alloc(), file, out),
@@ -142,7 +144,8 @@ pub(crate) fn dump<R: AllocGlobal + Files, W: Write>(rt: &R, out: &mut W) -> Res
 
 // Prints what the datagrams say that are in a file.
 fn dump_file<F: Read + Drop, W: Write>(alloc: Global, file: F, out: &mut W) -> Result<Status, Stop>
-    ensures { IfOk result IsOfScript }
+    ensures kinds { IfOk result IsOfScript }
+    ensures worst { IfOk result (λ status. IfSome (F.remaining file) (λ text. IsDumped text status)) }
 {
     match BufReader::new(alloc, file) {
         Ok(mut input) => dump_to(alloc, &mut input, out),
