@@ -4,9 +4,8 @@ use Rattle.coap_types.specs.declared.endpoint.Endpoint.{Endpoint}
 use Rattle.coap_arguments.specs.declared.hosts.Server.{Server}
 use Rattle.coap_arguments.specs.declared.orders.AskOptions.{AskOptions}
 use Rattle.coap_arguments.specs.declared.orders.What.{What}
-use Rattle.coap_commands.specs.Asked.{IsWord}
 use Rattle.coap_commands.specs.Hosts.{IsServer}
-use Rattle.coap_commands.specs.Tasks.{Does, DoesAt, IsAsked, IsDiscovered, IsDiscovery, IsTask}
+use Rattle.coap_commands.specs.Tasks.{Does, DoesAt, IsAskedBy, IsDiscoveredBy, IsDiscovery, IsTask}
 use Rattle.coap_commands.specs.Watches.{Again, IsRegisteredNext, anew, first}
 use Rattle.coap_commands.specs.declared.asking.Task.{Task}
 use Rattle.coap_commands.specs.declared.asking.Task.TheVariants.{Discovery, Observation, Polling, Request, Watch}
@@ -85,18 +84,16 @@ done_of old new P Q more options word task (Err stop) h = tt
 
 -- ---- what the words ask for
 
-pub asked_task : (old new : Option (List ℕ)) (server : Server) (path : List (List ℕ)) (what : What)
-    (options : AskOptions) (word : ℕ) (task : Task)
-    (ended : Result Status Stop) → IsWord options.word word → IsTask what path options task
-    → IfOk ended (Does old new (IsServer server) options word task) → IfOk ended
-    (IsAsked old new server path what options)
-asked_task old new server path what options word task (Ok s) is_word is does = (word, is_word, task, is, does)
-asked_task old new server path what options word task (Err stop) is_word is does = tt
+pub asked_task : (IsChosen : ℕ → Type 0) (old new : Option (List ℕ)) (server : Server) (path : List (List ℕ))
+    (what : What) (options : AskOptions) (word : ℕ) (task : Task) (ended : Result Status Stop) → IsChosen word
+    → IsTask what path options task → IfOk ended (Does old new (IsServer server) options word task)
+    → IfOk ended (IsAskedBy IsChosen old new server path what options)
+asked_task IsChosen old new server path what options word task (Ok s) chosen is does = (word, chosen, task, is, does)
+asked_task IsChosen old new server path what options word task (Err stop) chosen is does = tt
 
-pub discovered_task : (old new : Option (List ℕ)) (server : Server) (options : AskOptions) (word : ℕ) (task : Task)
-    (ended : Result Status Stop)
-    → IsWord options.word word → IsDiscovery options task → IfOk ended
-    (Does old new (IsServer server) options word task)
-    → IfOk ended (IsDiscovered old new server options)
-discovered_task old new server options word task (Ok s) is_word is does = (word, is_word, task, is, does)
-discovered_task old new server options word task (Err stop) is_word is does = tt
+pub discovered_task : (IsChosen : ℕ → Type 0) (old new : Option (List ℕ)) (server : Server) (options : AskOptions)
+    (word : ℕ) (task : Task) (ended : Result Status Stop) → IsChosen word → IsDiscovery options task
+    → IfOk ended (Does old new (IsServer server) options word task)
+    → IfOk ended (IsDiscoveredBy IsChosen old new server options)
+discovered_task IsChosen old new server options word task (Ok s) chosen is does = (word, chosen, task, is, does)
+discovered_task IsChosen old new server options word task (Err stop) chosen is does = tt

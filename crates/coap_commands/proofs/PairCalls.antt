@@ -13,11 +13,9 @@ use Rattle.coap_client.specs.declared.client.report.Report as R
 use Rattle.coap_client.specs.declared.refusals.CallRefusal.{CallRefusal}
 use Rattle.coap_client.proofs.Facts.EachCall.{led_client}
 use Rattle.std.specs.declared.alloc.Global.{Global}
-use Rattle.coap_arguments.specs.declared.orders.WordChoice.{WordChoice}
-use Rattle.coap_commands.specs.Asked.{IsWord}
 use Rattle.coap_commands.specs.Asks.{AsksNothing, Turned, changed_status, takes_report}
 use Rattle.coap_commands.specs.Ends.{client_sizes}
-use Rattle.coap_commands.specs.Pairs.{CameBack, IsHanded, IsPaired, Pairs, WritesBoth, got, not_got, not_put}
+use Rattle.coap_commands.specs.Pairs.{CameBack, IsHanded, IsPairedBy, Pairs, WritesBoth, got, not_got, not_put}
 use Rattle.coap_commands.specs.Pairs.{paired_setup}
 use Rattle.coap_commands.specs.Printed.{WritesPut}
 use Rattle.coap_scripts.specs.Script.{plain_request}
@@ -149,18 +147,17 @@ pair_ends before after own server szx limit word remembered path body client end
     (pair_began before after own server szx limit word remembered path body client ended there largest led pairs)
 
 -- of the words
-pub paired_by : (before after : Option (List ℕ)) (server : Endpoint) (word limit remembered : ℕ) (path : List (List ℕ))
-    (body text : List ℕ)
-    (choice : WordChoice) (ended : Result Status Stop) → server.ip ≡ 127 ∷ 0 ∷ 0 ∷ 1 ∷ [] → IsWord choice word
-    → body ≡ text
+pub paired_by : (IsChosen : ℕ → Type 0) (before after : Option (List ℕ)) (server : Endpoint)
+    (word limit remembered : ℕ) (path : List (List ℕ)) (body text : List ℕ) (ended : Result Status Stop)
+    → server.ip ≡ 127 ∷ 0 ∷ 0 ∷ 1 ∷ [] → IsChosen word → body ≡ text
     → IfOk ended (Pairs before after server (client_sizes max_szx limit) (paired_setup word remembered) path body)
-    → IfOk ended (IsPaired before after path text choice limit remembered)
-paired_by before after server word limit remembered path body text choice (Ok s) at is_word same pairs = (
+    → IfOk ended (IsPairedBy IsChosen before after path text limit remembered)
+paired_by IsChosen before after server word limit remembered path body text (Ok s) at chosen same pairs = (
   server,
   at,
   word,
-  is_word,
+  chosen,
   subst (λ (b : List ℕ). Pairs before after server (client_sizes max_szx limit) (paired_setup word remembered) path b s)
       same pairs,
 )
-paired_by before after server word limit remembered path body text choice (Err stop) at is_word same pairs = tt
+paired_by IsChosen before after server word limit remembered path body text (Err stop) at chosen same pairs = tt

@@ -70,9 +70,15 @@ pub data Pairs (old new : Option (List ℕ)) (server : Endpoint) (sizes : Sizes)
 abbrev pub paired_setup : ℕ → ℕ → Setup
 paired_setup word remembered = record { word = word; remembered = remembered }
 
--- a client with the largest blocks and this limit, of a server at 127.0.0.1 (RFC 1122, section 3.2.1.3), at some port
+-- a client with the largest blocks and this limit, of a server at 127.0.0.1 (RFC 1122, section 3.2.1.3), at some port,
+-- and with a word of which this holds
+abbrev pub IsPairedBy : (IsChosen : ℕ → Type 0) → (old new : Option (List ℕ)) → List (List ℕ) → List ℕ
+    → (limit remembered : ℕ) → Status → Type 0
+IsPairedBy IsChosen old new path body limit remembered s =
+    (server : Endpoint) × (server.ip ≡ 127 ∷ 0 ∷ 0 ∷ 1 ∷ []) × (word : ℕ) × IsChosen word
+    × Pairs old new server (client_sizes max_szx limit) (paired_setup word remembered) path body s
+
+-- .. with the word that is chosen
 abbrev pub IsPaired : (old new : Option (List ℕ)) → List (List ℕ) → List ℕ → WordChoice → (limit remembered : ℕ)
     → Status → Type 0
-IsPaired old new path body choice limit remembered s =
-    (server : Endpoint) × (server.ip ≡ 127 ∷ 0 ∷ 0 ∷ 1 ∷ []) × (word : ℕ) × IsWord choice word
-    × Pairs old new server (client_sizes max_szx limit) (paired_setup word remembered) path body s
+IsPaired old new path body choice limit remembered s = IsPairedBy (IsWord choice) old new path body limit remembered s

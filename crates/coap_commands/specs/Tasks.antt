@@ -75,14 +75,25 @@ Does old new Stands options word task status =
 abbrev pub IsDone : (old new : Option (List ℕ)) → (Endpoint → Type 0) → Asked → Status → Type 0
 IsDone old new Stands asked status = Does old new Stands asked.options.now asked.word asked.task status
 
--- what the words ask for is done at the server that they say
-abbrev pub IsAsked : (old new : Option (List ℕ)) → Server → List (List ℕ) → What → AskOptions → Status → Type 0
-IsAsked old new server path what options status =
-    (word : ℕ) × IsWord options.word word × (task : Task) × IsTask what path options task
+-- what the words ask for is done at the server that they say, with a word of which this holds
+abbrev pub IsAskedBy : (IsChosen : ℕ → Type 0) → (old new : Option (List ℕ)) → Server → List (List ℕ) → What
+    → AskOptions → Status → Type 0
+IsAskedBy IsChosen old new server path what options status =
+    (word : ℕ) × IsChosen word × (task : Task) × IsTask what path options task
     × Does old new (IsServer server) options word task status
 
--- .. and what the server has is asked for there
-abbrev pub IsDiscovered : (old new : Option (List ℕ)) → Server → AskOptions → Status → Type 0
-IsDiscovered old new server options status =
-    (word : ℕ) × IsWord options.word word × (task : Task) × IsDiscovery options task
+-- .. with the word that is chosen
+abbrev pub IsAsked : (old new : Option (List ℕ)) → Server → List (List ℕ) → What → AskOptions → Status → Type 0
+IsAsked old new server path what options status =
+    IsAskedBy (IsWord options.word) old new server path what options status
+
+-- what the server has is asked for there, with a word of which this holds
+abbrev pub IsDiscoveredBy : (IsChosen : ℕ → Type 0) → (old new : Option (List ℕ)) → Server → AskOptions → Status
+    → Type 0
+IsDiscoveredBy IsChosen old new server options status =
+    (word : ℕ) × IsChosen word × (task : Task) × IsDiscovery options task
     × Does old new (IsServer server) options word task status
+
+-- .. with the word that is chosen
+abbrev pub IsDiscovered : (old new : Option (List ℕ)) → Server → AskOptions → Status → Type 0
+IsDiscovered old new server options status = IsDiscoveredBy (IsWord options.word) old new server options status

@@ -1,9 +1,9 @@
 //! A client over sockets, which asks what the words say.
 ghost use Rattle.std.specs.Prelude.{◌≡◌, IfOk};
-ghost use Rattle.coap_commands.specs.Asked.{is_observe, period_of};
+ghost use Rattle.coap_commands.specs.Asked.{IsDrawnWord, is_observe, period_of};
 ghost use Rattle.coap_commands.specs.Hosts.{IsServer, Knows};
-ghost use Rattle.coap_commands.specs.Tasks.{IsAsked, IsDiscovered, IsDone, IsDoneTo, IsObservation};
-ghost use Rattle.coap_commands.specs.Tasks.{IsTask};
+ghost use Rattle.coap_commands.specs.Tasks.{IsAsked, IsAskedBy, IsDiscovered, IsDiscoveredBy, IsDone, IsDoneTo};
+ghost use Rattle.coap_commands.specs.Tasks.{IsObservation, IsTask};
 ghost use Rattle.coap_commands.specs.declared.hosts.Peer.TheVariants as peers;
 
 use crate::ask::ask_over;
@@ -25,7 +25,7 @@ use crate::timekeeper::{ProgramTime, Timekeeper};
 use crate::told_source::{Telling, ToldSource};
 use crate::tracing::{SharedWriter, Tracing};
 use crate::watching::{Watching, watch_over};
-use crate::word::word_of;
+use crate::word::{Draws, word_of};
 use bytes::Bytes;
 use coap_arguments::{AskOptions, Server, What};
 use coap_links::{Link, Trace};
@@ -332,7 +332,7 @@ fn ask_at<R: AllocGlobal + Files + Net + Clock + RandomSource, O: Write, E: Writ
 
 /// Asks a server for what the words say; whether standard error is a terminal counts for what is said there of a long
 /// wait and of a body in blocks.
-pub(crate) fn ask<R: AllocGlobal + Files + Net + Clock + RandomSource, O: Write, E: Write>(
+pub(crate) fn ask<R: AllocGlobal + Files + Net + Clock + RandomSource + Draws, O: Write, E: Write>(
     rt: &R,
     server: Server<'_>,
     path: &Path,
@@ -342,8 +342,10 @@ pub(crate) fn ask<R: AllocGlobal + Files + Net + Clock + RandomSource, O: Write,
     out: &mut O,
     err: &mut E,
 ) -> Result<Status, Stop>
-    ensures { IfOk result (IsAsked (O.contents out.old) (O.contents out.new) server.entry path.now what.entry
+    ensures asked { IfOk result (IsAsked (O.contents out.old) (O.contents out.new) server.entry path.now what.entry
         options.now) }
+    ensures drawn { IfOk result (IsAskedBy (IsDrawnWord (R.draws rt.now) options.now.word) (O.contents out.old)
+        (O.contents out.new) server.entry path.now what.entry options.now) }
 {
     let word = word_of(rt, options.word)?;
     let task = task_of(rt, path, what, options)?;
@@ -356,7 +358,11 @@ pub(crate) fn ask<R: AllocGlobal + Files + Net + Clock + RandomSource, O: Write,
 }
 
 /// Asks a server what it has, by the options of the words.
-pub(crate) fn discover<R: AllocGlobal + Files + Net + Clock + RandomSource, O: Write, E: Write>(
+pub(crate) fn discover<
+    R: AllocGlobal + Files + Net + Clock + RandomSource + Draws,
+    O: Write,
+    E: Write,
+>(
     rt: &R,
     server: Server<'_>,
     options: &AskOptions,
@@ -364,7 +370,9 @@ pub(crate) fn discover<R: AllocGlobal + Files + Net + Clock + RandomSource, O: W
     out: &mut O,
     err: &mut E,
 ) -> Result<Status, Stop>
-    ensures { IfOk result (IsDiscovered (O.contents out.old) (O.contents out.new) server.entry options.now) }
+    ensures asked { IfOk result (IsDiscovered (O.contents out.old) (O.contents out.new) server.entry options.now) }
+    ensures drawn { IfOk result (IsDiscoveredBy (IsDrawnWord (R.draws rt.now) options.now.word) (O.contents out.old)
+        (O.contents out.new) server.entry options.now) }
 {
     let word = word_of(rt, options.word)?;
     let path = core_path(rt.alloc())?;

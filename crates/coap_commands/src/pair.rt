@@ -13,12 +13,13 @@ ghost use Rattle.coap_client.specs.Object.Shown.{shown_report};
 ghost use Rattle.coap_client.specs.Trace.{Call};
 ghost use Rattle.coap_links.specs.Pumping.{SendsAll};
 ghost use Rattle.coap_links.specs.Turning.{Turns};
+ghost use Rattle.coap_commands.specs.Asked.{IsDrawnWord};
 ghost use Rattle.coap_commands.specs.Asks.{AsksNothing, Turned, TurnsAt, changed_status, takes_report};
 ghost use Rattle.coap_commands.specs.Bearing.{borne_in_all};
 ghost use Rattle.coap_commands.specs.Ends.{client_sizes, server_limits};
 ghost use Rattle.coap_commands.specs.Linked.{HasSent, HasTurn};
 ghost use Rattle.coap_commands.specs.PairTurns.{EndsWith, SideTurns, TakesTurn};
-ghost use Rattle.coap_commands.specs.Pairs.{CameBack, IsHanded, IsPaired, Pairs, paired_setup};
+ghost use Rattle.coap_commands.specs.Pairs.{CameBack, IsHanded, IsPaired, IsPairedBy, Pairs, paired_setup};
 ghost use Rattle.coap_commands.specs.Printed.{WritesGet, WritesNamed, WritesPut};
 ghost use Rattle.coap_commands.specs.Statuses.{IsCarriedOut};
 ghost use Rattle.coap_scripts.specs.declared.status.Status.TheVariants as status;
@@ -30,7 +31,7 @@ use crate::ends::{fresh_client, fresh_server};
 use crate::put_away::put_away;
 use crate::side::Side;
 use crate::timekeeper::{ProgramTime, Timekeeper};
-use crate::word::word_of;
+use crate::word::{Draws, word_of};
 use coap_arguments::WordChoice;
 use coap_ends::{CallId, Client, End, Report, Server};
 use coap_layer::Setup;
@@ -280,7 +281,7 @@ fn loopback_link<R: Net>(net: &R) -> io::Result<UdpLink>
 }
 
 /// Puts a body at a path and gets it back, over two sockets of 127.0.0.1.
-pub fn pair<R: AllocGlobal + Net + Clock + RandomSource, W: Write>(
+pub(crate) fn pair<R: AllocGlobal + Net + Clock + RandomSource + Draws, W: Write>(
     rt: &R,
     path: &Path,
     body: &str,
@@ -289,7 +290,10 @@ pub fn pair<R: AllocGlobal + Net + Clock + RandomSource, W: Write>(
     remembered: Remembered,
     out: &mut W,
 ) -> Result<Status, Stop>
-    ensures { IfOk result (IsPaired (W.contents out.old) (W.contents out.new) path.now body.now word limit remembered) }
+    ensures paired { IfOk result (IsPaired (W.contents out.old) (W.contents out.new) path.now body.now word limit
+        remembered) }
+    ensures drawn { IfOk result (IsPairedBy (IsDrawnWord (R.draws rt.now) word) (W.contents out.old)
+        (W.contents out.new) path.now body.now limit remembered) }
 {
     let word = word_of(rt, word)?;
     let mut time = ProgramTime::begin(rt)?;

@@ -13,13 +13,13 @@ pub returns-in-Ask : goal.returns-in-Ask
 returns-in-Ask g c =
     let old = g.O.Write.contents c.args.out.now in
     let new = g.O.Write.contents c.ask.new.out in
-    subst (λ (o : Order). IfOk c.ask.result (CarriesOut old new o)) (sym c.in-Ask.is) c.ask.ensures
+    subst (λ (o : Order). IfOk c.ask.result (CarriesOut old new o)) (sym c.in-Ask.is) c.ask.ensures.asked
 
 pub returns-in-Discover : goal.returns-in-Discover
 returns-in-Discover g c =
     let old = g.O.Write.contents c.args.out.now in
     let new = g.O.Write.contents c.discover.new.out in
-    subst (λ (o : Order). IfOk c.discover.result (CarriesOut old new o)) (sym c.in-Discover.is) c.discover.ensures
+    subst (λ (o : Order). IfOk c.discover.result (CarriesOut old new o)) (sym c.in-Discover.is) c.discover.ensures.asked
 
 pub returns-in-Serve : goal.returns-in-Serve
 returns-in-Serve g c =
