@@ -1,12 +1,15 @@
 -- The settings of a script, one after the other.
 use Rattle.std.proofs.Common.{◌≡◌, ◌∙◌, ◌<◌, ◌+◌, ◌++◌, ◌∷◌, [], ℕ, List, ap, sym, refl}
-use Rattle.std.proofs.Common.{subst, fold, map, get_or, length, take, Bool, true, Result, Ok, Err, IfOk}
-use Rattle.std.proofs.Common.{arith, drop, false}
+use Rattle.std.proofs.Common.{subst, fold, map, get_or, length, take, Bool, true, Result, Ok, Err, IfErr, IfOk}
+use Rattle.std.proofs.Common.{arith, drop, false, Option, Some}
+use Rattle.std.specs.Borrow.{Bor}
 use Rattle.std.proofs.lemmas.List.{drop_more, length-map, length-take-le, map-append, take-append-drop, take_more}
 use Rattle.std.proofs.lemmas.List.Sums.{fold-append}
 use Rattle.coap_server.specs.Trace.{Call, Delays, Plains}
-use Rattle.coap_scripts.specs.Settings.{Delay, Hold, Plain, Setting}
-use Rattle.coap_commands.specs.ScriptSettings.{AreMade, HoldsIf, IsFirstNotMade, IsMade, IsMadeIf, IsNotMade}
+use Rattle.coap_scripts.specs.Script.{EachOf, IsFirstBad, lines_of}
+use Rattle.coap_scripts.specs.Settings.{Delay, Hold, Plain, SaysSetting, Setting}
+use Rattle.coap_commands.specs.ScriptSettings.{AreMade, AreOfScriptIn, HoldsIf, IsBadInScript, IsFirstNotMade}
+use Rattle.coap_commands.specs.ScriptSettings.{IsMade, IsMadeIf, IsNotMade}
 use Rattle.coap_commands.specs.ScriptSettings.{limit_by, limit_with}
 
 -- one thing more is seen
@@ -84,3 +87,33 @@ pub plain_if : (b : Bool) (path : List (List ℕ)) (before : List Call)
     → IsMadeIf b (Plain path) before (Plains path b ∷ before)
 plain_if true path before = refl
 plain_if false path before = refl
+
+-- ---- the script in a file
+
+pub said_in : {X Y E : Type 0} (P Q : X → Type 0) (r : Result (Result X Y) E) → ((x : X) → P x → Q x)
+    → IfOk r (λ read. IfOk read P) → IfOk r (λ read. IfOk read Q)
+said_in P Q (Ok (Ok x)) onto h = onto x h
+said_in P Q (Ok (Err y)) onto h = tt
+said_in P Q (Err e) onto h = tt
+
+pub bad_in : {X Y E : Type 0} (P Q : Y → Type 0) (r : Result (Result X Y) E) → ((y : Y) → P y → Q y)
+    → IfOk r (λ read. IfErr read P) → IfOk r (λ read. IfErr read Q)
+bad_in P Q (Ok (Ok x)) onto h = tt
+bad_in P Q (Ok (Err y)) onto h = onto y h
+bad_in P Q (Err e) onto h = tt
+
+-- (`bytes` is the text that was read, and `text` what is read of it)
+module _ (has : List ℕ → List ℕ → Type 0) (script : Option (Bor (List ℕ))) (name : Bor (List ℕ))
+    (text bytes : List ℕ) (is : script ≡ Some name) (same : text ≡ bytes) (there : has name.now bytes)
+  where
+    pub of_script : (settings : List Setting) → EachOf SaysSetting (lines_of text) settings
+        → AreOfScriptIn has script settings
+    of_script settings each =
+        subst (λ (s : Option (Bor (List ℕ))). AreOfScriptIn has s settings) (sym is)
+        (bytes, there, subst (λ (t : List ℕ). EachOf SaysSetting (lines_of t) settings) same each)
+
+    pub bad_of_script : (number : ℕ) → IsFirstBad SaysSetting (lines_of text) number
+        → IsBadInScript has script number
+    bad_of_script number bad =
+        subst (λ (s : Option (Bor (List ℕ))). IsBadInScript has s number) (sym is)
+        (bytes, there, subst (λ (t : List ℕ). IsFirstBad SaysSetting (lines_of t) number) same bad)

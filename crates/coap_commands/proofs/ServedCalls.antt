@@ -4,7 +4,6 @@ use Rattle.std.proofs.Common.{◌≡◌, ◌≤◌, ◌+◌, ℕ, Bool, true, fa
 use Rattle.std.proofs.Common.{Err, IfErr, IfOk, OnOk}
 use Rattle.std.proofs.Common.{ap, inl, inr, refl, sym, subst, arith, if◌then◌else◌, nat_lt, ◌^◌, ◌-◌}
 use Rattle.std.specs.Borrow.{Bor}
-use Rattle.std.specs.Option.{IsSome}
 use Rattle.std.specs.Io.KnownBytes.{Appends}
 use Rattle.coap_types.specs.declared.endpoint.Endpoint.{Endpoint}
 use Rattle.coap_layer.specs.Trace as layer
@@ -23,15 +22,15 @@ use Rattle.coap_server.specs.Led.{State, Step}
 use Rattle.coap_server.specs.Trace.{Call, Handling, NextOut, Ticks}
 use Rattle.coap_server.specs.Trace.{Feeds as FedIn}
 use Rattle.coap_arguments.specs.declared.orders.ServeOptions.{ServeOptions}
-use Rattle.coap_commands.specs.Asked.{IsOrigin}
+use Rattle.coap_commands.specs.Asked.{IsDrawnOrigin, IsOrigin}
 use Rattle.coap_commands.specs.Printed.{bad_line_text, not_set_up_text, refused_text, served_text}
-use Rattle.coap_commands.specs.ScriptSettings.{AreOfScript}
+use Rattle.coap_commands.specs.ScriptSettings.{AnyText, AreOfScriptIn, IsBadInScript}
 use Rattle.coap_commands.specs.declared.serve_script.BadLine.{BadLine}
 use Rattle.coap_commands.specs.declared.setting_up.NotSetUp.{NotSetUp}
 use Rattle.coap_commands.specs.declared.setting_up.NotSetUp.TheVariants as notSetUp
 use Rattle.coap_commands.specs.declared.word.Origin.{Origin}
-use Rattle.coap_commands.specs.Served.{AllTurning, FedFrom, IsServed, IsServedBy, IsTurning, Leads, fed_by, fed_in}
-use Rattle.coap_commands.specs.Served.{not_set_up_status}
+use Rattle.coap_commands.specs.Served.{AllTurning, FedFrom, IsServed, IsServedFrom, IsServedIn, IsTurning, Leads}
+use Rattle.coap_commands.specs.Served.{fed_by, fed_in, not_set_up_status}
 use Rattle.coap_commands.specs.Serves.{Serves, Turning, nothing_fed}
 use Rattle.coap_commands.specs.Serves.{further as more, none as no_turn}
 use Rattle.coap_commands.specs.SettingUp.{IsRefusedAfter, IsServerAfter}
@@ -252,79 +251,114 @@ module _ {X : Type 0} (told : ℕ → State × X → State × X → Type 0) wher
       )
       served_from count word own b d first last l m (Err stop) is h = tt
 
--- it serves as its words and its settings say
-pub served_by : (old new : Option (List ℕ)) (count : ℕ) (options : ServeOptions) (settings : List Setting)
-    (origin : Origin) (first : State)
-    (ended : Result Status Stop) → IsServerAfter origin options settings first
-    → IfOk ended (λ s. (s ≡ status.Done) × (end : State) × FedFrom count first end)
-    → OnOk ended (Appends old new (served_text count))
-    → IfOk ended (λ s. IsOrigin options.word origin → IsServedBy old new count options settings s)
-served_by old new count options settings origin first (Ok s) set_up h written =
-    λ is_origin. inr (inr (h.0, origin, is_origin, first, set_up, h.1, h.2, written))
-served_by old new count options settings origin first (Err stop) set_up h written = tt
+-- ---- of a server that began with this
 
--- .. or it isn't set up
-refused_by : (old new : Option (List ℕ)) (count : ℕ) (options : ServeOptions) (settings : List Setting)
-    (origin : Origin)
-    (why : StoreRefusal) (ended : Result Status Stop)
-    → IsRefusedAfter origin options settings (notSetUp.Refused why) → IfOk ended (λ s. s ≡ status.Refused)
-    → OnOk ended (Appends old new (refused_text why))
-    → IfOk ended (λ s. IsOrigin options.word origin → IsServedBy old new count options settings s)
-refused_by old new count options settings origin why (Ok s) of h written =
-    λ is_origin. inl (h, (origin, is_origin, why, of, written))
-refused_by old new count options settings origin why (Err stop) of h written = tt
+module _ (old new : Option (List ℕ)) (count : ℕ) (options : ServeOptions) (settings : List Setting) (origin : Origin)
+  where
+    abbrev pub FromOrigin : Status → Type 0
+    FromOrigin s = IsServedFrom (λ o. o ≡ origin) old new count options settings s
 
-bad_by : (old new : Option (List ℕ)) (count : ℕ) (options : ServeOptions) (settings : List Setting) (origin : Origin)
-    (bad : BadLine) (ended : Result Status Stop) → IsRefusedAfter origin options settings (notSetUp.Line bad)
-    → IfOk ended (λ s. s ≡ status.Words) → OnOk ended (Appends old new (bad_line_text bad.0))
-    → IfOk ended (λ s. IsOrigin options.word origin → IsServedBy old new count options settings s)
-bad_by old new count options settings origin bad (Ok s) of h written =
-    λ is_origin. inr (inl (h, (origin, is_origin, bad, of, written)))
-bad_by old new count options settings origin bad (Err stop) of h written = tt
+    -- it serves as its words and its settings say
+    pub served_by : (first : State) (ended : Result Status Stop) → IsServerAfter origin options settings first
+        → IfOk ended (λ s. (s ≡ status.Done) × (end : State) × FedFrom count first end)
+        → OnOk ended (Appends old new (served_text count)) → IfOk ended FromOrigin
+    served_by first (Ok s) set_up h written = inr (inr (h.0, origin, refl, first, set_up, h.1, h.2, written))
+    served_by first (Err stop) set_up h written = tt
+
+    -- .. or it isn't set up
+    refused_by : (why : StoreRefusal) (ended : Result Status Stop)
+        → IsRefusedAfter origin options settings (notSetUp.Refused why) → IfOk ended (λ s. s ≡ status.Refused)
+        → OnOk ended (Appends old new (refused_text why)) → IfOk ended FromOrigin
+    refused_by why (Ok s) of h written = inl (h, (origin, refl, why, of, written))
+    refused_by why (Err stop) of h written = tt
+
+    bad_by : (bad : BadLine) (ended : Result Status Stop) → IsRefusedAfter origin options settings (notSetUp.Line bad)
+        → IfOk ended (λ s. s ≡ status.Words) → OnOk ended (Appends old new (bad_line_text bad.0))
+        → IfOk ended FromOrigin
+    bad_by bad (Ok s) of h written = inr (inl (h, (origin, refl, bad, of, written)))
+    bad_by bad (Err stop) of h written = tt
+
+    -- a server that isn't set up
+    pub not_set_by : (why : NotSetUp) (ended : Result Status Stop) → IsRefusedAfter origin options settings why
+        → IfOk ended (λ s. s ≡ not_set_up_status why) → OnOk ended (Appends old new (not_set_up_text why))
+        → IfOk ended FromOrigin
+    not_set_by (notSetUp.Refused refusal) ended refused h written = refused_by refusal ended refused h written
+    not_set_by (notSetUp.Line bad) ended refused h written = bad_by bad ended refused h written
 
 -- what holds of a refusal
 pub refused_is : {X E : Type 0} (Is : E → Type 0) (made : Result X E) (e : E) → made ≡ Err e → IfErr made Is → Is e
 refused_is Is made e is h = subst (λ (r : Result _ _). IfErr r Is) is h
 
--- a server that isn't set up
-pub not_set_by : (old new : Option (List ℕ)) (count : ℕ) (options : ServeOptions) (settings : List Setting)
-    (origin : Origin) (why : NotSetUp)
-    (ended : Result Status Stop) → IsRefusedAfter origin options settings why
-    → IfOk ended (λ s. s ≡ not_set_up_status why) → OnOk ended (Appends old new (not_set_up_text why))
-    → IfOk ended (λ s. IsOrigin options.word origin → IsServedBy old new count options settings s)
-not_set_by old new count options settings origin (notSetUp.Refused refusal) ended refused h written =
-    refused_by old new count options settings origin refusal ended refused h written
-not_set_by old new count options settings origin (notSetUp.Line bad) ended refused h written =
-    bad_by old new count options settings origin bad ended refused h written
+-- what a server may begin with, it may begin with where it may begin with more
+module _ (P Q : Origin → Type 0) (onto : (o : Origin) → P o → Q o) (old new : Option (List ℕ)) (count : ℕ)
+    (options : ServeOptions)
+  where
+    from_more : (settings : List Setting) (s : Status) → IsServedFrom P old new count options settings s
+        → IsServedFrom Q old new count options settings s
+    from_more settings s (inl h) = inl (h.0, (h.1.0, onto h.1.0 h.1.1, h.1.2, h.1.3, h.1.4))
+    from_more settings s (inr (inl h)) = inr (inl (h.0, (h.1.0, onto h.1.0 h.1.1, h.1.2, h.1.3, h.1.4)))
+    from_more settings s (inr (inr h)) = inr (inr (h.0, h.1, onto h.1 h.2, h.3, h.4, h.5, h.6, h.7))
 
--- what holds of a refusal, whichever it is
-pub where_refused : {X E : Type 0} (P : Type 0) (made : Result X E) (e : E) → made ≡ Err e → IfErr made (λ _. P) → P
-where_refused P made e is h = subst (λ (r : Result _ _). IfErr r (λ _. P)) is h
+    pub served_more : (settings : List Setting) (ended : Result Status Stop)
+        → IfOk ended (IsServedFrom P old new count options settings)
+        → IfOk ended (IsServedFrom Q old new count options settings)
+    served_more settings (Ok s) h = from_more settings s h
+    served_more settings (Err stop) h = tt
 
--- with the word that was chosen
-pub worded : (old new : Option (List ℕ)) (count : ℕ) (options : ServeOptions) (settings : List Setting)
-    (origin : Origin)
-    (ended : Result Status Stop)
-    → IsOrigin options.word origin
-    → IfOk ended (λ s. IsOrigin options.word origin → IsServedBy old new count options settings s)
-    → IfOk ended (IsServedBy old new count options settings)
-worded old new count options settings origin (Ok s) is_origin h = h is_origin
-worded old new count options settings origin (Err stop) is_origin h = tt
+    -- .. and so of the texts that a file may have
+    of_any : (has : List ℕ → List ℕ → Type 0) (script : Option (Bor (List ℕ))) (settings : List Setting)
+        → AreOfScriptIn has script settings → AreOfScriptIn AnyText script settings
+    of_any has None settings h = h
+    of_any has (Some name) settings h = (h.0, tt, h.2)
+
+    bad_any : (has : List ℕ → List ℕ → Type 0) (script : Option (Bor (List ℕ))) (number : ℕ)
+        → IsBadInScript has script number → IsBadInScript AnyText script number
+    bad_any has None number h = h
+    bad_any has (Some name) number h = (h.0, tt, h.2)
+
+    in_more : (has : List ℕ → List ℕ → Type 0) (script : Option (Bor (List ℕ))) (s : Status)
+        → IsServedIn P old new has count options script s → IsServedIn Q old new AnyText count options script s
+    in_more has script s (inl h) = inl (h.0, h.1, bad_any has script h.1 h.2, h.3)
+    in_more has script s (inr h) = inr (h.0, of_any has script h.0 h.1, from_more h.0 s h.2)
+
+    pub script_more : (has : List ℕ → List ℕ → Type 0) (script : Option (Bor (List ℕ))) (ended : Result Status Stop)
+        → IfOk ended (IsServedIn P old new has count options script)
+        → IfOk ended (IsServedIn Q old new AnyText count options script)
+    script_more has script (Ok s) h = in_more has script s h
+    script_more has script (Err stop) h = tt
+
+-- a server that began with what was drawn began as the words say
+pub as_said : (draws : List ℕ → Type 0) (has : List ℕ → List ℕ → Type 0) (old new : Option (List ℕ)) (count : ℕ)
+    (options : ServeOptions) (script : Option (Bor (List ℕ))) (ended : Result Status Stop)
+    → IfOk ended (IsServedIn (IsDrawnOrigin draws options.word) old new has count options script)
+    → IfOk ended (IsServed old new count options script)
+as_said draws has old new count options script ended h =
+    script_more (IsDrawnOrigin draws options.word) (IsOrigin options.word) (λ o d. d.0) old new count options has script
+    ended h
+
+-- with what was chosen
+pub served_with : (Begins : Origin → Type 0) (old new : Option (List ℕ)) (count : ℕ) (options : ServeOptions)
+    (settings : List Setting) (origin : Origin) (ended : Result Status Stop) → Begins origin
+    → IfOk ended (IsServedFrom (λ o. o ≡ origin) old new count options settings)
+    → IfOk ended (IsServedFrom Begins old new count options settings)
+served_with Begins old new count options settings origin ended begins h =
+    served_more (λ o. o ≡ origin) Begins (λ o is. subst Begins (sym is) begins) old new count options settings ended h
 
 -- with the settings of the script that is named
-pub served_as : (old new : Option (List ℕ)) (count : ℕ) (options : ServeOptions) (script : Option (Bor (List ℕ)))
-    (settings : List Setting)
-    (ended : Result Status Stop) → AreOfScript script settings → IfOk ended (IsServedBy old new count options settings)
-    → IfOk ended (IsServed old new count options script)
-served_as old new count options script settings (Ok s) of h = inr (settings, of, h)
-served_as old new count options script settings (Err stop) of h = tt
+pub served_as : (Begins : Origin → Type 0) (has : List ℕ → List ℕ → Type 0) (old new : Option (List ℕ)) (count : ℕ)
+    (options : ServeOptions) (script : Option (Bor (List ℕ))) (settings : List Setting) (ended : Result Status Stop)
+    → AreOfScriptIn has script settings → IfOk ended (IsServedFrom Begins old new count options settings)
+    → IfOk ended (IsServedIn Begins old new has count options script)
+served_as Begins has old new count options script settings (Ok s) of h = inr (settings, of, h)
+served_as Begins has old new count options script settings (Err stop) of h = tt
 
-pub bad_script : (old new : Option (List ℕ)) (count : ℕ) (options : ServeOptions) (script : Option (Bor (List ℕ)))
-    (ended : Result Status Stop)
-    → IsSome script → IfOk ended (λ s. s ≡ status.Words) → (number : ℕ)
-    → OnOk ended (Appends old new (bad_line_text number)) → IfOk ended (IsServed old new count options script)
-bad_script old new count options script (Ok s) some h number written = inl (h, some, (number, written))
-bad_script old new count options script (Err stop) some h number written = tt
+pub bad_script : (Begins : Origin → Type 0) (has : List ℕ → List ℕ → Type 0) (old new : Option (List ℕ)) (count : ℕ)
+    (options : ServeOptions) (script : Option (Bor (List ℕ))) (number : ℕ) (ended : Result Status Stop)
+    → IsBadInScript has script number → IfOk ended (λ s. s ≡ status.Words)
+    → OnOk ended (Appends old new (bad_line_text number))
+    → IfOk ended (IsServedIn Begins old new has count options script)
+bad_script Begins has old new count options script number (Ok s) bad h written = inl (h, number, bad, written)
+bad_script Begins has old new count options script number (Err stop) bad h written = tt
 
 -- what was made is as each that is made
 pub made_is : {X E : Type 0} (Is : X → Type 0) (made : Result X E) (x : X) → made ≡ Ok x → IfOk made Is → Is x

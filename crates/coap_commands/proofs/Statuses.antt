@@ -16,9 +16,10 @@ use Rattle.coap_commands.specs.Observes.{observed_report, observed_status}
 use Rattle.coap_commands.specs.Pairs.{IsPaired}
 use Rattle.coap_commands.specs.Polls.{Reading, read_status}
 use Rattle.coap_server.specs.Led.{State}
+use Rattle.coap_commands.specs.Asked.{IsOrigin}
 use Rattle.coap_commands.specs.Kept.{IsGoneOn, IsServedAsSaid, IsServedOn}
-use Rattle.coap_commands.specs.Served.{IsServed, IsServedBy}
-use Rattle.coap_commands.specs.ScriptSettings.{AreOfScript}
+use Rattle.coap_commands.specs.Served.{IsServed, IsServedFrom}
+use Rattle.coap_commands.specs.ScriptSettings.{AnyText, AreOfScriptIn, IsBadInScript}
 use Rattle.coap_scripts.specs.Settings.{Setting as SettingSpec}
 use Rattle.coap_commands.specs.Tasks.{Does, IsAsked, IsDiscovered}
 use Rattle.coap_commands.specs.Watches.{reported, verdict}
@@ -323,7 +324,7 @@ some_settings settings (m ∷ made) rest s is = λ none. cc (is, none)
 -- a server that is set up, or is not, comes to 2 only where settings are there
 served_settings : (old new : Option (List ℕ)) (s : Status) (count : ℕ) (options : ServeOptions)
     (settings : List SettingSpec)
-    → IsServedBy old new count options settings s → status_number s ≡ 2 → settings ≢ []
+    → IsServedFrom (IsOrigin options.word) old new count options settings s → status_number s ≡ 2 → settings ≢ []
 served_settings old new s count options settings (inl is) h =
     absurd (let n : 1 ≡ 2 = sym (ap status_number is.0) ∙ h in omega (arith, n))
 served_settings old new s count options settings (inr (inl bad)) h =
@@ -332,15 +333,19 @@ served_settings old new s count options settings (inr (inr done)) h =
     absurd (let n : 0 ≡ 2 = sym (ap status_number done.0) ∙ h in omega (arith, n))
 
 -- .. and so only where a script is named
-scripted : (script : Option (Bor (List ℕ))) (settings : List SettingSpec) → AreOfScript script settings → settings ≢ []
-    → IsSome script
+scripted : (script : Option (Bor (List ℕ))) (settings : List SettingSpec) → AreOfScriptIn AnyText script settings
+    → settings ≢ [] → IsSome script
 scripted None settings none some = absurd (some none)
 scripted (Some name) settings of some = refl
+
+bad_scripted : (script : Option (Bor (List ℕ))) (number : ℕ) → IsBadInScript AnyText script number → IsSome script
+bad_scripted None number bad = absurd bad
+bad_scripted (Some name) number bad = refl
 
 served_ends : (old new : Option (List ℕ)) (s : Status) (count : ℕ) (options : ServeOptions)
     (script : Option (Bor (List ℕ)))
     → IsServed old new count options script s → status_number s ≡ 2 → IsSome script
-served_ends old new s count options script (inl bad) h = bad.1
+served_ends old new s count options script (inl bad) h = bad_scripted script bad.1 bad.2
 served_ends old new s count options script (inr (settings, of, served)) h =
     scripted script settings of (served_settings old new s count options settings served h)
 

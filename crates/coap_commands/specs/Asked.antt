@@ -42,6 +42,11 @@ IsDrawnBase draws Random base = (word : ℕ) × IsRandom draws word × (base ≡
 abbrev pub IsOrigin : WordChoice → Origin → Type 0
 IsOrigin choice origin = IsWord choice origin.word × IsBaseOf choice origin.base
 
+-- .. where that is drawn
+abbrev pub IsDrawnOrigin : (draws : List ℕ → Type 0) → WordChoice → Origin → Type 0
+IsDrawnOrigin draws choice origin =
+    IsOrigin choice origin × IsDrawnWord draws choice origin.word × IsDrawnBase draws choice origin.base
+
 -- the bytes of a text; those of a file may be any
 abbrev pub IsContent : Content → List ℕ → Type 0
 IsContent (content.Text text) body = body ≡ text.now

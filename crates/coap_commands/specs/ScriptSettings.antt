@@ -6,7 +6,7 @@ use Rattle.std.specs.Borrow.{Bor}
 use Rattle.coap_resource.specs.Content.{Content}
 use Rattle.coap_resource.specs.declared.refusal.StoreRefusal.{StoreRefusal}
 use Rattle.coap_server.specs.Trace.{Call, Delays, Plains, Sets}
-use Rattle.coap_scripts.specs.Script.{EachOf, lines_of}
+use Rattle.coap_scripts.specs.Script.{EachOf, IsFirstBad, lines_of}
 use Rattle.coap_scripts.specs.Settings.{Setting, Nothing, Hold, Delay, Plain, Limit, SaysSetting}
 use Rattle.coap_commands.specs.declared.setting_up.NotSetUp.{NotSetUp}
 use Rattle.coap_commands.specs.declared.setting_up.NotSetUp.TheVariants as notSetUp
@@ -68,10 +68,21 @@ limit_with limit (Plain path) = limit
 abbrev pub limit_by : ℕ → List Setting → ℕ
 limit_by limit settings = fold limit_with limit settings
 
--- The settings of the script in a file, which may have any text; where none is named, there are none.
-abbrev pub AreOfScript : Option (Bor (List ℕ)) → List Setting → Type 0
-AreOfScript None settings = settings ≡ []
-AreOfScript (Some name) settings = (text : List ℕ) × EachOf SaysSetting (lines_of text) settings
+-- The settings of the script in a file, which may have such texts; where none is named, there are none.
+abbrev pub AreOfScriptIn : (has : List ℕ → List ℕ → Type 0) → Option (Bor (List ℕ)) → List Setting → Type 0
+AreOfScriptIn has None settings = settings ≡ []
+AreOfScriptIn has (Some name) settings =
+    (text : List ℕ) × has name.now text × EachOf SaysSetting (lines_of text) settings
+
+-- .. or the first line of it that says none, by its number, from 1
+abbrev pub IsBadInScript : (has : List ℕ → List ℕ → Type 0) → Option (Bor (List ℕ)) → ℕ → Type 0
+IsBadInScript has None number = ⊥
+IsBadInScript has (Some name) number =
+    (text : List ℕ) × has name.now text × IsFirstBad SaysSetting (lines_of text) number
+
+-- a file may have any text
+abbrev pub AnyText : List ℕ → List ℕ → Type 0
+AnyText name text = ⊤
 
 -- a line that is named is one of those that the settings have, by its number, from 1
 abbrev pub IsOfSettings : List Setting → NotSetUp → Type 0

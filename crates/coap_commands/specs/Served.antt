@@ -1,5 +1,5 @@
 -- What a server comes to that serves as the words say: it is set up, and then turned until so many datagrams were fed.
-use Rattle.std.specs.Prelude.{◌≡◌, ◌⊎◌, ◌≤◌, ◌+◌, ⊤, ℕ, List, [], ◌∷◌, Option, IsSome}
+use Rattle.std.specs.Prelude.{◌≡◌, ◌⊎◌, ◌≤◌, ◌+◌, ⊤, ℕ, List, [], ◌∷◌, Option}
 use Rattle.std.specs.Borrow.{Bor}
 use Rattle.std.specs.Io.KnownBytes.{Appends}
 use Rattle.coap_resource.specs.declared.refusal.StoreRefusal.{StoreRefusal}
@@ -8,7 +8,7 @@ use Rattle.coap_server.specs.Trace.{Call, Feeds, NextOut, Ticks}
 use Rattle.coap_arguments.specs.declared.orders.ServeOptions.{ServeOptions}
 use Rattle.coap_commands.specs.Asked.{IsOrigin}
 use Rattle.coap_commands.specs.Printed.{bad_line_text, refused_text, served_text}
-use Rattle.coap_commands.specs.ScriptSettings.{AreOfScript}
+use Rattle.coap_commands.specs.ScriptSettings.{AnyText, AreOfScriptIn, IsBadInScript}
 use Rattle.coap_commands.specs.SettingUp.{IsRefusedAfter, IsServerAfter}
 use Rattle.coap_commands.specs.declared.serve_script.BadLine.{BadLine}
 use Rattle.coap_commands.specs.declared.setting_up.NotSetUp.{NotSetUp}
@@ -52,31 +52,35 @@ abbrev pub not_set_up_status : NotSetUp → Status
 not_set_up_status (notSetUp.Refused why) = status.Refused
 not_set_up_status (notSetUp.Line bad) = status.Words
 
--- the store of a server that began as the words say refuses what they name, and that is written behind what a writer
--- has
-abbrev pub IsRefusedBy : (old new : Option (List ℕ)) → ServeOptions → List Setting → Type 0
-IsRefusedBy old new options settings = (origin : Origin) × IsOrigin options.word origin × (why : StoreRefusal)
-    × IsRefusedAfter origin options settings (notSetUp.Refused why) × Appends old new (refused_text why)
+-- (`Begins` is what a server may begin with)
+module _ (Begins : Origin → Type 0) (old new : Option (List ℕ)) where
+  -- the store of a server that began so refuses what the words name, and that is written behind what a writer has
+  abbrev pub IsRefusedBy : ServeOptions → List Setting → Type 0
+  IsRefusedBy options settings = (origin : Origin) × Begins origin × (why : StoreRefusal)
+      × IsRefusedAfter origin options settings (notSetUp.Refused why) × Appends old new (refused_text why)
 
--- the server that began as the words say doesn't take what a line of the settings says, whose number is written
-abbrev pub IsBadBy : (old new : Option (List ℕ)) → ServeOptions → List Setting → Type 0
-IsBadBy old new options settings = (origin : Origin) × IsOrigin options.word origin × (bad : BadLine)
-    × IsRefusedAfter origin options settings (notSetUp.Line bad) × Appends old new (bad_line_text bad.0)
+  -- the server that began so doesn't take what a line of the settings says, whose number is written
+  abbrev pub IsBadBy : ServeOptions → List Setting → Type 0
+  IsBadBy options settings = (origin : Origin) × Begins origin × (bad : BadLine)
+      × IsRefusedAfter origin options settings (notSetUp.Line bad) × Appends old new (bad_line_text bad.0)
 
--- the number of a line is written
-abbrev pub SaysLine : (old new : Option (List ℕ)) → Type 0
-SaysLine old new = (number : ℕ) × Appends old new (bad_line_text number)
+  -- a server that was set up as the words and these settings say is turned so, and that is done; or its store refuses
+  -- what the words name, or it doesn't take what a line of the settings says; and that is written
+  abbrev pub IsServedFrom : ℕ → ServeOptions → List Setting → Status → Type 0
+  IsServedFrom count options settings s = ((s ≡ status.Refused) × IsRefusedBy options settings)
+      ⊎ (((s ≡ status.Words) × IsBadBy options settings)
+      ⊎ ((s ≡ status.Done) × (origin : Origin) × Begins origin × (first : State)
+      × IsServerAfter origin options settings first × (last : State) × FedFrom count first last
+      × Appends old new (served_text count)))
 
--- a server that was set up as the words and these settings say is turned so, and that is done; or its store refuses
--- what the words name, or it doesn't take what a line of the settings says; and that is written
-abbrev pub IsServedBy : (old new : Option (List ℕ)) → ℕ → ServeOptions → List Setting → Status → Type 0
-IsServedBy old new count options settings s = ((s ≡ status.Refused) × IsRefusedBy old new options settings)
-    ⊎ (((s ≡ status.Words) × IsBadBy old new options settings)
-    ⊎ ((s ≡ status.Done) × (origin : Origin) × IsOrigin options.word origin × (first : State)
-    × IsServerAfter origin options settings first × (last : State) × FedFrom count first last
-    × Appends old new (served_text count)))
+  -- .. where the settings are those of the script that is named, if any (`has` is which texts a file may have); or the
+  -- number of its first line that says none is written
+  abbrev pub IsServedIn : (has : List ℕ → List ℕ → Type 0) → ℕ → ServeOptions → Option (Bor (List ℕ)) → Status → Type 0
+  IsServedIn has count options script s =
+      ((s ≡ status.Words) × (number : ℕ) × IsBadInScript has script number × Appends old new (bad_line_text number))
+      ⊎ ((settings : List Setting) × AreOfScriptIn has script settings × IsServedFrom count options settings s)
 
--- .. where the settings are those of the script that is named, if any; one of its lines may say none
+-- as the words say
 abbrev pub IsServed : (old new : Option (List ℕ)) → ℕ → ServeOptions → Option (Bor (List ℕ)) → Status → Type 0
-IsServed old new count options script s = ((s ≡ status.Words) × IsSome script × SaysLine old new)
-    ⊎ ((settings : List Setting) × AreOfScript script settings × IsServedBy old new count options settings s)
+IsServed old new count options script s =
+    IsServedIn (IsOrigin options.word) old new AnyText count options script s

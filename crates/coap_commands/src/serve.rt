@@ -5,11 +5,11 @@ ghost use Rattle.coap_resource.specs.Entries.{content_of};
 ghost use Rattle.coap_server.specs.Led.{State};
 ghost use Rattle.coap_server.specs.Object.Shown.{state_of};
 ghost use Rattle.coap_scripts.specs.Settings.{setting_of};
-ghost use Rattle.coap_commands.specs.Asked.{IsOrigin};
+ghost use Rattle.coap_commands.specs.Asked.{IsDrawnOrigin};
 ghost use Rattle.coap_commands.specs.Hosts.{IsBoundFor, IsLoopback, IsOfAddress};
 ghost use Rattle.coap_commands.specs.declared.hosts.Peer.TheVariants as peers;
 ghost use Rattle.coap_commands.specs.Kept.{IsServedAsSaid, IsServedOn};
-ghost use Rattle.coap_commands.specs.Served.{FedFrom, IsServed, IsServedBy, not_set_up_status};
+ghost use Rattle.coap_commands.specs.Served.{FedFrom, IsServedFrom, IsServedIn, not_set_up_status};
 ghost use Rattle.coap_commands.specs.Printed.{not_set_up_text, served_text};
 ghost use Rattle.coap_scripts.specs.declared.status.Status.TheVariants.{Done};
 
@@ -20,14 +20,14 @@ use crate::hosts::{Peer, peer_at};
 use crate::keeping::{keep_four, refuse_six};
 use crate::peers::{FourPeers, Peers, SixPeers};
 use crate::put_away::put_away;
-use crate::serve_script::{script_of, tell_bad_line};
+use crate::serve_script::{Texts, script_of, tell_bad_line};
 use crate::serving::serve_over;
 use crate::setting_up::{NotSetUp, server_after};
 use crate::sources::{names_for, own_six};
 use crate::terminal::Showing;
 use crate::timekeeper::{ProgramTime, Timekeeper};
 use crate::tracing::{Tracing, teller_on};
-use crate::word::{Origin, origin_of};
+use crate::word::{Draws, Origin, origin_of};
 use coap_arguments::{Address, Journal, ServeOptions};
 use coap_ends::Server;
 use coap_links::{Link, Trace, Udp6Link, UdpLink};
@@ -119,9 +119,8 @@ fn serve_on<
     err: &mut E,
 ) -> Result<Status, Stop>
     requires bound { IsBoundFor options.now.address port (L.own_address link) }
-    ensures { IfOk result (λ status. IsOrigin options.now.word origin
-        → IsServedBy (O.contents out.old) (O.contents out.new) count options.now
-        (map setting_of settings.now) status) }
+    ensures { IfOk result (IsServedFrom (λ o. o ≡ origin) (O.contents out.old) (O.contents out.new) count options.now
+        (map setting_of settings.now)) }
 {
     warn(options, port, err);
     let mut time = ProgramTime::begin(rt)?;
@@ -156,7 +155,7 @@ fn tell_not_set_up<W: Write>(why: NotSetUp, out: &mut W) -> Result<Status, Stop>
 }
 
 // Serves at an endpoint of IPv4, as the words and the settings of a script say.
-fn serve_four<R: AllocGlobal + Files + Net + Clock + RandomSource, O: Write, E: Write>(
+fn serve_four<R: AllocGlobal + Files + Net + Clock + RandomSource + Draws, O: Write, E: Write>(
     rt: &R,
     address: Endpoint,
     port: u16,
@@ -168,8 +167,8 @@ fn serve_four<R: AllocGlobal + Files + Net + Clock + RandomSource, O: Write, E: 
     err: &mut E,
 ) -> Result<Status, Stop>
     requires said { IsOfAddress options.now.address port (peers.Four address) }
-    ensures { IfOk result (IsServedBy (O.contents out.old) (O.contents out.new) count options.now
-        (map setting_of settings.now)) }
+    ensures { IfOk result (IsServedFrom (IsDrawnOrigin (R.draws rt.now) options.now.word) (O.contents out.old)
+        (O.contents out.new) count options.now (map setting_of settings.now)) }
 {
     let origin = origin_of(rt, options.word)?;
     let link = UdpLink::bind(rt, address)?;
@@ -194,7 +193,7 @@ fn serve_four<R: AllocGlobal + Files + Net + Clock + RandomSource, O: Write, E: 
 }
 
 // .. at an address of IPv6.
-fn serve_six<R: AllocGlobal + Files + Net + Clock + RandomSource, O: Write, E: Write>(
+fn serve_six<R: AllocGlobal + Files + Net + Clock + RandomSource + Draws, O: Write, E: Write>(
     rt: &R,
     address: SocketAddrV6,
     port: u16,
@@ -206,8 +205,8 @@ fn serve_six<R: AllocGlobal + Files + Net + Clock + RandomSource, O: Write, E: W
     err: &mut E,
 ) -> Result<Status, Stop>
     requires said { IsOfAddress options.now.address port (peers.Six address) }
-    ensures { IfOk result (IsServedBy (O.contents out.old) (O.contents out.new) count options.now
-        (map setting_of settings.now)) }
+    ensures { IfOk result (IsServedFrom (IsDrawnOrigin (R.draws rt.now) options.now.word) (O.contents out.old)
+        (O.contents out.new) count options.now (map setting_of settings.now)) }
 {
     let origin = origin_of(rt, options.word)?;
     let names = names_for(rt, MAX_CLIENTS)?;
@@ -232,7 +231,7 @@ fn serve_six<R: AllocGlobal + Files + Net + Clock + RandomSource, O: Write, E: W
 
 // Serves at a port, as the words and the settings of a script say.
 fn serve_settings<
-    R: AllocGlobal + Files<File = File> + Net + Clock + RandomSource,
+    R: AllocGlobal + Files<File = File> + Net + Clock + RandomSource + Draws,
     O: Write,
     E: Write,
 >(
@@ -245,8 +244,8 @@ fn serve_settings<
     out: &mut O,
     err: &mut E,
 ) -> Result<Status, Stop>
-    ensures { IfOk result (IsServedBy (O.contents out.old) (O.contents out.new) count options.now
-        (map setting_of settings.now)) }
+    ensures { IfOk result (IsServedFrom (IsDrawnOrigin (R.draws rt.now) options.now.word) (O.contents out.old)
+        (O.contents out.new) count options.now (map setting_of settings.now)) }
 {
     match peer_at(options.address, port) {
         Peer::Four(address) => {
@@ -290,7 +289,7 @@ fn serve_on_journal<
 
 // Serves at a port, as the words and the script in a file say.
 fn serve_script<
-    R: AllocGlobal + Files<File = File> + Net + Clock + RandomSource,
+    R: AllocGlobal + Files<File = File> + Net + Clock + RandomSource + Draws + Texts,
     O: Write,
     E: Write,
 >(
@@ -303,7 +302,8 @@ fn serve_script<
     out: &mut O,
     err: &mut E,
 ) -> Result<Status, Stop>
-    ensures { IfOk result (IsServed (O.contents out.old) (O.contents out.new) count options.now script.entry) }
+    ensures { IfOk result (IsServedIn (IsDrawnOrigin (R.draws rt.now) options.now.word) (O.contents out.old)
+        (O.contents out.new) (R.has rt.now) count options.now script.entry) }
 {
     match script_of(rt, script)? {
         Ok(settings) => serve_settings(

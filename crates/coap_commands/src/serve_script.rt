@@ -1,5 +1,5 @@
 //! `serve --script`: what a script says of how a server is set up.
-ghost use Rattle.std.specs.Prelude.{◌≡◌, ◌≤◌, ◌∷◌, ℕ, List, map, length, IfErr, IfNone, IfOk, IfSome, IsSome};
+ghost use Rattle.std.specs.Prelude.{◌≡◌, ◌≤◌, ◌∷◌, ℕ, List, map, length, IfErr, IfNone, IfOk, IfSome};
 ghost use Rattle.std.specs.Prelude.{OnOk};
 ghost use Rattle.std.specs.Io.KnownBytes.{Appends};
 ghost use Rattle.coap_resource.specs.Entries.{content_of};
@@ -12,8 +12,8 @@ ghost use Rattle.coap_types.specs.declared.szx.TheConstants.{MAX_SZX as max_szx}
 ghost use Rattle.coap_scripts.specs.Script.{EachOf, IsFirstBad, lines_of};
 ghost use Rattle.coap_scripts.specs.Settings.{SaysSetting, setting_of};
 ghost use Rattle.coap_commands.specs.Printed.{bad_line_text};
-ghost use Rattle.coap_commands.specs.ScriptSettings.{AreMade, AreOfScript, HoldsIf, IsFirstNotMade, IsMadeIf};
-ghost use Rattle.coap_commands.specs.ScriptSettings.{limit_by, limit_with};
+ghost use Rattle.coap_commands.specs.ScriptSettings.{AreMade, AreOfScriptIn, HoldsIf, IsBadInScript, IsFirstNotMade};
+ghost use Rattle.coap_commands.specs.ScriptSettings.{IsMadeIf, limit_by, limit_with};
 ghost use Rattle.coap_scripts.specs.declared.status.Status.TheVariants.{Words};
 
 use crate::ends::refusal_of;
@@ -173,30 +173,52 @@ pub fn script_in(alloc: Global, text: &[u8]) -> Result<Result<Vec<Setting>, BadL
     }
 }
 
-/// The settings of the script in a file; where none is named, there are none.
-pub(crate) fn script_of<R: AllocGlobal + Files>(
-    rt: &R,
-    name: Option<&str>,
-) -> Result<Result<Vec<Setting>, BadLine>, Stop>
-    ensures said { IfOk result (λ read. IfOk read (λ settings. AreOfScript name.entry
-        (map setting_of settings.items))) }
-    ensures named { IfOk result (λ read. IfErr read (λ _. IsSome name.entry)) }
-{
-    let Some(name) = name else {
-        return Ok(Ok(Vec::new(rt.alloc())));
-    };
-    let text = text_of(rt, name)?;
-    script_in(rt.alloc(), text.as_slice())
+/// Where the texts of files are.
+pub(crate) trait Texts {
+    /// Which text the file of a name may have.
+    ghost has: { Self → List ℕ → List ℕ → Type 0 };
+
+    /// What is in the file of this name.
+    fn text_of(&self, name: &str) -> Result<Vec<u8>, Stop>
+        ensures { IfOk result (λ text. has self.now name.now text.items) };
 }
 
-// What is in a file.
-fn text_of<R: AllocGlobal + Files>(rt: &R, name: &str) -> Result<Vec<u8>, Stop> {
-    let mut text = Vec::new(rt.alloc());
-    let mut file = fs::open(rt, name).map_err(|error| stop_of(&error))?;
+/// The text of a file is what it has, where that is known.
+impl<R: AllocGlobal + Files> Texts for R {
+    ghost has = { λ _ _ text. (file : R.File) × IfSome (R.File.remaining file) (λ held. text ≡ held) };
+
+    fn text_of(&self, name: &str) -> Result<Vec<u8>, Stop> {
+        let file = fs::open(self, name).map_err(|error| stop_of(&error))?;
+        text_in(self.alloc(), file)
+    }
+}
+
+// What a file has.
+fn text_in<F: Read + Drop>(alloc: Global, file: F) -> Result<Vec<u8>, Stop>
+    ensures { IfOk result (λ text. IfSome (F.remaining file) (λ held. text.items ≡ held)) }
+{
+    let mut file = file;
+    let mut text = Vec::new(alloc);
     match file.read_to_end(&mut text) {
         Ok(_) => Ok(text),
         Err(error) => Err(stop_of(&error)),
     }
+}
+
+/// The settings of the script in a file, or its first line that says none; where none is named, there are none.
+pub(crate) fn script_of<R: AllocGlobal + Texts>(
+    rt: &R,
+    name: Option<&str>,
+) -> Result<Result<Vec<Setting>, BadLine>, Stop>
+    ensures said { IfOk result (λ read. IfOk read (λ settings. AreOfScriptIn (R.has rt.now) name.entry
+        (map setting_of settings.items))) }
+    ensures bad { IfOk result (λ read. IfErr read (λ bad. IsBadInScript (R.has rt.now) name.entry bad.0)) }
+{
+    let Some(name) = name else {
+        return Ok(Ok(Vec::new(rt.alloc())));
+    };
+    let text = rt.text_of(name)?;
+    script_in(rt.alloc(), text.as_slice())
 }
 
 /// Says which line is wrong.
