@@ -18,7 +18,8 @@ returns-clause-asked g c =
 pub returns-clause-drawn : goal.returns-clause-drawn
 returns-clause-drawn g c =
     discovered_task (IsDrawnWord (g.R.Draws.draws c.args.rt.now) c.args.options.now.word) _ _ c.args.server
-    c.args.options.now c.in_ok-word.word (Discovery c.in_ok-request.request) c.ask_at.result c.in_ok-word.ensures.drawn (
+    c.args.options.now c.in_ok-word.word (Discovery c.in_ok-request.request) c.ask_at.result
+    c.in_ok-word.ensures.drawn (
       _,
       c.in_ok-path.ensures,
       c.in_ok-request.ensures ∙ ap (asked_request Get c.in_ok-path.path c.args.options.now) c.new.ensures,
