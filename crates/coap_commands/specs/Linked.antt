@@ -1,6 +1,6 @@
 -- How a client goes on over its link: what comes there is fed to it, time passes in turns over it, and what the client
 -- gives out is sent over it (RFC 7252, section 4).
-use Rattle.std.specs.Prelude.{⊤, ◌≡◌, ℕ, Bool, List, [], Option, Some, Result}
+use Rattle.std.specs.Prelude.{⊤, ℕ, Bool, List, [], Option, Some, Result}
 use Rattle.coap_types.specs.declared.endpoint.Endpoint.{Endpoint}
 use Rattle.coap_layer.specs.Trace as layer
 use Rattle.coap_layer.specs.declared.setup.Setup.{Setup}
