@@ -15,9 +15,6 @@ ghost use Rattle.std.specs.Prelude.{◌≡◌, ◌-◌, ◌↔◌, true};
 use std::alloc::{AllocError, Allocator};
 use std::cell::Cell;
 
-#[cfg(test)]
-mod tests;
-
 /// Refuses the call of one number, and hands the others on.
 pub struct Failing<B: Allocator> {
     inner: B,

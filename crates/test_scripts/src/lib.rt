@@ -12,15 +12,13 @@
 //!
 //! `{ab*3}` stands for `ababab`, and `{}` for nothing. In what is told a `_` parts bytes that belong together.
 //!
-//! A step that goes wrong is shown with its place, as `crates/coap_ends_tests/src/pair/waits.rt:17`.
+//! A step that goes wrong is shown with its place, as `tests/end_tests/src/ends/pair/waits.rt.in:17`.
 #![tactic(auto)]
 
 mod lines;
 mod places;
 mod scripts;
 mod spelling;
-#[cfg(test)]
-mod tests;
 mod wanted;
 mod words;
 mod wrong;
@@ -29,6 +27,6 @@ pub use lines::{Line, Mark};
 pub use places::Place;
 pub use scripts::{Script, Scripts, find, scripts_of};
 pub use spelling::{cut, first, push_repeated, push_spelt, spelt};
-pub use wanted::Wanted;
+pub use wanted::{Difference, Wanted};
 pub use words::{format_of, limit_of, method_of, push_tag, put_option, szx_of};
-pub use wrong::Wrong;
+pub use wrong::{Shown, Wrong};

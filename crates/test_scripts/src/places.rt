@@ -50,12 +50,12 @@ impl fmt::Display for Place<'_> {
     }
 }
 
-// The file of a module, of which the crate's name is the first part.
+// The file of a module, of which the name of the tests' folder is the first part.
 fn write_file<W: fmt::Write>(f: &mut fmt::Formatter<W>, module: &str) -> fmt::Result {
     let (name, parts) = module.split_once("::").unwrap_or((module, "lib"));
-    write!(f, "crates/{name}/src")?;
+    write!(f, "tests/{name}/src")?;
     for part in parts.split("::") {
         write!(f, "/{part}")?;
     }
-    write!(f, ".rt")
+    write!(f, ".rt.in")
 }

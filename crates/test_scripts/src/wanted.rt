@@ -65,7 +65,7 @@ impl<'a> Wanted<'a> {
     }
 
     /// The first line that differs.
-    pub(crate) fn difference<'t>(&'t self, run: &'t str, told: &'t str) -> Difference<'t> {
+    pub fn difference<'t>(&'t self, run: &'t str, told: &'t str) -> Difference<'t> {
         let number = same_lines(told, self.text.as_str());
         Difference {
             place: self.places.get(number).copied().unwrap_or(self.end),
@@ -78,7 +78,7 @@ impl<'a> Wanted<'a> {
 
 /// A line that is told otherwise than it has to be.
 #[derive(Clone, Copy)]
-pub(crate) struct Difference<'t> {
+pub struct Difference<'t> {
     place: Place<'t>,
     wanted: &'t str,
     run: &'t str,

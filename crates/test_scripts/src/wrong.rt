@@ -32,9 +32,11 @@ impl Wrong {
 
 /// What is wrong with a line, in words.
 #[derive(Clone, Copy)]
-pub(crate) struct Shown<'a> {
-    pub(crate) line: &'a Line<'a>,
-    pub(crate) wrong: &'a Wrong,
+pub struct Shown<'a> {
+    /// The line.
+    pub line: &'a Line<'a>,
+    /// Why it is not as it has to be.
+    pub wrong: &'a Wrong,
 }
 
 impl fmt::Display for Shown<'_> {
