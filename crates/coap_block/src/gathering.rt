@@ -1,5 +1,6 @@
 //! The bytes of a body that has not come whole yet.
-ghost use Rattle.std.specs.Prelude.{◌≡◌, ◌≤◌, ◌+◌, ◌++◌, [], IfOk, OnOk, OnErr, length, take, vec_len, vec_capacity};
+ghost use Rattle.std.specs.Prelude.{◌≡◌, ◌<◌, ◌≤◌, ◌+◌, ◌*◌, ◌++◌, [], IfOk, OnOk, OnErr, length, max, take, vec_len};
+ghost use Rattle.std.specs.Prelude.{vec_capacity};
 
 use bytes::Bytes;
 use coap_types::{DEFAULT_BODY_LIMIT, appended};
@@ -112,9 +113,12 @@ impl<A: Allocator + Copy> Gathering<A> {
     }
 }
 
-// How much room is made where so many bytes are to be put behind so many.
+// How much room is made where so many bytes are to be put behind so many: enough for them, and else at most `MORE`
+// times as much as is there.
 fn room_for(len: usize, more: usize) -> usize
-    ensures { more ≤ result }
+    ensures enough { more ≤ result }
+    ensures most { result ≤ max more (MORE * len) }
+    ensures long { QUICK < len → result ≡ more }
 {
     if len > QUICK {
         more

@@ -22,8 +22,6 @@ mod laws;
 mod partial;
 mod partials;
 mod piece;
-#[cfg(test)]
-mod tests;
 mod upload;
 mod upload_key;
 

@@ -26,6 +26,3 @@ pub use head::Head;
 pub use laws::{bounded_spelling, one_reading, one_spelling, spelling_law};
 pub use option_list::options_len;
 pub use view::{Options, View};
-
-#[cfg(test)]
-mod tests;

@@ -1,6 +1,6 @@
 //! The operations of a client: what waits, what runs and what is live.
 ghost use Rattle.std.specs.Prelude.{◌≡◌, ◌≤◌, ◌<◌, ◌++◌, [], ◌∷◌, None, Some, not, drop, filter, length, option_copied};
-ghost use Rattle.std.specs.Prelude.{remove, slice_get, OnOk, OnErr};
+ghost use Rattle.std.specs.Prelude.{remove, slice_get, IsOk, OnOk, OnErr};
 ghost use Rattle.std.specs.Borrow.{sem};
 ghost use Rattle.std.specs.List.{list_any};
 ghost use Rattle.std.specs.Option.{option_map};
@@ -249,6 +249,8 @@ impl<W: Drop, O: Drop, A: Allocator + Copy> Operations<W, O, A> {
     pub fn reserve_live(&mut self) -> Result<(), AllocError>
         // With what is reserved one more observation can go live.
         ensures room { OnOk result (length self.new.live < self.new.places) }
+        // Where one more has a place, no memory is asked for.
+        ensures had { length self.old.live < self.old.places → IsOk result }
         // To reserve a place changes nothing else.
         ensures same { self.new ≡ record self.old { places = self.new.places } }
     {

@@ -5,6 +5,7 @@ pub mod Content
 pub mod Shown
 pub mod Entries
 pub mod RequestOptions
+pub mod Parts
 pub mod Serves
 pub mod RateLaw
 pub mod Since

@@ -2,6 +2,7 @@
 ghost use Rattle.std.specs.Prelude.{◌≡◌, ◌≢◌, ◌<◌, ◌≤◌, ◌^◌, IfOk, IsOk, IfSome, OnErr, OnOk, true, [], length, take};
 ghost use Rattle.std.specs.Prelude.{drop};
 ghost use Rattle.coap_types.specs.CoapOption.{options_of};
+ghost use Rattle.coap_types.specs.Piece.{size_of};
 ghost use Rattle.coap_resource.specs.Quiet.{IsQuiet, IsQuietBy};
 ghost use Rattle.coap_resource.specs.RequestOptions.{precondition_fails};
 ghost use Rattle.coap_resource.specs.ResponseOptions.{Fits};
@@ -16,10 +17,10 @@ use crate::representation::Representation;
 use crate::request_options::{
     Wanted, accepts, etag_names, format_of, precondition_fails, wanted_block,
 };
-use crate::response::{Response, bare};
+use crate::response::{Part, Response, bare};
 use crate::store::Store;
 use bytes::Bytes;
-use coap_types::{Block, Code, MAX_BODY_LIMIT, MAX_NUM, MAX_SZX, Method, Moment, Tag};
+use coap_types::{Block, Code, MAX_BODY_LIMIT, MAX_NUM, MAX_SZX, Method, Moment, Path, Szx, Tag};
 use std::alloc::{AllocError, Allocator};
 
 // The code of a response to what the store refuses.
@@ -94,10 +95,37 @@ fn block_sent(wanted: &Wanted, len: usize) -> Option<Block>
 }
 
 // 2.05 with a block of a representation.
-fn content<A: Allocator + Copy>(
+fn content<'a, A: Allocator>(
     held: &Representation<A>,
     wanted: Wanted,
-) -> Result<Response<A>, AllocError>
+    part: Part<'a, A>,
+) -> Response<'a, A>
+    requires place { wanted.offset ≤ length held.now.body }
+    requires short { length held.now.body ≤ MAX_BODY_LIMIT }
+    requires part { part ≡ take (size_of wanted.szx) (drop wanted.offset held.now.body) }
+    ensures content { reply_of result
+        ≡ content_reply (held_of held.now) wanted.by_block wanted.offset wanted.szx }
+    ensures fits { Fits (reply_of result) }
+{
+    let _size = wanted.szx.size();
+    let block2 = block_sent(&wanted, held.body.len());
+    let format = own_format(held);
+    let tag = Tag::new(&held.version.to_be_bytes());
+    Response {
+        code: Code::CONTENT,
+        tag,
+        format,
+        block2,
+        part,
+        offset: wanted.offset,
+    }
+}
+
+// .. that shares its payload with the store.
+fn shared_content<A: Allocator + Copy>(
+    held: &Representation<A>,
+    wanted: Wanted,
+) -> Result<Response<'static, A>, AllocError>
     requires place { wanted.offset ≤ length held.now.body }
     requires short { length held.now.body ≤ MAX_BODY_LIMIT }
     ensures content { IfOk result
@@ -106,21 +134,48 @@ fn content<A: Allocator + Copy>(
     ensures quiet { (content_reply (held_of held.now) wanted.by_block wanted.offset wanted.szx).part ≡ []
         → IsOk result }
 {
-    let len = held.body.len();
-    let block2 = block_sent(&wanted, len);
-    let size = wanted.szx.size();
-    let start = wanted.offset as usize;
-    let format = own_format(held);
-    let part = block_at(&held.body, start, size)?;
-    let tag = Tag::new(&held.version.to_be_bytes());
-    Ok(Response {
-        code: Code::CONTENT,
-        tag,
-        format,
-        block2,
-        part,
-        offset: wanted.offset,
-    })
+    let part = block_at(&held.body, wanted.offset as usize, wanted.szx.size())?;
+    Ok(content(held, wanted, Part::shared(part)))
+}
+
+// The first bytes of a body, at most so many, lent by it.
+fn first_block<A: Allocator>(body: &Bytes<A>, size: usize) -> &[u8]
+    ensures { result.now ≡ take size body.now }
+{
+    let bytes = body.as_slice();
+    if bytes.len() > size {
+        &bytes[..size]
+    } else {
+        bytes
+    }
+}
+
+/// What a GET without options is answered in blocks of this size (RFC 7252, section 5.8.1). The store lends
+/// the payload, so it takes no memory.
+pub fn lent<'s, A: Allocator + Copy + 's, S: Store<A> + 's>(
+    store: &'s S,
+    path: &Path<A>,
+    szx: Szx,
+) -> Response<'s, A>
+    // What is lent is what a GET without options is answered.
+    ensures got { reply_of result ≡ got ((S.content store.now).holds path.now)
+        (record { method = Method.Get; path = path.now; options = []; body = []; szx = szx }) }
+    // A response that is lent has a code of a response, short values and at most a block of payload.
+    ensures fits { Fits (reply_of result) }
+{
+    let Some(held) = store.get(path) else {
+        return bare(Code::NOT_FOUND, 0);
+    };
+    let wanted = Wanted {
+        by_block: false,
+        offset: 0,
+        szx,
+    };
+    content(
+        held,
+        wanted,
+        Part::lent(first_block(&held.body, szx.size())),
+    )
 }
 
 // A GET.
@@ -128,7 +183,7 @@ fn content<A: Allocator + Copy>(
 fn serve_get<A: Allocator + Copy, S: Store<A>>(
     store: &S,
     asking: &Asking<'_, A>,
-) -> Result<Response<A>, AllocError>
+) -> Result<Response<'static, A>, AllocError>
     ensures got { IfOk result
         (λ r. reply_of r ≡ got ((S.content store.now).holds asking.now.path.now) (question_of asking.now)) }
     ensures fits { IfOk result (λ r. Fits (reply_of r)) }
@@ -152,7 +207,7 @@ fn serve_get<A: Allocator + Copy, S: Store<A>>(
     if wanted.offset > 0 && wanted.offset as usize >= held.body.len() {
         return Ok(bare(Code::BAD_REQUEST, wanted.offset));
     }
-    content(held, wanted)
+    shared_content(held, wanted)
 }
 
 // A POST.
@@ -160,7 +215,7 @@ fn serve_post<A: Allocator + Copy, S: Store<A>>(
     store: &mut S,
     now: Moment,
     asking: &Asking<'_, A>,
-) -> Result<Response<A>, AllocError>
+) -> Result<Response<'static, A>, AllocError>
     ensures served { IfOk result (λ r. ServesMethod Method.Post (S.content store.old) now.0
         (question_of asking.now) (reply_of r) (S.content store.new)) }
     ensures fits { IfOk result (λ r. Fits (reply_of r)) }
@@ -179,7 +234,7 @@ fn serve_put<A: Allocator + Copy, S: Store<A>>(
     store: &mut S,
     now: Moment,
     asking: &Asking<'_, A>,
-) -> Result<Response<A>, AllocError>
+) -> Result<Response<'static, A>, AllocError>
     ensures served { IfOk result (λ r. ServesMethod Method.Put (S.content store.old) now.0
         (question_of asking.now) (reply_of r) (S.content store.new)) }
     ensures fits { IfOk result (λ r. Fits (reply_of r)) }
@@ -206,7 +261,7 @@ fn serve_delete<A: Allocator + Copy, S: Store<A>>(
     store: &mut S,
     now: Moment,
     asking: &Asking<'_, A>,
-) -> Result<Response<A>, AllocError>
+) -> Result<Response<'static, A>, AllocError>
     ensures served { IfOk result (λ r. ServesMethod Method.Delete (S.content store.old) now.0
         (question_of asking.now) (reply_of r) (S.content store.new)) }
     ensures fits { IfOk result (λ r. Fits (reply_of r)) }
@@ -226,7 +281,7 @@ pub fn serve<A: Allocator + Copy, S: Store<A>>(
     store: &mut S,
     now: Moment,
     asking: &Asking<'_, A>,
-) -> Result<Response<A>, AllocError>
+) -> Result<Response<'static, A>, AllocError>
     // The response, and what the store holds then, are those of the table of methods (RFC 7252, section 5.8).
     ensures served { IfOk result (λ r. Serves (S.content store.old) now.0
         (question_of asking.now) (reply_of r) (S.content store.new)) }

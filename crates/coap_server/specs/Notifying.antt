@@ -1,6 +1,5 @@
 -- Which observer is notified next, and of what (RFC 7641, sections 4.2, 4.4 and 4.5; RFC 7959, section 2.6).
 use Rattle.std.specs.Prelude.{◌≡◌, ℕ, zero, suc, Bool, true, false, Option, Some, None, List, [], ◌∷◌, ◌++◌, filter}
-use Rattle.std.specs.Prelude.{IfSome}
 use Rattle.coap_types.specs.declared.request.Method.TheVariants.{Get}
 use Rattle.coap_observe.specs.Observers.{Observer, noted_to, removed, sent_to}
 use Rattle.coap_resource.specs.Content.{Content, Held}
@@ -32,10 +31,6 @@ asks_for o = record { method = Get; path = o.path; options = []; body = []; szx 
 
 abbrev pub told : Content → Observer → Reply
 told store o = got (store.holds o.path) (asks_for o)
-
--- What each of those to whom a notification is due is told has no payload, as where its path holds nothing.
-abbrev pub TellsNoPayload : Content → List Observer → Type 0
-TellsNoPayload store os = (passed : ℕ) → IfSome (behind passed (marked os)) (λ o. (told store o).part ≡ [])
 
 abbrev pub NotifiesNext : Option Observer → Content → Handling → Type 0
 NotifiesNext None store h = h ≡ Silent

@@ -1,6 +1,7 @@
 //! What a datagram makes of a client (RFC 7252, sections 4.2, 5.2 and 5.3.2).
 ghost use Rattle.std.specs.Prelude.{◌≡◌, ◌<◌, ℕ, true, None, Some, IfOk, IsOk, IsSome, OnOk, OnErr};
 ghost use Rattle.std.specs.VecDeque.{deque_len, deque_capacity};
+ghost use Rattle.coap_exchange.specs.AskerFollows.{message_told};
 ghost use Rattle.coap_client.specs.Calls.{answer};
 ghost use Rattle.coap_client.specs.Effects.{runs};
 ghost use Rattle.coap_client.specs.Events.{answered, called, failed, happened};
@@ -42,6 +43,9 @@ pub fn happen<A: Allocator + Copy, H: BuildHasher>(
     ensures before { parts.new.asker.before ≡ parts.old.asker.before }
     // A datagram that tells nothing takes no memory.
     ensures quiet { event.entry ≡ None → IsOk result }
+    // With a place for its report a failure of the request takes none.
+    ensures fails { message_told event.entry ≡ None
+        → deque_len parts.old.held.reports < deque_capacity parts.old.held.reports → IsOk result }
 {
     let Some(event) = event else {
         parts.held.clock = now.at;
@@ -76,6 +80,7 @@ fn happen_now<A: Allocator + Copy, H: BuildHasher>(
         (seen parts.new)) }
     ensures held { OnErr result (own_of parts.new.held ≡ own_of parts.old.held) }
     ensures before { parts.new.asker.before ≡ parts.old.asker.before }
+    ensures fails { message_told (Some event.entry) ≡ None → IsOk result }
 {
     match event {
         Event::Answer(m) => hear_answer(parts, now, &m),

@@ -1,5 +1,5 @@
 //! The requests of a client, and what becomes of the operation that runs by the sending of one.
-ghost use Rattle.std.specs.Prelude.{◌≡◌, ◌++◌, ℕ, List, map, option_copied, IfOk, OnErr, ◌<◌, Some};
+ghost use Rattle.std.specs.Prelude.{◌≡◌, ◌++◌, ℕ, List, map, option_copied, true, IfOk, IsOk, OnErr, ◌<◌, Some};
 ghost use Rattle.std.specs.Option.{option_map};
 ghost use Rattle.coap_types.specs.OptionValues.{option_with};
 ghost use Rattle.coap_types.specs.Path.{segments_of};
@@ -45,6 +45,7 @@ pub fn ask<A: Allocator + Copy, H: BuildHasher>(
     ensures sends { IfOk result (λ token. Sends asker.old.state now.at.0 ask.now now.word token asker.new.state) }
     ensures before { asker.new.before ≡ asker.old.before }
     ensures err { OnErr result (asker.new ≡ asker.old) }
+    ensures had { asker.old.has_room ≡ true → IsOk result }
 {
     match asker.ask(now.at, ask, now.word) {
         Ok(token) => Ok(Some(token)),
@@ -66,6 +67,7 @@ pub fn register<A: Allocator + Copy, H: BuildHasher>(
         (message_of os (Registering number path.now)) now.word token asker.new.state) }
     ensures before { asker.new.before ≡ asker.old.before }
     ensures err { OnErr result (asker.new ≡ asker.old) }
+    ensures had { asker.old.has_room ≡ true → IsOk result }
 {
     let observe = uint_bytes(REGISTER);
     get(
@@ -89,6 +91,7 @@ pub fn ask_rest<A: Allocator + Copy, H: BuildHasher>(
         (message_of (map shown_observation operations.now.live) (Fetching number)) now.word token asker.new.state) }
     ensures before { asker.new.before ≡ asker.old.before }
     ensures err { OnErr result (asker.new ≡ asker.old) }
+    ensures had { asker.old.has_room ≡ true → IsOk result }
 {
     let block = block_asked(operations, number);
     let path = segments_of(operations, number);
@@ -107,6 +110,7 @@ pub fn cancel<A: Allocator + Copy, H: BuildHasher>(
         (message_of (map shown_observation operations.now.live) (Cancelling number)) now.word token asker.new.state) }
     ensures before { asker.new.before ≡ asker.old.before }
     ensures err { OnErr result (asker.new ≡ asker.old) }
+    ensures had { asker.old.has_room ≡ true → IsOk result }
 {
     let token = token_of(operations, number);
     let observe = uint_bytes(DEREGISTER);
@@ -139,6 +143,7 @@ pub fn get<A: Allocator + Copy, H: BuildHasher>(
         asker.new.state) }
     ensures before { asker.new.before ≡ asker.old.before }
     ensures err { OnErr result (asker.new ≡ asker.old) }
+    ensures had { asker.old.has_room ≡ true → IsOk result }
 {
     let options = get_options(observe, path, block);
     let request = Ask {

@@ -1,6 +1,7 @@
 //! What time makes of a client (RFC 7252, sections 4.2, 4.7 and 5.2.2): from a tick down to the request that it
 //! starts. Where nothing is due and nothing runs, a fetch for an observation starts, or the first of what waits.
 ghost use Rattle.std.specs.Prelude.{◌≡◌, ℕ, Bool, List, Result, IfOk, IsOk, OnErr, ◌||◌, ◌&&◌, ◌<◌, not, false, true};
+ghost use Rattle.std.specs.Prelude.{◌≢◌};
 ghost use Rattle.std.specs.Prelude.{map, slice_get, None, Some, OnOk, drop};
 ghost use Rattle.coap_layer.specs.Trace as L;
 ghost use Rattle.coap_exchange.specs.declared.asker.AskRefusal.{AskRefusal};
@@ -75,8 +76,12 @@ fn pass_time<A: Allocator + Copy, H: BuildHasher>(
         (passes (clocked now.at.0 (own_of parts.old.held)) now.at.0 turn).deed)) }
     ensures held { OnErr result (own_of parts.new.held ≡ own_of parts.old.held) }
     ensures before { parts.new.asker.before ≡ parts.old.asker.before }
-    // Where nothing was due and nothing begins, it takes no memory.
+    // Where nothing was due and nothing begins, it takes no memory, and with a place for a report an end takes none.
     ensures quiet { turn ≡ turns.Idle → asks (idle_now now.at.0 (own_of parts.old.held)).deed ≡ false → IsOk result }
+    ensures had { deque_len parts.old.held.reports < deque_capacity parts.old.held.reports
+        → parts.old.asker.has_room ≡ true → IsOk result }
+    ensures ends { deque_len parts.old.held.reports < deque_capacity parts.old.held.reports
+        → turn ≢ turns.Idle → IsOk result }
 {
     match turn {
         Turn::Idle => pass_idly(parts, now),
@@ -142,6 +147,8 @@ fn pass_idly<A: Allocator + Copy, H: BuildHasher>(
     ensures held { OnErr result (own_of parts.new.held ≡ own_of parts.old.held) }
     ensures before { parts.new.asker.before ≡ parts.old.asker.before }
     ensures quiet { asks (idle_now now.at.0 (own_of parts.old.held)).deed ≡ false → IsOk result }
+    ensures had { deque_len parts.old.held.reports < deque_capacity parts.old.held.reports
+        → parts.old.asker.has_room ≡ true → IsOk result }
 {
     if parts.held.operations.running().is_some() {
         rest(&mut parts.held, now.at);
@@ -163,6 +170,8 @@ fn start_next<A: Allocator + Copy, H: BuildHasher>(
     ensures held { OnErr result (own_of parts.new.held ≡ own_of parts.old.held) }
     ensures before { parts.new.asker.before ≡ parts.old.asker.before }
     ensures quiet { asks (idle_now now.at.0 (own_of parts.old.held)).deed ≡ false → IsOk result }
+    ensures had { deque_len parts.old.held.reports < deque_capacity parts.old.held.reports
+        → parts.old.asker.has_room ≡ true → IsOk result }
 {
     match to_fetch(&parts.held.operations) {
         Some(number) => start_fetch(parts, now, number),
@@ -205,6 +214,8 @@ fn start_fetch<A: Allocator + Copy, H: BuildHasher>(
     ensures did { IfOk result (λ did. did ≡ true) }
     ensures held { OnErr result (own_of parts.new.held ≡ own_of parts.old.held) }
     ensures before { parts.new.asker.before ≡ parts.old.asker.before }
+    ensures had { deque_len parts.old.held.reports < deque_capacity parts.old.held.reports
+        → parts.old.asker.has_room ≡ true → IsOk result }
 {
     parts.held.reports.reserve(1)?;
     let given = ask_rest(&mut parts.asker, &parts.held.operations, number, now)?;
@@ -226,6 +237,8 @@ fn start_first<A: Allocator + Copy, H: BuildHasher>(
     ensures held { OnErr result (own_of parts.new.held ≡ own_of parts.old.held) }
     ensures before { parts.new.asker.before ≡ parts.old.asker.before }
     ensures quiet { asks (starts_now now.at.0 (own_of parts.old.held)).deed ≡ false → IsOk result }
+    ensures had { deque_len parts.old.held.reports < deque_capacity parts.old.held.reports
+        → parts.old.asker.has_room ≡ true → IsOk result }
 {
     if may_start(&parts.held, now.at) {
         parts.held.reports.reserve(1)?;
@@ -288,6 +301,7 @@ fn send_first<A: Allocator + Copy, H: BuildHasher>(
         asker.new.state) }
     ensures before { asker.new.before ≡ asker.old.before }
     ensures err { OnErr result (asker.new ≡ asker.old) }
+    ensures had { asker.old.has_room ≡ true → IsOk result }
 {
     match held.operations.waiting(0) {
         Some(Queued::Starts(waiting)) => send_waiting(asker, waiting, now),
@@ -306,6 +320,7 @@ fn send_waiting<A: Allocator + Copy, H: BuildHasher>(
         → Sends asker.old.state now.at.0 (message_of os (shown_waiting waiting.now)) now.word token asker.new.state) }
     ensures before { asker.new.before ≡ asker.old.before }
     ensures err { OnErr result (asker.new ≡ asker.old) }
+    ensures had { asker.old.has_room ≡ true → IsOk result }
 {
     match waiting {
         Waiting::Calling(_, call) => call.send(asker, now),

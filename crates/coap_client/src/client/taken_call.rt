@@ -1,5 +1,5 @@
 //! A call that the client took: what it sends next, and what it makes of the answer.
-ghost use Rattle.std.specs.Prelude.{◌≡◌, ℕ, Bool, false, [], List, Some, IsSome, IfOk, OnErr};
+ghost use Rattle.std.specs.Prelude.{◌≡◌, ℕ, Bool, false, true, [], List, Some, IsOk, IsSome, IfOk, OnErr};
 ghost use Rattle.coap_client.specs.Calls.{answer};
 ghost use Rattle.coap_client.specs.Effects.{is_upload, has_sent};
 ghost use Rattle.coap_client.specs.Own.{Observation, Calling};
@@ -132,6 +132,7 @@ impl<A: Allocator + Copy> TakenCall<A> {
             asker.new.state) }
         ensures before { asker.new.before ≡ asker.old.before }
         ensures err { OnErr result (asker.new ≡ asker.old) }
+        ensures had { asker.old.has_room ≡ true → IsOk result }
     {
         self.request.ranges();
         let format = format_value(&self.request);

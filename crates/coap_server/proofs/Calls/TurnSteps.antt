@@ -6,9 +6,7 @@ use Rattle.coap_layer.specs.Trace as L
 use Rattle.coap_observe.specs.Notices.{but_noted}
 use Rattle.coap_observe.specs.Observers.{Observer}
 use Rattle.coap_resource.specs.Content.{Content, Held}
-use Rattle.coap_resource.specs.RequestOptions.{precondition_fails}
-use Rattle.coap_resource.specs.Serves.{Question, Reply}
-use Rattle.coap_resource.specs.Serves as R
+use Rattle.coap_resource.specs.Serves.{Question}
 use Rattle.coap_exchange.specs.declared.answerer.Asked.{Asked}
 use Rattle.coap_exchange.specs.declared.answerer.Due.{Due}
 use Rattle.coap_exchange.specs.declared.answerer.Due.TheVariants as due
@@ -23,7 +21,7 @@ use Rattle.coap_server.specs.Observers.{unless_ended}
 use Rattle.coap_server.specs.Serving.{response_to, observers_served}
 use Rattle.coap_server.specs.Deferring.{AnswersWaiting, question_of, without_waiting}
 use Rattle.coap_server.specs.Notifying.{marked, behind, readies, NotifiesNext, notification, notified}
-use Rattle.coap_server.specs.Notifying.{told, asks_for}
+use Rattle.coap_server.specs.Notifying.{told}
 use Rattle.coap_server.specs.Handling.{ticking, heard, HandlesDue}
 use Rattle.coap_server.specs.Steps.{due_after, exchanges_after}
 use Rattle.coap_server.specs.Led.{State, exchanges_of, Step}
@@ -286,15 +284,3 @@ module _ (s new : State) (word : ℕ) (passed : ℕ) where
       (said ∙ ap (λ (z : Observer). notification s.own.store z (told s.own.store z)) w.told) same
       (left ∙ (ap (λ (z : Observer). notified plain s.own.clock id (s.own.store.holds z.path) z s.own.observers) w.told
       ∙ notified_as plain s.own.clock id (s.own.store.holds o.path) o s.own.observers)) kept
-
--- what a GET without options is answered
-unconditional : (held : Option Held) → precondition_fails held [] ≡ false
-unconditional None = refl
-unconditional (Some held) = refl
-
-pub got_plain : (old left : Content) (now : ℕ) (o : Observer) (reply : Reply) → R.Serves old now (asks_for o) reply left
-    → reply ≡ told old o
-got_plain old left now o reply h =
-    let plain : R.ServesUnless false old now (asks_for o) reply left =
-    subst (λ b. R.ServesUnless b old now (asks_for o) reply left) (unconditional (old.holds o.path)) h in
-    plain.0

@@ -27,7 +27,7 @@ use std::hash::BuildHasher;
 pub(crate) fn answer<A: Allocator + Copy, H: BuildHasher>(
     exchanges: &mut Answerer<A, H>,
     asked: &Asked,
-    response: &FullResponse<A>,
+    response: &FullResponse<'_, A>,
 )
     requires may { MayAnswer exchanges.old asked.now }
     requires short { length asked.now.token ≤ max_token_len }

@@ -13,9 +13,8 @@ ghost use Rattle.coap_exchange.specs.Machine.AnswererShown.{IsAnswerWith};
 ghost use Rattle.coap_server.specs.Responses.{response_with};
 ghost use Rattle.coap_server.specs.Object.FullResponses.{response_as};
 
-use bytes::Bytes;
 use coap_exchange::{Response as Answer, notifiable_law};
-use coap_resource::Response;
+use coap_resource::{Part, Response};
 use coap_types::option_number::{BLOCK1, BLOCK2, CONTENT_FORMAT, ETAG, OBSERVE};
 use coap_types::{Block, Code, MAX_NUM, MAX_UINT_LEN, OptionList, Tag, UintBytes, uint_bytes};
 use std::alloc::Allocator;
@@ -30,17 +29,17 @@ const _: () = prove!(MAX_OPTIONS == 5);
 /// A response with all its options, each as its bytes (RFC 7252, section 5.2). It fits a message
 /// with any token.
 #[derive(Drop)]
-pub(crate) struct FullResponse<A: Allocator> {
+pub(crate) struct FullResponse<'a, A: Allocator> {
     code: Code,
     tag: Option<Tag>,
     observe: Option<UintBytes>,
     format: Option<UintBytes>,
     block2: Option<UintBytes>,
     block1: Option<UintBytes>,
-    payload: Bytes<A>,
+    payload: Part<'a, A>,
 }
 
-impl<A: Allocator> Model for FullResponse<A> {
+impl<'a, A: Allocator> Model for FullResponse<'a, A> {
     ghost use Rattle.coap_exchange.specs.AnswererTrace.{Response};
     ghost use Rattle.coap_exchange.specs.ShortAnswers.{IsShortAnswer};
     ghost use Rattle.coap_server.specs.Object.FullResponses.{response_as};
@@ -98,18 +97,18 @@ fn uint_slice(bytes: &Option<UintBytes>) -> Option<&[u8]>
     }
 }
 
-impl<A: Allocator> FullResponse<A> {
+impl<'p, A: Allocator> FullResponse<'p, A> {
     /// What the store answers, with Observe and Block1 where they are given (RFC 7641, section 4.2;
     /// RFC 7959, section 2.3).
     #[inline(always)]
     pub(crate) fn of(
-        response: Response<A>,
+        response: Response<'p, A>,
         observe: Option<u32>,
         block1: Option<Block>,
-    ) -> FullResponse<A>
+    ) -> FullResponse<'p, A>
         requires fits { Fits (reply_of response) }
         requires num { IfSome block1 (λ b. b.num ≤ MAX_NUM) }
-        ensures { result ≡ response_with (reply_of response) observe (option_map block_value block1) }
+        ensures { result ≡ response_with (reply_of response.entry) observe (option_map block_value block1) }
     {
         FullResponse {
             code: response.code,
@@ -123,7 +122,7 @@ impl<A: Allocator> FullResponse<A> {
     }
 
     /// A code without a payload, with Block1 where it is given.
-    pub(crate) fn bare(code: Code, block1: Option<Block>) -> FullResponse<A>
+    pub(crate) fn bare(code: Code, block1: Option<Block>) -> FullResponse<'p, A>
         requires role { role_of code.0 ≡ role.Response }
         requires num { IfSome block1 (λ b. b.num ≤ MAX_NUM) }
         ensures code { result.code ≡ code.0 }
@@ -137,7 +136,7 @@ impl<A: Allocator> FullResponse<A> {
             format: None,
             block2: None,
             block1: block_bytes(block1),
-            payload: Bytes::new(),
+            payload: Part::lent(&[]),
         }
     }
 
@@ -164,7 +163,7 @@ impl<A: Allocator> FullResponse<A> {
         Answer {
             code: self.code,
             options: options.as_slice(),
-            payload: &self.payload,
+            payload: self.payload.as_slice(),
         }
     }
 }

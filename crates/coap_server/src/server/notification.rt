@@ -1,6 +1,5 @@
 //! Which observer is notified next, and of what (RFC 7641, sections 4.2, 4.4 and 4.5).
 ghost use Rattle.std.specs.Prelude.{◌≡◌, ◌≤◌, ℕ, Option, true, false, None, is_some, IfOk, IfSome, IsOk, OnErr, OnOk};
-ghost use Rattle.std.specs.Prelude.{[], length};
 ghost use Rattle.std.specs.Option.{option_map};
 ghost use Rattle.coap_observe.specs.Notices.{but_noted, told, told_due};
 ghost use Rattle.coap_observe.specs.Observers.{Observer};
@@ -10,7 +9,7 @@ ghost use Rattle.coap_exchange.specs.AnswererLaw.{Exchanged, Step};
 ghost use Rattle.coap_exchange.specs.Machine.AnswererShown.{MayNotify};
 ghost use Rattle.coap_server.specs.Asks.{notifies_by};
 ghost use Rattle.coap_server.specs.Notifying as next;
-ghost use Rattle.coap_server.specs.Notifying.{TellsNoPayload, behind, marked, notified, readies};
+ghost use Rattle.coap_server.specs.Notifying.{behind, marked, notified, readies};
 ghost use Rattle.coap_server.specs.Object.Shown.{kept_of, seen};
 ghost use Rattle.coap_server.specs.Plain.{goes_plain};
 ghost use Rattle.coap_server.specs.Turns.Idle.{takes_notice};
@@ -23,8 +22,8 @@ use crate::server::plain::is_plain;
 use crate::{CON_NOTIFICATION_MS, MAX_PLAIN_AGE_MS};
 use coap_exchange::Answerer;
 use coap_observe::{Notice, Observers};
-use coap_resource::{Asking, Store, serve};
-use coap_types::{Endpoint, Id, Method, Moment, Path, Token};
+use coap_resource::{Store, lent};
+use coap_types::{Endpoint, Id, Moment, Path, Token};
 use std::alloc::{AllocError, Allocator};
 use std::hash::BuildHasher;
 
@@ -58,32 +57,22 @@ fn first_ready<'o, A: Allocator + Copy, H: BuildHasher>(
 }
 
 // What an observer is told now, and whether the path holds something: what a GET without options is
-// answered, with the block size of the registration (RFC 7641, section 4.2).
-fn notification<S: Store<A>, A: Allocator + Copy>(
-    store: &mut S,
-    now: Moment,
+// answered, with the block size of the registration (RFC 7641, section 4.2). The store lends the payload.
+fn notification<'s, S: Store<A> + 's, A: Allocator + Copy + 's>(
+    store: &'s S,
     notice: &Notice<'_, A>,
-) -> Result<(FullResponse<A>, bool), AllocError>
-    ensures response { IfOk result (λ r. r.0
-        ≡ next.notification (S.content store.old) (told notice.now true)
-        (next.told (S.content store.old) (told notice.now true))) }
-    ensures there { IfOk result (λ r. r.1 ≡ is_some ((S.content store.old).holds notice.now.path.now)) }
-    ensures store { store.new ≡ store.old }
-    ensures quiet { (next.told (S.content store.old) (told notice.now true)).part ≡ [] → IsOk result }
+) -> (FullResponse<'s, A>, bool)
+    ensures response { result.0
+        ≡ next.notification (S.content store.now) (told notice.now true)
+        (next.told (S.content store.now) (told notice.now true)) }
+    ensures there { result.1 ≡ is_some ((S.content store.now).holds notice.now.path.now) }
 {
-    let asking = Asking {
-        method: Method::Get,
-        path: notice.path,
-        options: &[],
-        body: &[],
-        szx: notice.szx,
-    };
-    let response = serve(store, now, &asking)?;
+    let response = lent(store, notice.path, notice.szx);
     let sequence = sequence_of(store, notice.path);
-    Ok((
+    (
         FullResponse::of(response, sequence, None),
         sequence.is_some(),
-    ))
+    )
 }
 
 // Whether a notification goes in a Non-confirmable message: the path is plain and holds something, and
@@ -110,7 +99,7 @@ fn send<A: Allocator + Copy, H: BuildHasher>(
     at: Moment,
     to: Endpoint,
     token: &Token,
-    response: &FullResponse<A>,
+    response: &FullResponse<'_, A>,
     word: u64,
     plain: bool,
 ) -> Id
@@ -169,16 +158,15 @@ pub(crate) fn notify_next<S: Store<A>, A: Allocator + Copy, H: BuildHasher>(
         (record (kept_of parts.new) { exchanges = parts.old.exchanges.state } ≡ kept_of parts.old) }
     ensures quiet { takes_notice parts.old.exchanges.state parts.old.clock.0 parts.old.observers.list ≡ false
         → IsOk result }
-    ensures had { parts.old.exchanges.room ≡ true
-        → TellsNoPayload (S.content parts.old.store) parts.old.observers.list → IsOk result }
+    ensures had { parts.old.exchanges.room ≡ true → IsOk result }
 {
     let at = parts.clock;
     let Some(notice) = first_ready(&mut parts.exchanges, &parts.observers, at)? else {
         parts.applied = None;
         return Ok(false);
     };
-    let (response, there) = notification(&mut parts.store, at, &notice)?;
     // Nothing fails from here on.
+    let (response, there) = notification(&parts.store, &notice);
     let plain = goes_plain(&parts.plains, at, &notice, there);
     let Notice { to, token, .. } = notice;
     let id = send(&mut parts.exchanges, at, to, &token, &response, word, plain);

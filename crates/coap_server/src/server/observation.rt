@@ -66,7 +66,7 @@ fn observes<A: Allocator>(asking: &Asking<'_, A>, value: u32) -> bool
 
 // Whether it is a GET that asks to register, and was answered with the start of a representation
 // (RFC 7641, section 4.1).
-fn may_register<A: Allocator>(asking: &Asking<'_, A>, response: &Response<A>) -> bool
+fn may_register<A: Allocator>(asking: &Asking<'_, A>, response: &Response<'_, A>) -> bool
     ensures { result ≡ may_register (question_of asking.now) (reply_of response.now) }
 {
     observes(asking, REGISTER) && response.code == Code::CONTENT && response.offset == 0
@@ -80,7 +80,7 @@ pub(crate) fn observe<S: Store<A>, A: Allocator + Copy>(
     at: Moment,
     asked: &Asked,
     asking: &Asking<'_, A>,
-    response: &Response<A>,
+    response: &Response<'_, A>,
 ) -> Result<Option<u32>, AllocError>
     requires timed { observers.old.clock ≤ at.0 }
     ensures observers { OnOk result (observers.new.list

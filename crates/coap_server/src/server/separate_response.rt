@@ -101,7 +101,7 @@ fn respond<A: Allocator + Copy, H: BuildHasher>(
     exchanges: &mut Answerer<A, H>,
     at: Moment,
     asked: &Asked,
-    response: &FullResponse<A>,
+    response: &FullResponse<'_, A>,
     word: u64,
 ) -> Id
     requires may { MayRespond exchanges.old at.0 asked.now }

@@ -25,7 +25,7 @@ use std::alloc::{AllocError, Allocator};
 #[derive(Drop)]
 pub(crate) struct Served<A: Allocator> {
     /// Its response.
-    pub(crate) response: FullResponse<A>,
+    pub(crate) response: FullResponse<'static, A>,
     /// What was applied.
     pub(crate) applied: Option<Applied<A>>,
 }

@@ -9,7 +9,6 @@ ghost use Rattle.coap_exchange.specs.declared.answerer.Due.TheVariants as dues;
 ghost use Rattle.coap_exchange.specs.Machine.AnswererShown.{MayRespond};
 ghost use Rattle.coap_exchange.specs.Machine.WhatIsDue.{takes_response};
 ghost use Rattle.coap_server.specs.Led.{Step};
-ghost use Rattle.coap_server.specs.Notifying.{TellsNoPayload};
 ghost use Rattle.coap_server.specs.Trace.{Handling, Ticks};
 ghost use Rattle.coap_server.specs.Object.Shown.{kept_of, seen};
 ghost use Rattle.coap_server.specs.Turns.Idle.{IsIdle, moment, takes_notice};
@@ -42,8 +41,7 @@ fn turn<S: Store<A>, A: Allocator + Copy, H: BuildHasher>(
     ensures idle { due ≡ dues.Idle → takes_notice parts.old.exchanges.state parts.old.clock.0 parts.old.observers.list
         ≡ false
         → IsOk result }
-    ensures had { due ≡ dues.Idle → parts.old.exchanges.room ≡ true
-        → TellsNoPayload (S.content parts.old.store) parts.old.observers.list → IsOk result }
+    ensures had { due ≡ dues.Idle → parts.old.exchanges.room ≡ true → IsOk result }
     ensures timed { OnOk result (parts.new.observers.clock ≤ parts.new.clock.0) }
     ensures before { parts.new.exchanges.before ≡ parts.old.exchanges.before }
     ensures err { OnErr result
@@ -86,8 +84,7 @@ pub(crate) fn tick_parts<S: Store<A>, A: Allocator + Copy, H: BuildHasher>(
         → IsOk result }
     ensures had { copies (moment (seen S.content parts.old) now.0) parts.old.exchanges.state.layer.open_cons ≡ []
         → takes_response parts.old.exchanges.state (max parts.old.clock.0 now.0) ≡ false
-        → parts.old.exchanges.room ≡ true
-        → TellsNoPayload (S.content parts.old.store) parts.old.observers.list → IsOk result }
+        → parts.old.exchanges.room ≡ true → IsOk result }
 {
     let was = parts.clock;
     let at = was.later(now);

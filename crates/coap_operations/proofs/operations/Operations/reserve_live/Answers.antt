@@ -10,3 +10,10 @@ returns-clause-room g c =
     let i = ap (λ l. length l) c.reserve.ensures.items in
     let o = c.reserve.ensures.ok in
     search rules
+
+pub returns-clause-had : goal.returns-clause-had
+returns-clause-had g c less =
+    let s = c.self.inside in
+    let a = living_len (get s.entries) s.queue.items s.running s.live.items c.self.invariant in
+    let e = c.reserve.ensures.succeeds in
+    search rules

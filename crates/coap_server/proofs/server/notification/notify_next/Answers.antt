@@ -15,8 +15,9 @@ returns-clause-turned g c =
     let o = told c.in-Some.notice true in
     let store = g.S.Store.content c.args.parts.now.store in
     one_told _ _ c.args.word f.0 _ o c.send-id.result.0 c.goes_plain-plain.result _
-    (g.S.Store.content c.notification.new.store) c.note_sent.new.observers.list
+    store c.note_sent.new.observers.list
     (sym (ap told_due c.in-Some.is) ∙ f.1) f.2 (c.send-id.ensures.step o refl refl)
-    (rw c.deref.ensures.value at c.goes_plain-plain.ensures (store.holds o.path) (sym c.in_ok-response.ensures.there))
-    c.in_ok-response.ensures.response (ap g.S.Store.content c.in_ok-response.ensures.store)
-    (c.note_sent.ensures.left (store.holds o.path) o (sym c.in_ok-response.ensures.there) refl refl) refl
+    (rw c.deref.ensures.value at c.goes_plain-plain.ensures (store.holds o.path)
+    (sym c.notification-response.ensures.there))
+    c.notification-response.ensures.response refl
+    (c.note_sent.ensures.left (store.holds o.path) o (sym c.notification-response.ensures.there) refl refl) refl
