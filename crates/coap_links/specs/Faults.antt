@@ -8,3 +8,7 @@ raised count = if nat_lt count (2 ^ 64 - 1) then count + 1 else count
 -- a call failed, or it did not
 abbrev pub MayRaise : ℕ → ℕ → Type 0
 MayRaise before after = (after ≡ before) ⊎ (after ≡ raised before)
+
+-- one more in a row, or the row is at its end
+abbrev pub RaisesOrEnds : ℕ → ℕ → Type 0
+RaisesOrEnds before after = (after ≡ 0) ⊎ (after ≡ raised before)

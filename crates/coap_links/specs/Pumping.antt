@@ -29,12 +29,10 @@ abbrev pub IsFedOrLost : {E X : Type 0} → (E → ℕ → Endpoint → List ℕ
 IsFedOrLost quiet feeds e now came word f (Ok p) = IsFed feeds e now came word f × (p.fed ≡ is_some came)
 IsFedOrLost quiet feeds e now came word f (Err x) = IsLost quiet e now came f
 
--- The numbers of a turn: how many datagrams were out; by how much the faults of the link rose over their sends; and by
--- how much over these and the receive.
-abbrev pub IsCounted : {X : Type 0} → (out before between after : ℕ) → Result Pumped X → Type 0
-IsCounted out before between after (Ok p) =
-    (p.sent ≡ out) × (p.unsent ≡ between - before) × (p.lost ≡ after - before)
-IsCounted out before between after (Err x) = ⊤
+-- The numbers of a turn: how many datagrams were out, and by how much the faults of the link rose.
+abbrev pub IsCounted : {X : Type 0} → (out before after : ℕ) → Result Pumped X → Type 0
+IsCounted out before after (Ok p) = (p.sent ≡ out) × (p.lost ≡ after - before)
+IsCounted out before after (Err x) = ⊤
 
 -- The turn: all that is out is sent, so that nothing is out; then one receive; what it gave is fed. (`quiet` is that a
 -- feed takes no memory, `faults` how many calls of the link failed.)
@@ -46,4 +44,4 @@ Pumps waiting gives sends receives faults quiet feeds e l now word result f m =
     (e1 : _) × (l1 : _) × (came : Option Packet)
     × SendsAll gives sends e l (waiting e) e1 l1 × (waiting e1 ≡ []) × receives l1 came m
     × IsFedOrLost quiet feeds e1 now came word f result
-    × IsCounted (length (waiting e)) (faults l) (faults l1) (faults m) result
+    × IsCounted (length (waiting e)) (faults l) (faults m) result

@@ -1,7 +1,7 @@
 -- A turn of an end over a link: it is pumped once, and then ticked until nothing is due.
-use Rattle.std.specs.Prelude.{ℕ, Bool, true, false, List, ◌≡◌, ◌⊎◌, ◌||◌, ◌+◌, ◌-◌, ◌%◌, ◌^◌, if◌then◌else◌, Option}
+use Rattle.std.specs.Prelude.{ℕ, Bool, true, false, List, ◌≡◌, ◌⊎◌, ◌+◌, ◌%◌, ◌^◌, if◌then◌else◌, Option}
 use Rattle.std.specs.Prelude.{Result}
-use Rattle.std.specs.Prelude.{Ok, Err, min, nat_lt}
+use Rattle.std.specs.Prelude.{Ok, Err}
 use Rattle.std.specs.declared.alloc.AllocError.{AllocError}
 use Rattle.coap_types.specs.declared.endpoint.Endpoint.{Endpoint}
 use Rattle.coap_layer.specs.Trace as layer
@@ -27,19 +27,11 @@ refused t = record (worded t) { refused = raised t.refused }
 abbrev pub fed : Tally → Tally
 fed t = record (worded t) { fed = raised t.fed }
 
--- a turn is a good one where a datagram was fed, or fewer sends failed than were tried
-abbrev pub is_good : Pumped → Bool
-is_good p = p.fed || nat_lt p.unsent p.sent
-
--- the calls of the link that failed in a row: a good turn begins the count anew
-abbrev pub failed_in : Pumped → Tally → Tally
-failed_in p t = record t { failed = if is_good p then 0 else min (t.failed + p.lost) (2 ^ 64 - 1) }
-
--- a pump hands a word to its feed, where there was one
+-- a pump hands a word to its feed, where there was one; what the link failed to send or to receive counts for nothing
 abbrev pub counted : Pumped → Tally → Tally
-counted p t = failed_in p (if p.fed then fed t else t)
+counted p t = if p.fed then fed t else t
 
--- .. and one that is refused memory leaves the count of failures
+-- .. and one that is refused memory
 abbrev pub pumped : {X : Type 0} → Result Pumped X → Tally → Tally
 pumped (Ok p) t = counted p t
 pumped (Err x) t = refused t

@@ -1,6 +1,7 @@
 //! One turn of an end over a link.
 ghost use Rattle.std.specs.Prelude.{ℕ, List, [], ◌≡◌, ◌-◌, IfOk, length};
 ghost use Rattle.coap_layer.specs.Trace.{Packet};
+ghost use Rattle.coap_links.specs.Faults.{RaisesOrEnds};
 ghost use Rattle.coap_links.specs.Pumping.{Pumps, SendsAll};
 
 use crate::link::{Link, MAX_DATAGRAM_LEN};
@@ -13,8 +14,6 @@ use std::alloc::{AllocError, Allocator};
 pub struct Pumped {
     /// How many datagrams were handed to the link.
     pub sent: u64,
-    /// How many of these the link failed to send.
-    pub unsent: u64,
     /// How many calls of the link failed.
     pub lost: u64,
     /// Whether a datagram was fed.
@@ -30,6 +29,8 @@ pub fn send_all<A: Allocator + Copy, E: End<A>, L: Link>(end: &mut E, link: &mut
     ensures empty { E.waiting (E.state end.new) ≡ [] }
     // The number is that of the datagrams that were out.
     ensures count { result ≡ length (E.waiting (E.state end.old)) }
+    // However many are lost, that says nothing of the link itself.
+    ensures broken { L.broken_count link.new ≡ L.broken_count link.old }
 {
     let mut sent = 0;
     while let Some(datagram) = end.next_out() {
@@ -55,10 +56,11 @@ pub fn pump<A: Allocator + Copy, E: End<A>, L: Link>(
     ensures sent { IfOk result (λ pumped. pumped.sent ≡ length (E.waiting (E.state end.old))) }
     // The number of what was lost is by how much the link's failures rose.
     ensures lost { IfOk result (λ pumped. pumped.lost ≡ L.fault_count link.new - L.fault_count link.old) }
+    // A pump counts one receive at most that failed for what the link itself is, however many datagrams are lost.
+    ensures broken { RaisesOrEnds (L.broken_count link.old) (L.broken_count link.new) }
 {
     let faults_before = link.faults();
     let sent = send_all(end, link);
-    let unsent = link.faults().saturating_sub(faults_before);
     let mut buf = [0; MAX_DATAGRAM_LEN];
     let fed = match link.receive(&mut buf) {
         Some((from, len)) => {
@@ -68,10 +70,5 @@ pub fn pump<A: Allocator + Copy, E: End<A>, L: Link>(
         None => false,
     };
     let lost = link.faults().saturating_sub(faults_before);
-    Ok(Pumped {
-        sent,
-        unsent,
-        lost,
-        fed,
-    })
+    Ok(Pumped { sent, lost, fed })
 }

@@ -11,29 +11,15 @@ mod datagram_socket;
 mod driver;
 mod lender;
 mod link;
-#[cfg(test)]
-mod link_tests;
 mod memory_link;
 mod peer_names;
 mod six_places;
 mod socket;
-#[cfg(test)]
-mod socket_tests;
 mod tally;
-#[cfg(test)]
-mod test_end;
-#[cfg(test)]
-mod test_teller;
 mod timekeeper;
 mod trace;
-#[cfg(test)]
-mod trace_tests;
 mod turning;
-#[cfg(test)]
-mod turning_tests;
 mod udp6_link;
-#[cfg(test)]
-mod udp6_link_tests;
 mod udp_link;
 
 pub use carried::Carried;

@@ -1,5 +1,5 @@
 //! A link in memory.
-ghost use Rattle.std.specs.Prelude.{ℕ, List, [], ◌∷◌, ◌++◌, Option, ◌≡◌, ◌≤◌, map, OnOk, OnErr, IfSome, IfNone};
+ghost use Rattle.std.specs.Prelude.{ℕ, List, [], ◌∷◌, ◌++◌, Option, None, ◌≡◌, ◌≤◌, map, OnOk, OnErr, IfSome, IfNone};
 ghost use Rattle.std.specs.Prelude.{length, ◌+◌, ◌-◌, ◌==◌, ◌⊎◌, true, false};
 ghost use Rattle.std.specs.Vec.{vec_len};
 ghost use Rattle.std.specs.VecDeque.{deque_capacity, deque_len};
@@ -14,6 +14,7 @@ use crate::link::{Link, MAX_DATAGRAM_LEN, raise};
 use coap_types::Endpoint;
 use std::alloc::{AllocError, Allocator, Global};
 use std::collections::VecDeque;
+use std::io;
 use std::marker::Model;
 
 /// A link that keeps what it was handed, and gives what it was told to give. One send and one
@@ -206,6 +207,10 @@ impl<A: Allocator + Copy> Link for MemoryLink<A> {
 
     ghost fault_count = { λ link. link.faults };
 
+    ghost broken_count = { λ _. 0 };
+
+    ghost told_loss = { λ _. None };
+
     ghost own_address = { λ link. link.address };
 
     ghost hears_refusal = { λ _. false };
@@ -230,6 +235,14 @@ impl<A: Allocator + Copy> Link for MemoryLink<A> {
 
     fn faults(&self) -> u64 {
         self.faults
+    }
+
+    fn broken_receives(&self) -> u64 {
+        0
+    }
+
+    fn loss(&self) -> Option<io::Error> {
+        None
     }
 
     fn address(&self) -> Endpoint {

@@ -1,6 +1,6 @@
 //! What counts over the turns of an end.
 ghost use Rattle.std.specs.Prelude.{◌≡◌};
-ghost use Rattle.coap_links.specs.Turning.{counted, fed, is_good, next_word, refused, worded};
+ghost use Rattle.coap_links.specs.Turning.{counted, fed, next_word, refused, worded};
 
 use crate::driver::Pumped;
 use crate::link::raise;
@@ -14,21 +14,17 @@ pub struct Tally {
     pub fed: u64,
     /// How many feeds and ticks were refused memory, up to the last value.
     pub refused: u64,
-    /// How many calls of the link failed since the last good turn, up to the last value. A good turn fed a datagram, or
-    /// the link failed to send fewer than it was handed.
-    pub failed: u64,
 }
 
 /// Before the first turn of an end that began with this word.
 pub fn fresh_tally(word: u64) -> Tally
     // A fresh tally has that word, and has counted nothing.
-    ensures { result ≡ record { word = word; fed = 0; refused = 0; failed = 0 } }
+    ensures { result ≡ record { word = word; fed = 0; refused = 0 } }
 {
     Tally {
         word,
         fed: 0,
         refused: 0,
-        failed: 0,
     }
 }
 
@@ -46,13 +42,6 @@ pub(crate) fn count_word(tally: &mut Tally)
     tally.word = next_word(tally);
 }
 
-// Whether a turn was a good one.
-fn is_good(pumped: Pumped) -> bool
-    ensures { result ≡ is_good pumped }
-{
-    pumped.fed || pumped.unsent < pumped.sent
-}
-
 /// After a pump that was not refused memory.
 pub(crate) fn count_pumped(tally: &mut Tally, pumped: Pumped)
     ensures { tally.new ≡ counted pumped tally.old }
@@ -60,11 +49,6 @@ pub(crate) fn count_pumped(tally: &mut Tally, pumped: Pumped)
     if pumped.fed {
         count_fed(tally);
     }
-    tally.failed = if is_good(pumped) {
-        0
-    } else {
-        tally.failed.saturating_add(pumped.lost)
-    };
 }
 
 // After a feed that was not refused memory.

@@ -104,6 +104,10 @@ impl<L: Link + Drop, T: Teller + Drop> Link for Trace<L, T> {
 
     ghost fault_count = { λ trace. L.fault_count trace.link };
 
+    ghost broken_count = { λ trace. L.broken_count trace.link };
+
+    ghost told_loss = { λ trace. L.told_loss trace.link };
+
     ghost own_address = { λ trace. L.own_address trace.link };
 
     ghost hears_refusal = { λ trace. L.hears_refusal trace.link };
@@ -123,6 +127,14 @@ impl<L: Link + Drop, T: Teller + Drop> Link for Trace<L, T> {
 
     fn faults(&self) -> u64 {
         self.link.faults()
+    }
+
+    fn broken_receives(&self) -> u64 {
+        self.link.broken_receives()
+    }
+
+    fn loss(&self) -> Option<io::Error> {
+        self.link.loss()
     }
 
     fn address(&self) -> Endpoint {
@@ -151,6 +163,10 @@ pub fn trace_law<L: Link + Drop, T: Teller + Drop>()
         → IsToldWhere T.tells t.teller t.untold came u.teller u.untold }
     // The faults of a trace are those of its link, and no others.
     ensures faults { (t : _) → ⟦<Trace<L, T> as Link>⟧.fault_count t ≡ L.fault_count t.link }
+    // The receives in a row that failed for what a trace itself is are those of its link.
+    ensures broken { (t : _) → ⟦<Trace<L, T> as Link>⟧.broken_count t ≡ L.broken_count t.link }
+    // A trace is told of the losses of which its link is.
+    ensures losses { (t : _) → ⟦<Trace<L, T> as Link>⟧.told_loss t ≡ L.told_loss t.link }
     // A trace is where its link is.
     ensures address { (t : _) → ⟦<Trace<L, T> as Link>⟧.own_address t ≡ L.own_address t.link }
     // A trace hears that nobody listens where its link does.

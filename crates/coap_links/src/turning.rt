@@ -1,5 +1,6 @@
 //! The turns of an end over a link.
 ghost use Rattle.std.specs.Prelude.{ℕ, Bool, true, false, ◌≡◌, ◌<◌, ◌⊎◌};
+ghost use Rattle.coap_links.specs.Faults.{RaisesOrEnds};
 ghost use Rattle.coap_links.specs.Turning.{Rests, TicksOut, Turns, next_word, worded};
 
 use crate::driver::pump;
@@ -45,8 +46,10 @@ pub fn turn<A: Allocator + Copy, E: End<A>, L: Link>(
     tally: &mut Tally,
 )
     // An end is pumped once and then ticked until nothing is due, or a tick is refused memory.
-    ensures { Turns E.waiting E.gives L.sends L.receives L.fault_count E.quiet_feed E.feeds E.quiet_tick E.ticks
+    ensures turns { Turns E.waiting E.gives L.sends L.receives L.fault_count E.quiet_feed E.feeds E.quiet_tick E.ticks
         (E.state end.old) link.old now.0 tally.old (E.state end.new) link.new tally.new }
+    // A turn counts one receive at most that failed for what the link itself is, however many datagrams are lost.
+    ensures broken { RaisesOrEnds (L.broken_count link.old) (L.broken_count link.new) }
 {
     match pump(end, link, now, next_word(tally)) {
         Ok(pumped) => count_pumped(tally, pumped),
@@ -77,8 +80,10 @@ pub fn serve_turn<A: Allocator + Copy, E: End<A>, L: Link>(
     tally: &mut Tally,
 )
     // The server of `serve` has a turn as any end.
-    ensures { Turns E.waiting E.gives L.sends L.receives L.fault_count E.quiet_feed E.feeds E.quiet_tick E.ticks
+    ensures turns { Turns E.waiting E.gives L.sends L.receives L.fault_count E.quiet_feed E.feeds E.quiet_tick E.ticks
         (E.state server.old) link.old now.0 tally.old (E.state server.new) link.new tally.new }
+    // However many datagrams are lost in a turn of a server, that says nothing of the link itself.
+    ensures broken { RaisesOrEnds (L.broken_count link.old) (L.broken_count link.new) }
 {
     turn(server, link, now, tally);
 }

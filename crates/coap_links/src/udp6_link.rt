@@ -342,6 +342,10 @@ impl<
 
     ghost fault_count = { λ link. link.socket.faults };
 
+    ghost broken_count = { λ link. link.socket.broken };
+
+    ghost told_loss = { λ link. link.socket.loss };
+
     ghost own_address = { λ link. link.address };
 
     ghost hears_refusal = { λ link. link.socket.is_refused };
@@ -363,6 +367,14 @@ impl<
 
     fn faults(&self) -> u64 {
         self.socket.faults
+    }
+
+    fn broken_receives(&self) -> u64 {
+        self.socket.broken
+    }
+
+    fn loss(&self) -> Option<io::Error> {
+        self.socket.loss
     }
 
     fn address(&self) -> Endpoint {

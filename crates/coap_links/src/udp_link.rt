@@ -190,7 +190,16 @@ impl<D> UdpLink<D> {
     pub fn over(socket: D, address: Endpoint) -> UdpLink<D>
         // A link over a socket has failed no call, and is where it is said to be.
         ensures { result ≡ record {
-          socket = record { socket = socket; asked = None; at = None; joined = None; faults = 0; is_refused = false };
+          socket = record {
+            socket = socket;
+            asked = None;
+            at = None;
+            joined = None;
+            faults = 0;
+            broken = 0;
+            loss = None;
+            is_refused = false;
+          };
           address = address;
         } }
     {
@@ -252,6 +261,10 @@ impl<D: DatagramSocket + Drop> Link for UdpLink<D> {
 
     ghost fault_count = { λ link. link.socket.faults };
 
+    ghost broken_count = { λ link. link.socket.broken };
+
+    ghost told_loss = { λ link. link.socket.loss };
+
     ghost own_address = { λ link. link.address };
 
     ghost hears_refusal = { λ link. link.socket.is_refused };
@@ -269,6 +282,14 @@ impl<D: DatagramSocket + Drop> Link for UdpLink<D> {
 
     fn faults(&self) -> u64 {
         self.socket.faults
+    }
+
+    fn broken_receives(&self) -> u64 {
+        self.socket.broken
+    }
+
+    fn loss(&self) -> Option<io::Error> {
+        self.socket.loss
     }
 
     fn address(&self) -> Endpoint {

@@ -13,6 +13,7 @@ loop-datagram-preserved g c =
         chain = SendsAll-snoc g.E.End.gives g.L.Link.sends _ _ _ _ _ p _ _ so_far.chain (search rules) (search rules);
         parts = search (rules, append_assoc);
         count = ap (λ n. n + 1) so_far.count ∙ sym (length-snoc c.loop-datagram.invariant.0 p);
+        broken = search rules;
         few = λ _. few_along c.loop-datagram.sent c.loop-datagram.invariant.0 _ _ so_far.count so_far.parts so_far.few
             (search rules);
       },

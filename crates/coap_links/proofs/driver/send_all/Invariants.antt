@@ -11,6 +11,7 @@ invariant-loop-datagram g l =
       chain : SendsAll g.E.End.gives g.L.Link.sends (state l.fn.end) l.fn.link ps (state l.end) l.link;
       parts : waiting (state l.fn.end) ≡ ps ++ waiting (state l.end);
       count : l.sent ≡ length ps;
+      broken : g.L.Link.broken_count l.link ≡ g.L.Link.broken_count l.fn.link;
       few : 0 < l.sent → length (waiting (state l.fn.end)) < 2 ^ 64;
     }
 
