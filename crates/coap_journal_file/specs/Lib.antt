@@ -1,3 +1,4 @@
 pub mod Boots
 pub mod Judging
+pub mod PutInPlace
 pub mod Wishes

@@ -10,10 +10,12 @@ mod boots;
 mod frames;
 mod judging;
 mod opening;
+mod stored_file;
 mod wishes;
 
 pub use boots::{boot_in, uptime_in};
 pub use frames::{FrameError, begun_frame, setup_frame, woke_frame};
 pub use judging::{Began, FileError, Judged, judge};
-pub use opening::{OpenError, OpenJournal, open_journal, replace_journal, sync_folder};
+pub use opening::{OpenError, OpenJournal, open_journal, replace_journal};
+pub use stored_file::StoredFile;
 pub use wishes::{Differing, Wishes, differing_beginning, what_differs};

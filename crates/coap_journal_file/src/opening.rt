@@ -1,11 +1,11 @@
 //! The file of a journal is opened for this program alone.
 
+use crate::stored_file::put_in_place;
 use std::fs::{File, OpenFile, OpenOptions, TryLockError};
-use std::io::{ErrorKind, Read, Write};
+use std::io;
+use std::io::{ErrorKind, Read};
 use std::os::unix::fs::OpenOptionsExt;
-use std::path::Path;
 use std::rt::Files;
-use std::{fs, io};
 use thiserror::Error;
 
 /// Who may read and write a journal that is made: its owner alone, since all bodies stand in it, and the seed.
@@ -13,14 +13,11 @@ pub const OWNER_ALONE: u32 = 0o600;
 
 const _: () = prove!(OWNER_ALONE == 6 * 64);
 
-// The folder of a name that names none.
-const THIS_FOLDER: &str = ".";
-
 /// The file of a journal, open for this program alone, and what stands in it. What is written goes behind that.
 #[derive(Drop)]
-pub struct OpenJournal {
+pub struct OpenJournal<F = File> {
     /// The file.
-    pub file: File,
+    pub file: F,
     /// Its bytes.
     pub bytes: Vec<u8>,
 }
@@ -88,19 +85,6 @@ pub fn replace_journal<R: Files<File = File>>(
 ) -> Result<File, OpenError> {
     let mut file = open_or_make(rt, beside)?;
     lock(&file)?;
-    file.set_len(0)?;
-    file.write_all(bytes)?;
-    file.sync_all()?;
-    fs::rename(rt, beside, name)?;
-    sync_folder(rt, name)?;
+    put_in_place(rt, &mut file, beside, name, bytes)?;
     Ok(file)
-}
-
-/// Has the name of a file that was made stay, whatever happens.
-pub fn sync_folder<R: Files<File = File>>(rt: &R, name: &str) -> io::Result<()> {
-    let folder = match Path::new(name).parent() {
-        Some(folder) if !folder.as_str().is_empty() => folder,
-        _ => Path::new(THIS_FOLDER),
-    };
-    File::open(rt, folder)?.sync_all()
 }

@@ -1,3 +1,4 @@
+pub mod Dropped
 pub mod Facts
 pub mod GoingOn
 mod SilentOn

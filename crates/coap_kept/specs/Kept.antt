@@ -1,5 +1,6 @@
 -- A server that goes on from its journal.
 use Rattle.std.specs.Prelude.{◌≡◌, ◌≤◌, ◌+◌, ◌-◌, ◌^◌, ◌++◌, min, ℕ, Bool, true, false, List, [], length}
+use Rattle.coap_layer.specs.Trace.{Packet}
 use Rattle.coap_server.specs.Led.{State}
 use Rattle.coap_journal.specs.Frames.{frame}
 use Rattle.coap_journal.specs.Records.{Woke, record_bytes}
@@ -8,6 +9,7 @@ use Rattle.coap_journal.specs.declared.beginning.Beginning.{Beginning}
 use Rattle.coap_journal.specs.declared.beginning.Life.{Life}
 use Rattle.coap_journal.specs.declared.waking.TheConstants.{SILENCE_MS as silence}
 use Rattle.coap_journaled.specs.Journal.{Journal}
+use Rattle.coap_kept.specs.Draining.{Drops}
 use Rattle.coap_kept.specs.Machines.{life_on}
 use Rattle.coap_kept.specs.Renewal.{IsRenewedFrom}
 use Rattle.coap_kept.specs.Revival.{IsRevived}
@@ -16,6 +18,7 @@ use Rattle.coap_kept.specs.declared.keep_words.Keeping.{Keeping}
 use Rattle.coap_kept.specs.declared.keeping.Silences.{Silences}
 use Rattle.coap_kept.specs.declared.machine.Machine.{Machine}
 use Rattle.coap_kept.specs.declared.renewal.TheConstants.{RENEWAL_SILENCE_MS as renewal_silence}
+use Rattle.coap_replay.specs.Replaying.{Gives}
 use Rattle.coap_replay.specs.declared.replay.Replayed.{Replayed}
 
 -- A server that had this life and this latest moment goes on, by the machine that it asks for first. In the same boot
@@ -75,10 +78,19 @@ pub record IsAlive (keeping : Keeping) (silent : Silences) (first : ℕ) (bytes 
   pub awoken : IsAwoken keeping silent first there bytes s
 
 -- the end of that server, which noted and gave out nothing since; its next frame follows the bytes
-pub record IsKept {F : Type 0} (keeping : Keeping) (silent : Silences) (first : ℕ) (j : Journal State F) : Type 0 where
+pub record IsBegun {F : Type 0} (keeping : Keeping) (silent : Silences) (first : ℕ) (j : Journal State F) : Type 0 where
   pub bytes : List ℕ
   pub alive : IsAlive keeping silent first bytes j.end
   pub stands : j.place ≡ length bytes
   pub none_noted : j.inputs ≡ []
   pub none_taken : j.taken ≡ 0
   pub going : j.over ≡ false
+
+-- What waited there was dropped, and counts as taken, so that a replay of the next frame takes it first; nothing waits.
+pub record IsKept {F : Type 0} (keeping : Keeping) (silent : Silences) (first : ℕ) (j : Journal State F) : Type 0 where
+  pub begun : Journal State F
+  pub begins : IsBegun keeping silent first begun
+  pub dropped : List Packet
+  pub drops : Drops Gives begun dropped j
+  pub counted : j.taken ≡ length dropped
+  pub none_waits : j.end.layer.queue ≡ []

@@ -1,3 +1,4 @@
+pub mod Draining
 pub mod Holding
 pub mod Keeping
 pub mod Kept

@@ -38,3 +38,14 @@ IsMadeWhole keeping machine old new =
     (IsTornBeginning old × (new ≡ first_bytes keeping.drawn (first_life machine) keeping.setup.now))
     ⊎ ((whole : Whole) × IsWhole old whole × IsBegunAsSaid keeping old whole
     × (new ≡ completed whole keeping.setup.now (cut_off whole old)))
+
+-- Then the file was asked to be kept, as it was made, and to have its name kept. (`syncs` and `settles` are what it is
+-- asked.)
+abbrev pub IsMadeSafe : {F : Type 0} → (F → F → Type 0) → (F → List ℕ → F → Type 0) → List ℕ → F → Type 0
+IsMadeSafe {F} syncs settles name new = (made : F) × (safe : F) × syncs made safe × settles safe name new
+
+-- A frame was added to the file, which then was asked to be kept.
+abbrev pub IsAddedSafely : {F : Type 0} → (F → List ℕ → F → Type 0) → (F → F → Type 0) → F → List ℕ → List ℕ → F
+    → Type 0
+IsAddedSafely {F} writes syncs old before after new =
+    (added : List ℕ) × (between : F) × (after ≡ before ++ added) × writes old added between × syncs between new

@@ -1,10 +1,10 @@
 //! The file of a journal on a disk.
-ghost use Rattle.std.specs.Prelude.{IfOk};
+ghost use Rattle.std.specs.Prelude.{IfOk, OnOk};
 ghost use Rattle.coap_kept.specs.Silence.{Passes};
 
+use coap_journal_file::StoredFile;
 use coap_journaled::JournalFile;
 use coap_links::Timekeeper;
-use std::fs::OpenFile;
 use std::io;
 use std::io::Write;
 
@@ -21,7 +21,7 @@ pub struct DiskFile<F, T, W> {
     told: W,
 }
 
-impl<F: Write + OpenFile + Drop, T: Timekeeper + Drop, W: Write + Drop> DiskFile<F, T, W> {
+impl<F: StoredFile + Drop, T: Timekeeper + Drop, W: Write + Drop> DiskFile<F, T, W> {
     /// A file that stands at its end.
     pub fn new(file: F, time: T, told: W) -> DiskFile<F, T, W> {
         DiskFile { file, time, told }
@@ -36,29 +36,30 @@ fn tell_slow<W: Write>(told: &mut W, ms: u64) {
 }
 
 // Syncs a file, and answers how many milliseconds that took.
-fn sync_timed<F: OpenFile, T: Timekeeper>(file: &F, time: &mut T) -> io::Result<u64>
-    ensures { IfOk result (λ ms. Passes T.tells time.old ms time.new) }
+fn sync_timed<F: StoredFile, T: Timekeeper>(file: &mut F, time: &mut T) -> io::Result<u64>
+    ensures timed { IfOk result (λ ms. Passes T.tells time.old ms time.new) }
+    ensures synced { OnOk result (F.syncs file.old file.new) }
 {
     let begin = time.now()?;
-    file.sync_all()?;
+    file.sync()?;
     Ok(time.now()?.since(begin))
 }
 
-impl<F: Write + OpenFile + Drop, T: Timekeeper + Drop, W: Write + Drop> JournalFile
+/// What is appended its file is asked to append, and to keep in a sync: that alone, and once.
+impl<F: StoredFile + Drop, T: Timekeeper + Drop, W: Write + Drop> JournalFile
     for DiskFile<F, T, W> {
-    ghost use Rattle.std.specs.Prelude.{◌≡◌, ⊤, true};
-    ghost use Rattle.std.specs.Io.KnownBytes.{Appends};
+    ghost use Rattle.std.specs.Prelude.{◌≡◌, true};
 
-    ghost appends = { λ d bytes done e. done ≡ true → Appends (F.contents d.file) (F.contents e.file) bytes };
+    ghost appends = { λ d bytes done e. done ≡ true → F.writes d.file bytes e.file };
 
-    ghost syncs = { λ _ _ _. ⊤ };
+    ghost syncs = { λ d done e. done ≡ true → F.syncs d.file e.file };
 
     fn append(&mut self, bytes: &[u8]) -> io::Result<()> {
-        self.file.write_all(bytes)
+        self.file.append(bytes)
     }
 
     fn sync(&mut self) -> io::Result<()> {
-        let ms = sync_timed(&self.file, &mut self.time)?;
+        let ms = sync_timed(&mut self.file, &mut self.time)?;
         tell_slow(&mut self.told, ms);
         Ok(())
     }

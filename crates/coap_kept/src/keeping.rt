@@ -8,6 +8,7 @@ ghost use Rattle.coap_kept.specs.Silence.{AreTimed, IsSilent, PassesIfAny};
 
 use crate::counts::{Counts, tell_counts};
 use crate::disk_file::DiskFile;
+use crate::draining::drain;
 use crate::keep_error::KeepError;
 use crate::keep_words::Keeping;
 use crate::machine::HostMachine;
@@ -149,9 +150,10 @@ where
 }
 
 /// Opens the journal of a server for this program alone, has its server do again what stands in it, and begins a
-/// further life. In a file in which none stands one is begun. A server that goes on after another boot of its machine
-/// first drops what comes for `SILENCE_MS`. One that is to be begun anew first drops what comes for
-/// `RENEWAL_SILENCE_MS`; then its journal takes the place of the one that was there. Both hashers are of one kind.
+/// further life; what waited when it ended is dropped. In a file in which none stands one is begun. A server that goes
+/// on after another boot of its machine first drops what comes for `SILENCE_MS`. One that is to be begun anew first
+/// drops what comes for `RENEWAL_SILENCE_MS`; then its journal takes the place of the one that was there. Both hashers
+/// are of one kind.
 pub fn keep<R, L, T, W, H>(
     rt: &R,
     keeping: &Keeping<'_>,
@@ -167,8 +169,8 @@ where
     T: Timekeeper + Drop,
     W: Write + Drop,
     H: BuildHasher + Drop,
-    // A server that is kept is the one of its journal, which agrees with the words and to which a life was added; it
-    // has noted nothing and given out nothing since.
+    // A server that is kept is the one of its journal, which agrees with the words and to which a life was added; what
+    // waited there was dropped, and counts as taken, and nothing waits.
     ensures kept { IfOk result (λ kept. IsKept keeping.now kept.silent kept.first.0
         (shown (state_of content_of) kept.journaled)) }
     // Until a server is kept nothing is sent, and what comes is dropped.
@@ -192,7 +194,8 @@ where
     )?;
     let place = journal.bytes.len() as u64;
     let file = DiskFile::new(journal.file, syncs, told);
-    let journaled = Journaled::new(rt.alloc(), server, file, place, first);
+    let mut journaled = Journaled::new(rt.alloc(), server, file, place, first);
+    drain(&mut journaled);
     Ok(KeptServer {
         journaled,
         first,

@@ -6,6 +6,7 @@
 
 mod counts;
 mod disk_file;
+mod draining;
 mod held_paths;
 mod inputs;
 mod keep_error;

@@ -3,6 +3,7 @@ ghost use Rattle.std.specs.Prelude.{◌≡◌, IfOk};
 ghost use Rattle.coap_kept.specs.Kept.{IsAwake, IsWaitedFor};
 ghost use Rattle.coap_kept.specs.Machines.{life_on};
 ghost use Rattle.coap_kept.specs.Silence.{IsSilent, PassesIfAny};
+ghost use Rattle.coap_kept.specs.WholeFile.{IsAddedSafely};
 ghost use Rattle.coap_kept.specs.declared.machine.Machine.{Machine as MachineSpec};
 
 use crate::keep_error::KeepError;
@@ -10,12 +11,11 @@ use crate::machine::{Machine, NamesMachine};
 use crate::silence::be_silent;
 use crate::whole_file::add;
 use coap_journal::{Life, SILENCE_MS, Waking, go_on};
-use coap_journal_file::{OpenJournal, woke_frame};
+use coap_journal_file::{OpenJournal, StoredFile, woke_frame};
 use coap_links::{Link, Timekeeper};
 use coap_replay::Replayed;
 use coap_types::Moment;
 use std::alloc::Global;
-use std::fs::OpenFile;
 use std::io::Write;
 
 /// The life that begins now.
@@ -57,10 +57,10 @@ fn wait_for<N: NamesMachine, L: Link, T: Timekeeper, W: Write>(
 
 /// Begins a further life of a server, after its silence where it needs one; answers its first moment, and how long it
 /// was silent.
-pub(crate) fn wake<N: NamesMachine, L: Link, T: Timekeeper, W: Write>(
+pub(crate) fn wake<N: NamesMachine, F: StoredFile, L: Link, T: Timekeeper, W: Write>(
     alloc: Global,
     machines: &mut N,
-    journal: &mut OpenJournal,
+    journal: &mut OpenJournal<F>,
     replayed: Replayed,
     link: &mut L,
     clock: &mut T,
@@ -69,6 +69,8 @@ pub(crate) fn wake<N: NamesMachine, L: Link, T: Timekeeper, W: Write>(
     ensures awake { IfOk result (λ p. (machine : MachineSpec)
         × IsWaitedFor N.names machines.old replayed.life replayed.latest.0 p.1 p.0.0 machine machines.new
         × IsAwake journal.old.bytes.items machine p.0.0 journal.new.bytes.items) }
+    ensures safe { IfOk result (λ _. IsAddedSafely F.writes F.syncs journal.old.file journal.old.bytes.items
+        journal.new.bytes.items journal.new.file) }
     ensures silent { IfOk result (λ p. IsSilent L.receives link.old link.new) }
     ensures timed { IfOk result (λ p. PassesIfAny T.tells clock.old p.1 clock.new) }
 {
@@ -77,6 +79,6 @@ pub(crate) fn wake<N: NamesMachine, L: Link, T: Timekeeper, W: Write>(
     let place = journal.bytes.len() as u64;
     let frame = woke_frame(alloc, place, life)?;
     add(journal, frame.as_slice())?;
-    journal.file.sync_all()?;
+    journal.file.sync()?;
     Ok((first, silent))
 }

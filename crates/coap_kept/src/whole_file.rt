@@ -1,11 +1,11 @@
 //! The file of a journal is made whole: a torn frame is cut off, and where no server began in it one begins.
 ghost use Rattle.std.specs.Prelude.{◌≡◌, ◌++◌, ℕ, List, IfErr, IfNone, IfOk, IfSome, OnOk, take};
-ghost use Rattle.std.specs.Io.KnownBytes.{Appends};
 ghost use Rattle.coap_journal_file.specs.Judging.{IsTornBeginning, IsWhole};
 ghost use Rattle.coap_kept.specs.Machines.{first_life};
 ghost use Rattle.coap_kept.specs.Refusing.{IsOtherwise, IsRefused};
 ghost use Rattle.coap_kept.specs.Renewal.{first_bytes};
-ghost use Rattle.coap_kept.specs.WholeFile.{IsAgreed, IsBegunAsSaid, IsMadeWhole, completed, cut_off, with_setup};
+ghost use Rattle.coap_kept.specs.WholeFile.{IsAgreed, IsBegunAsSaid, IsMadeSafe, IsMadeWhole};
+ghost use Rattle.coap_kept.specs.WholeFile.{completed, cut_off, with_setup};
 ghost use Rattle.coap_kept.specs.declared.machine.Machine.{Machine as MachineSpec};
 
 use crate::counts::{Counts, no_counts};
@@ -16,13 +16,12 @@ use crate::machine::{Machine, machine_now};
 use crate::waking::life_at;
 use coap_journal::{Beginning, Life, Whole};
 use coap_journal_file::{
-    Began, Differing, Judged, OpenJournal, begun_frame, differing_beginning, judge, open_journal,
-    setup_frame, sync_folder, what_differs,
+    Began, Differing, Judged, OpenJournal, StoredFile, begun_frame, differing_beginning, judge,
+    open_journal, setup_frame, what_differs,
 };
 use coap_types::Moment;
 use std::alloc::Global;
-use std::fs::{File, OpenFile};
-use std::io::Write;
+use std::fs::File;
 use std::random::RandomSource;
 use std::rt::Files;
 
@@ -55,34 +54,35 @@ fn looked_at(bytes: &[u8], keeping: &Keeping<'_>) -> Result<Option<Whole>, KeepE
     }
 }
 
-// Adds bytes to a file, and to those that are known to stand in it.
-fn add_to<F: Write>(file: &mut F, known: &mut Vec<u8>, bytes: &[u8]) -> Result<(), KeepError>
-    ensures written { OnOk result (Appends (F.contents file.old) (F.contents file.new) bytes.now) }
-    ensures known { OnOk result (known.new.items ≡ known.old.items ++ bytes.now) }
+/// Adds bytes to a file, which are to be synced, and to those that are known to stand in it.
+pub(crate) fn add<F: StoredFile>(
+    journal: &mut OpenJournal<F>,
+    bytes: &[u8],
+) -> Result<(), KeepError>
+    ensures written { OnOk result (F.writes journal.old.file bytes.now journal.new.file) }
+    ensures known { OnOk result (journal.new.bytes.items ≡ journal.old.bytes.items ++ bytes.now) }
 {
-    known.extend_from_slice(bytes)?;
-    file.write_all(bytes)?;
+    journal.bytes.extend_from_slice(bytes)?;
+    journal.file.append(bytes)?;
     Ok(())
 }
 
-/// Adds bytes to a file, which are to be synced.
-pub(crate) fn add(journal: &mut OpenJournal, bytes: &[u8]) -> Result<(), KeepError>
-    ensures { OnOk result (journal.new.bytes.items ≡ journal.old.bytes.items ++ bytes.now) }
-{
-    add_to(&mut journal.file, &mut journal.bytes, bytes)
-}
-
 // Cuts a file off at this place.
-fn cut(journal: &mut OpenJournal, end: usize) -> Result<(), KeepError>
-    ensures { OnOk result (journal.new.bytes.items ≡ take end journal.old.bytes.items) }
+fn cut<F: StoredFile>(journal: &mut OpenJournal<F>, end: usize) -> Result<(), KeepError>
+    ensures cut { OnOk result (F.cuts journal.old.file end journal.new.file) }
+    ensures known { OnOk result (journal.new.bytes.items ≡ take end journal.old.bytes.items) }
 {
-    journal.file.set_len(end as u64)?;
+    journal.file.cut(end as u64)?;
     journal.bytes.truncate(end);
     Ok(())
 }
 
 // Adds the frame of the inputs that a server takes first.
-fn add_setup(alloc: Global, journal: &mut OpenJournal, setup: &[u8]) -> Result<(), KeepError>
+fn add_setup<F: StoredFile>(
+    alloc: Global,
+    journal: &mut OpenJournal<F>,
+    setup: &[u8],
+) -> Result<(), KeepError>
     ensures { OnOk result (journal.new.bytes.items ≡ with_setup journal.old.bytes.items setup.now) }
 {
     let place = journal.bytes.len() as u64;
@@ -91,7 +91,7 @@ fn add_setup(alloc: Global, journal: &mut OpenJournal, setup: &[u8]) -> Result<(
 }
 
 // Cuts a torn frame off, where there is one.
-fn cut_off(journal: &mut OpenJournal, whole: Whole) -> Result<(), KeepError>
+fn cut_off<F: StoredFile>(journal: &mut OpenJournal<F>, whole: Whole) -> Result<(), KeepError>
     ensures { OnOk result (journal.new.bytes.items ≡ cut_off whole journal.old.bytes.items) }
 {
     if whole.torn > 0 {
@@ -102,9 +102,9 @@ fn cut_off(journal: &mut OpenJournal, whole: Whole) -> Result<(), KeepError>
 }
 
 // Adds the frame of the inputs that a server takes first, where no frame follows the first one.
-fn complete(
+fn complete<F: StoredFile>(
     alloc: Global,
-    journal: &mut OpenJournal,
+    journal: &mut OpenJournal<F>,
     whole: Whole,
     setup: &[u8],
 ) -> Result<(), KeepError>
@@ -134,9 +134,9 @@ pub(crate) fn first_frames(
 }
 
 // Begins a journal in a file in which none stands.
-fn begin(
+fn begin<F: StoredFile>(
     alloc: Global,
-    journal: &mut OpenJournal,
+    journal: &mut OpenJournal<F>,
     keeping: &Keeping<'_>,
     machine: Machine,
 ) -> Result<(), KeepError>
@@ -150,9 +150,9 @@ fn begin(
 }
 
 // Has a file be whole frames, of which the second one is there.
-fn make_whole(
+fn make_whole<F: StoredFile>(
     alloc: Global,
-    journal: &mut OpenJournal,
+    journal: &mut OpenJournal<F>,
     keeping: &Keeping<'_>,
     machine: Machine,
 ) -> Result<Counts, KeepError>
@@ -170,6 +170,22 @@ fn make_whole(
     Ok(counts)
 }
 
+// Has the file and its name stay, whatever happens.
+fn make_safe<R: AllocGlobal + Files<File = File>, F: StoredFile>(
+    rt: &R,
+    journal: &mut OpenJournal<F>,
+    keeping: &Keeping<'_>,
+    machine: Machine,
+) -> Result<Counts, KeepError>
+    ensures whole { IfOk result (λ _. IsMadeWhole keeping.now machine journal.old.bytes.items journal.new.bytes.items) }
+    ensures safe { OnOk result (IsMadeSafe F.syncs F.settles keeping.now.name.now journal.new.file) }
+{
+    let counts = make_whole(rt.alloc(), journal, keeping, machine)?;
+    journal.file.sync()?;
+    journal.file.settle(rt, keeping.name)?;
+    Ok(counts)
+}
+
 /// The file of a journal, opened, with whole frames alone, and how much of it there was.
 pub(crate) fn ready<R: AllocGlobal + Files<File = File> + RandomSource>(
     rt: &R,
@@ -180,8 +196,6 @@ pub(crate) fn ready<R: AllocGlobal + Files<File = File> + RandomSource>(
 {
     let mut journal = open_journal(rt, keeping.name)?;
     let machine = machine_now(rt)?;
-    let counts = make_whole(rt.alloc(), &mut journal, keeping, machine)?;
-    journal.file.sync_all()?;
-    sync_folder(rt, keeping.name)?;
+    let counts = make_safe(rt, &mut journal, keeping, machine)?;
     Ok((journal, counts))
 }
