@@ -230,7 +230,7 @@ def _found(pattern: str, file: pathlib.Path) -> str:
 
 
 def _statuses() -> Tuple[Tuple[int, str], ...]:
-    body = _found(r"^pub enum Status \{\n((?:.*\n)*?)\}", CRATES / "coap_scripts" / "src" / "status.rt")
+    body = _found(r"^pub enum Status \{\n((?:.*\n)*?)\}", CRATES / "coap_status" / "src" / "status.rt")
     rows = re.findall(r"/// (.*)\n\s+\w+ = (\d+),", body)
     if len(rows) != body.count(" = "):
         raise Problem("status.rt: a status without a comment")

@@ -13,19 +13,19 @@ use Rattle.coap_client.specs.declared.client.report.Report as R
 use Rattle.coap_client.specs.declared.refusals.CallRefusal.{CallRefusal}
 use Rattle.coap_client.proofs.Facts.EachCall.{led_client}
 use Rattle.std.specs.declared.alloc.Global.{Global}
-use Rattle.coap_commands.specs.Asks.{AsksNothing, Turned, changed_status, takes_report}
-use Rattle.coap_commands.specs.Ends.{client_sizes}
+use Rattle.coap_waits.specs.Asks.{AsksNothing, Turned, changed_status, takes_report}
+use Rattle.coap_waits.specs.Terms.{client_sizes}
 use Rattle.coap_commands.specs.Pairs.{CameBack, IsHanded, IsPairedBy, Pairs, WritesBoth, got, not_got, not_put}
 use Rattle.coap_commands.specs.Pairs.{paired_setup}
 use Rattle.coap_commands.specs.Printed.{WritesPut}
 use Rattle.coap_scripts.specs.Script.{plain_request}
-use Rattle.coap_commands.specs.Statuses.{IsCarriedOut}
-use Rattle.coap_commands.specs.declared.calling.Outcome.{Outcome}
-use Rattle.coap_commands.specs.declared.calling.Outcome.TheVariants.{Refused, Reported}
-use Rattle.coap_scripts.specs.declared.status.Status.{Status}
-use Rattle.coap_scripts.specs.declared.status.Status.TheVariants as status
-use Rattle.coap_scripts.specs.declared.status.Stop.{Stop}
-use Rattle.coap_commands.proofs.WhatBecomes.{led_on}
+use Rattle.coap_answers.specs.Statuses.{IsCarriedOut}
+use Rattle.coap_waits.specs.declared.calling.Outcome.{Outcome}
+use Rattle.coap_waits.specs.declared.calling.Outcome.TheVariants.{Refused, Reported}
+use Rattle.coap_status.specs.declared.status.Status.{Status}
+use Rattle.coap_status.specs.declared.status.Status.TheVariants as status
+use Rattle.coap_status.specs.declared.status.Stop.{Stop}
+use Rattle.coap_waits.proofs.Facts.{led_on}
 
 -- what is said of each server, sizes and setup of a client: these calls led to it before, and those, the request among
 -- them, lead to it now

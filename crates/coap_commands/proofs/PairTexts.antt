@@ -3,11 +3,11 @@ use Rattle.std.proofs.Common.{◌≡◌, ℕ, List, Option, codes}
 use Rattle.std.specs.declared.alloc.Global.{Global}
 use Rattle.coap_client.specs.declared.client.report.Report as R
 use Rattle.coap_client.specs.declared.client.report.Report.TheVariants as report
-use Rattle.coap_commands.specs.Asks.{changed_report, changed_status, got_report, got_status}
+use Rattle.coap_waits.specs.Asks.{changed_report, changed_status, got_report, got_status}
 use Rattle.coap_commands.specs.Printed.{WritesChanged, WritesFetched, WritesGet, WritesNamed, WritesPut}
-use Rattle.coap_commands.specs.declared.calling.Outcome.{Outcome}
-use Rattle.coap_commands.specs.declared.calling.Outcome.TheVariants.{GaveUp, Refused, Reported}
-use Rattle.coap_scripts.specs.declared.status.Status.TheVariants as status
+use Rattle.coap_waits.specs.declared.calling.Outcome.{Outcome}
+use Rattle.coap_waits.specs.declared.calling.Outcome.TheVariants.{GaveUp, Refused, Reported}
+use Rattle.coap_status.specs.declared.status.Status.TheVariants as status
 
 module _ (old new : Option (List ℕ)) where
   changed_said : (r : R.Report Global) → changed_report r ≡ status.Refused

@@ -9,37 +9,38 @@ use Rattle.coap_types.specs.declared.request.Method.{Method}
 use Rattle.coap_types.specs.declared.request.Method.TheVariants as method
 use Rattle.coap_client.specs.declared.client.report.Report as R
 use Rattle.coap_client.specs.declared.client.report.Report.TheVariants as report
-use Rattle.coap_commands.specs.Asks.{changed_report, changed_status, got_report, got_status, status_after}
-use Rattle.coap_commands.specs.Discovers.{IsShown, Shows}
-use Rattle.coap_commands.specs.Hosts.{IsServer}
-use Rattle.coap_commands.specs.Observes.{observed_report, observed_status}
+use Rattle.coap_waits.specs.Asks.{changed_report, changed_status, got_report, got_status, status_after}
+use Rattle.coap_asking.specs.Discovers.{IsShown, Shows}
+use Rattle.coap_wires.specs.Hosts.{IsServer}
+use Rattle.coap_asking.specs.Observes.{observed_report, observed_status}
 use Rattle.coap_commands.specs.Pairs.{IsPaired}
-use Rattle.coap_commands.specs.Polls.{Reading, read_status}
+use Rattle.coap_asking.specs.Polls.{Reading, read_status}
 use Rattle.coap_server.specs.Led.{State}
-use Rattle.coap_commands.specs.Asked.{IsOrigin}
-use Rattle.coap_commands.specs.Kept.{IsGoneOn, IsServedAsSaid, IsServedOn}
-use Rattle.coap_commands.specs.Served.{IsServed, IsServedFrom}
-use Rattle.coap_commands.specs.ScriptSettings.{AnyText, AreOfScriptIn, IsBadInScript}
+use Rattle.coap_wires.specs.Words.{IsOrigin}
+use Rattle.coap_serving.specs.Kept.{IsGoneOn, IsServedAsSaid, IsServedOn}
+use Rattle.coap_serving.specs.Served.{IsServed, IsServedFrom}
+use Rattle.coap_serving.specs.ScriptSettings.{AnyText, AreOfScriptIn, IsBadInScript}
 use Rattle.coap_scripts.specs.Settings.{Setting as SettingSpec}
-use Rattle.coap_commands.specs.Tasks.{Does, IsAsked, IsDiscovered}
-use Rattle.coap_commands.specs.Watches.{reported, verdict}
-use Rattle.coap_commands.specs.declared.asking.Task.{Task}
-use Rattle.coap_commands.specs.declared.asking.Task.TheVariants as tasks
-use Rattle.coap_commands.specs.declared.anew.Left.{Left}
-use Rattle.coap_commands.specs.declared.anew.Left.TheVariants.{Ended, Silent}
+use Rattle.coap_asking.specs.Tasks.{Does, IsAsked, IsDiscovered}
+use Rattle.coap_asking.specs.Watches.{reported, verdict}
+use Rattle.coap_asking.specs.declared.asking.Task.{Task}
+use Rattle.coap_asking.specs.declared.asking.Task.TheVariants as tasks
+use Rattle.coap_asking.specs.declared.anew.Left.{Left}
+use Rattle.coap_asking.specs.declared.anew.Left.TheVariants.{Ended, Silent}
 use Rattle.coap_arguments.specs.declared.hosts.Server.{Server as ServerSpec}
 use Rattle.coap_types.specs.declared.endpoint.Endpoint.{Endpoint}
 use Rattle.coap_client.specs.Object.CallShown.{shown_request}
-use Rattle.coap_commands.specs.declared.calling.Outcome.{Outcome}
-use Rattle.coap_commands.specs.declared.calling.Outcome.TheVariants as outcome
-use Rattle.coap_commands.specs.Statuses.{CarriesOut, Ends, IsAnswered, IsCarriedOut, IsCarriedTo, IsTold, ReadsText}
+use Rattle.coap_waits.specs.declared.calling.Outcome.{Outcome}
+use Rattle.coap_waits.specs.declared.calling.Outcome.TheVariants as outcome
+use Rattle.coap_commands.specs.Statuses.{CarriesOut, Ends, IsAnswered, IsCarriedTo, IsTold, ReadsText}
+use Rattle.coap_answers.specs.Statuses.{IsCarriedOut}
 use Rattle.coap_commands.specs.Statuses.{status_of}
-use Rattle.coap_scripts.specs.StatusNumbers.{status_number}
+use Rattle.coap_status.specs.StatusNumbers.{status_number}
 use Rattle.coap_arguments.specs.Words.{AsksFor, EntersWrong, IsWrong}
-use Rattle.coap_scripts.specs.declared.status.Status.{Status}
-use Rattle.coap_scripts.specs.declared.status.Status.TheVariants as status
-use Rattle.coap_scripts.specs.declared.status.Stop.{Stop}
-use Rattle.coap_scripts.specs.declared.status.Stop.TheVariants as stop
+use Rattle.coap_status.specs.declared.status.Status.{Status}
+use Rattle.coap_status.specs.declared.status.Status.TheVariants as status
+use Rattle.coap_status.specs.declared.status.Stop.{Stop}
+use Rattle.coap_status.specs.declared.status.Stop.TheVariants as stop
 use Rattle.coap_arguments.specs.declared.orders.Journal.{Journal}
 use Rattle.coap_arguments.specs.declared.orders.Order.{Order}
 use Rattle.coap_arguments.specs.declared.orders.Order.TheVariants.{Version, Show, Dump, Answer, Pair, Serve, Ask}
@@ -55,13 +56,13 @@ use Rattle.coap_arguments.specs.declared.orders.Wrong.TheVariants.{Together, NoP
 use Rattle.coap_layer.specs.Machine.State.{usual}
 use Rattle.coap_record.specs.declared.addresses.TheConstants.{CLIENT_END as client_end}
 use Rattle.coap_types.specs.declared.body_limit.TheConstants.{DEFAULT_BODY_LIMIT as default_limit}
-use Rattle.coap_commands.specs.Answering.{PrintsAnswer}
-use Rattle.coap_commands.specs.Dumps as dumps
-use Rattle.coap_commands.specs.Ends.{server_limits}
-use Rattle.coap_commands.specs.PingLines.{EndWith, IsPinged}
+use Rattle.coap_answers.specs.Answering.{PrintsAnswer}
+use Rattle.coap_answers.specs.Shown as shown
+use Rattle.coap_answers.specs.Ends.{server_limits}
+use Rattle.coap_asking.specs.PingLines.{EndWith, IsPinged}
 use Rattle.coap_arguments.specs.declared.orders.PingOptions.{PingOptions}
 use Rattle.coap_commands.proofs.PairCalls.{paired_carried}
-use Rattle.coap_commands.proofs.SentTexts.{carried}
+use Rattle.coap_answers.proofs.SentTexts.{carried}
 use Rattle.coap_arguments.proofs.Facts.OneAnswer.{hex_or_wrong, order_or_wrong}
 
 -- ---- the statuses
@@ -364,7 +365,7 @@ gone_ends old new s count options at start (inr done) = inl done.0
 
 kept_ends : (old new : Option (List ℕ)) (s : Status) (count : ℕ) (options : ServeOptions) (journal : Journal)
     → IsServedOn old new count options journal s → IsCarriedOut s
-kept_ends old new s count options journal served = gone_ends old new s count options served.3 served.5 served.7
+kept_ends old new s count options journal served = gone_ends old new s count options served.3 served.6 served.9
 
 kept_carried : (old new : Option (List ℕ)) (ended : Result Status Stop) (count : ℕ) (options : ServeOptions)
     (journal : Journal)
@@ -385,14 +386,14 @@ version_done (Ok s) is = inl is
 version_done (Err stop) is = tt
 
 -- a datagram that is shown, and one that is answered
-datagram_carried : (datagram : List ℕ) (s : Status) → dumps.IsShown datagram s → IsCarriedOut s
+datagram_carried : (datagram : List ℕ) (s : Status) → shown.IsShown datagram s → IsCarriedOut s
 datagram_carried datagram status.Done h = inl refl
 datagram_carried datagram status.Refused h = inr refl
 datagram_carried datagram status.Words h = absurd h
 datagram_carried datagram status.Failed h = absurd h
 datagram_carried datagram status.Memory h = absurd h
 
-shown_done : (datagram : List ℕ) (ended : Result Status Stop) → IfOk ended (dumps.IsShown datagram)
+shown_done : (datagram : List ℕ) (ended : Result Status Stop) → IfOk ended (shown.IsShown datagram)
     → IfOk ended IsCarriedOut
 shown_done datagram (Ok s) h = datagram_carried datagram s h
 shown_done datagram (Err stop) h = tt

@@ -3,8 +3,8 @@ use Rattle.std.specs.Prelude.{ℕ}
 use Rattle.coap_client.specs.Led.{State, Step}
 use Rattle.coap_client.specs.Trace.{Call}
 use Rattle.coap_links.specs.declared.tally.Tally.{Tally}
-use Rattle.coap_commands.specs.Asks.{Turned}
-use Rattle.coap_commands.specs.Linked.{PassesNothing}
+use Rattle.coap_waits.specs.Asks.{Turned}
+use Rattle.coap_waits.specs.Linked.{PassesNothing}
 use Rattle.coap_commands.specs.declared.side.Side.{Side}
 
 -- An end has a turn over its link at the moment that a clock tells, and then what is out is sent. (`tells` is which

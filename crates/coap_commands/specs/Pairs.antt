@@ -12,15 +12,15 @@ use Rattle.coap_client.specs.Trace.{Call, Calls, Request}
 use Rattle.coap_client.specs.declared.client.report.Report as R
 use Rattle.coap_client.specs.declared.client.report.Report.TheVariants as report
 use Rattle.coap_arguments.specs.declared.orders.WordChoice.{WordChoice}
-use Rattle.coap_commands.specs.Asked.{IsWord}
-use Rattle.coap_commands.specs.Asks.{AsksNothing, Each, changed_status, takes_report}
-use Rattle.coap_commands.specs.Ends.{client_sizes}
+use Rattle.coap_wires.specs.Words.{IsWord}
+use Rattle.coap_waits.specs.Asks.{AsksNothing, Each, changed_status, takes_report}
+use Rattle.coap_waits.specs.Terms.{client_sizes}
 use Rattle.coap_commands.specs.Printed.{WritesGet, WritesPut}
 use Rattle.coap_scripts.specs.Script.{plain_request}
-use Rattle.coap_commands.specs.declared.calling.Outcome.{Outcome}
-use Rattle.coap_commands.specs.declared.calling.Outcome.TheVariants.{GaveUp, Refused, Reported}
-use Rattle.coap_scripts.specs.declared.status.Status.{Status}
-use Rattle.coap_scripts.specs.declared.status.Status.TheVariants as status
+use Rattle.coap_waits.specs.declared.calling.Outcome.{Outcome}
+use Rattle.coap_waits.specs.declared.calling.Outcome.TheVariants.{GaveUp, Refused, Reported}
+use Rattle.coap_status.specs.declared.status.Status.{Status}
+use Rattle.coap_status.specs.declared.status.Status.TheVariants as status
 
 -- A client to which these calls had led, the newest first, was handed the request, and nothing else: it refused it; or
 -- it took it, and then this was reported of it. Then these calls have led to it, the second ones.

@@ -6,20 +6,20 @@ use Rattle.coap_layer.specs.Machine.State.{usual}
 use Rattle.coap_record.specs.Events.{Event}
 use Rattle.coap_record.specs.declared.addresses.TheConstants.{CLIENT_END as client_end}
 use Rattle.coap_types.specs.declared.body_limit.TheConstants.{DEFAULT_BODY_LIMIT as default_limit}
-use Rattle.coap_commands.specs.Answering.{PrintsAnswer}
-use Rattle.coap_commands.specs.Captured.{IsCaptureStatus}
-use Rattle.coap_commands.specs.Dumps.{IsShown}
-use Rattle.coap_commands.specs.Ends.{server_limits}
+use Rattle.coap_answers.specs.Answering.{PrintsAnswer}
+use Rattle.coap_showing.specs.Captured.{IsCaptureStatus}
+use Rattle.coap_answers.specs.Shown.{IsShown}
+use Rattle.coap_answers.specs.Ends.{server_limits}
 use Rattle.coap_commands.specs.Pairs.{IsPaired}
-use Rattle.coap_commands.specs.Kept.{IsServedAsSaid}
-use Rattle.coap_commands.specs.PingLines.{IsPinged}
-use Rattle.coap_commands.specs.Tasks.{IsAsked, IsDiscovered}
-use Rattle.coap_scripts.specs.StatusNumbers.{status_number}
+use Rattle.coap_serving.specs.Kept.{IsServedAsSaid}
+use Rattle.coap_asking.specs.PingLines.{IsPinged}
+use Rattle.coap_asking.specs.Tasks.{IsAsked, IsDiscovered}
+use Rattle.coap_status.specs.StatusNumbers.{status_number}
 use Rattle.coap_scripts.specs.Sims.{IsSim, sim_config}
-use Rattle.coap_scripts.specs.declared.status.Status.{Status}
-use Rattle.coap_scripts.specs.declared.status.Status.TheVariants as status
-use Rattle.coap_scripts.specs.declared.status.Stop.{Stop}
-use Rattle.coap_scripts.specs.declared.status.Stop.TheVariants as stop
+use Rattle.coap_status.specs.declared.status.Status.{Status}
+use Rattle.coap_status.specs.declared.status.Status.TheVariants as status
+use Rattle.coap_status.specs.declared.status.Stop.{Stop}
+use Rattle.coap_status.specs.declared.status.Stop.TheVariants as stop
 use Rattle.coap_arguments.specs.declared.orders.Order.{Order}
 use Rattle.coap_arguments.specs.declared.orders.Order.TheVariants.{Answer, Ask, Discover, Dump, DumpCapture}
 use Rattle.coap_arguments.specs.declared.orders.Order.TheVariants.{Pair, Ping, Serve, Show, Sim, Version}
@@ -27,20 +27,13 @@ use Rattle.coap_arguments.specs.declared.orders.Wrong.{Wrong}
 use Rattle.coap_arguments.specs.declared.orders.Wrong.TheVariants.{Words, Path, Number, Word, Address, Size, Tags}
 use Rattle.coap_arguments.specs.declared.orders.Wrong.TheVariants.{Setting, Body, Store, Plains, Ends as NoEnds}
 use Rattle.coap_arguments.specs.declared.orders.Wrong.TheVariants.{Together, NoPath, Uri, Beside, Hex, Memory}
+use Rattle.coap_showing.specs.Dumps.{IsOfScript}
 
 -- the status of a run that came to its end, or stopped
 abbrev pub status_of : Result Status Stop → Status
 status_of (Ok s) = s
 status_of (Err stop.Failed) = status.Failed
 status_of (Err stop.Memory) = status.Memory
-
--- what an order comes to that is carried out to its end, where it reads no text
-abbrev pub IsCarriedOut : Status → Type 0
-IsCarriedOut s = (s ≡ status.Done) ⊎ (s ≡ status.Refused)
-
--- what a text comes to that can be read: it may be one that can't be read as a script, or as lines of hex
-abbrev pub IsOfScript : Status → Type 0
-IsOfScript s = (s ≡ status.Done) ⊎ ((s ≡ status.Refused) ⊎ (s ≡ status.Words))
 
 -- the order reads a text: a script, or lines of hex; or a capture
 abbrev pub ReadsText : Order → Type 0

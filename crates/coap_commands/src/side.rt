@@ -2,14 +2,13 @@
 ghost use Rattle.std.specs.Prelude.{◌≡◌, [], Ok, OnOk};
 ghost use Rattle.coap_links.specs.Pumping.{SendsAll};
 ghost use Rattle.coap_links.specs.Turning.{Turns};
-ghost use Rattle.coap_commands.specs.Bearing.{borne_in_all};
+ghost use Rattle.coap_wires.specs.Bearing.{borne_in_all};
 ghost use Rattle.coap_commands.specs.PairTurns.{SideTurns};
 
-use crate::bearing::bear_in_all;
-use crate::timekeeper::Timekeeper;
 use coap_ends::End;
 use coap_links::{Link, Tally, fresh_tally, send_all, turn};
-use coap_scripts::Stop;
+use coap_status::Stop;
+use coap_wires::{Timekeeper, bear_in_all};
 use std::alloc::Global;
 
 /// An end, the link that it sends over, and what counts over its turns.

@@ -1,8 +1,8 @@
 //! `--version`: which version of the program it is, and which logic of the toolchain proves it.
 ghost use Rattle.std.specs.Prelude.{◌≡◌, IfOk};
-ghost use Rattle.coap_scripts.specs.declared.status.Status.TheVariants as statuses;
+ghost use Rattle.coap_status.specs.declared.status.Status.TheVariants as statuses;
 
-use coap_scripts::{Status, Stop};
+use coap_status::{Status, Stop};
 use std::io::Write;
 
 // The version of the program: that of the library too.

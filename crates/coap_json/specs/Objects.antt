@@ -5,6 +5,7 @@ use Rattle.hex.specs.Hex.{encode_lower}
 use Rattle.json.specs.Json.{Json, null, number, string, object, Members, no_members, member, document}
 use Rattle.json.specs.Print.{print}
 use Rattle.json.specs.Tree.{json_tokens}
+use Rattle.std.specs.Io.KnownBytes.{Appends}
 
 -- a member: its name and its value
 abbrev pub Field : Type 0
@@ -60,3 +61,7 @@ line_of value = print (json_tokens value) ++ 10 ∷ []
 pub record IsLineOf (line : List ℕ) (value : Json) : Type 0 where
   pub text : line ≡ line_of value
   pub reads : document (print (json_tokens value)) ≡ Some value
+
+-- the line of an object is written behind what a writer has
+abbrev pub WritesObject : (old new : Option (List ℕ)) → Json → Type 0
+WritesObject old new value = (line : List ℕ) × IsLineOf line value × Appends old new line

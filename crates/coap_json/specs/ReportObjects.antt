@@ -1,4 +1,4 @@
--- What is told of a report of a client: its name, and the members that the table in docs/PROTOCOL.md has for it.
+-- What is told of a report of a client: its name, and the members that the table in docs/PROGRAM.md has for it.
 use Rattle.std.specs.Prelude.{ℕ, List, [], ◌∷◌, ◌++◌, codes, Option}
 use Rattle.json.specs.Json.{Json, string}
 use Rattle.coap_types.specs.Text.{code_text}

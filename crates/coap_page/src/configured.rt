@@ -6,10 +6,11 @@ ghost use Rattle.coap_scripts.specs.Sims.{sim_config};
 ghost use Rattle.coap_page.specs.Plains.{AreTooMany, HasNoPlains};
 ghost use Rattle.coap_page.specs.Runs.{IsConfigured};
 
+use coap_common::largest_szx;
 use coap_ends::PlainRefusal;
 use coap_resource::MAX_CHANGES_PER_WINDOW;
 use coap_run::WorldConfig;
-use coap_scripts::{ScriptRefusal, largest_szx, paths_of};
+use coap_scripts::{ScriptRefusal, paths_of};
 use coap_types::Path;
 use std::alloc::Allocator;
 

@@ -1,9 +1,10 @@
 //! What came of a run, with all that is drawn of it.
-use coap_print::{DatagramWords, EndpointWords, PathWords, code_name, hex_or_dash, report_text};
+use coap_print::{DatagramWords, EndpointWords, PathWords, code_name, hex_or_dash};
 use coap_resource::Representation;
 use coap_run::{
     AppliedRequest, CLIENT_END, Change, Event, Given, Kind, Line, Record, SERVER_END, Side, What,
 };
+use coap_scripts::report_text;
 use coap_types::Path;
 use std::alloc::Allocator;
 use std::io;

@@ -9,9 +9,9 @@ use crate::ended::Ended;
 use crate::into_room::Printing;
 use crate::played::play_run;
 use crate::room::{NoMemory, Told};
-use coap_print::{Ink, draw_run, tell_run};
+use coap_print::Ink;
 use coap_run::{Event, Record, RunRefusal, WorldConfig, run};
-use coap_scripts::{ScriptRefusal, USUAL_ENDS, events_of};
+use coap_scripts::{ScriptRefusal, USUAL_ENDS, draw_run, events_of, tell_run};
 use std::alloc::Allocator;
 use std::io;
 

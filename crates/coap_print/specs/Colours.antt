@@ -1,13 +1,9 @@
 -- Colours of lines on a terminal (ECMA-48, section 8.3.117): ESC and [ begin a sign; 36 is cyan, 32 green, and 0 ends
 -- both.
 use Rattle.std.specs.Prelude.{ℕ, List, ◌∷◌, [], Bool, true, false, codes}
-use Rattle.coap_print.specs.declared.chart.sheet.Form.{Form}
-use Rattle.coap_print.specs.declared.chart.sheet.Form.TheVariants.{Arrives, FromElsewhere, Lost, Note, Sent}
-use Rattle.coap_print.specs.declared.chart.sheet.Form.TheVariants.{ToElsewhere}
 use Rattle.coap_print.specs.declared.colours.Colour.{Colour}
 use Rattle.coap_print.specs.declared.colours.Colour.TheVariants.{Cyan, Green, Usual}
 use Rattle.coap_print.specs.declared.printing.Ink.{Ink}
-use Rattle.coap_print.specs.declared.printing.Ink.TheVariants.{Coloured, Plain}
 use Rattle.coap_print.specs.declared.printing.Printing.{Printing}
 use Rattle.coap_print.specs.declared.printing.Printing.TheVariants.{Chart, Lines}
 
@@ -26,16 +22,6 @@ abbrev pub sign_behind : Colour → List ℕ
 sign_behind Usual = []
 sign_behind Cyan = escape ∷ codes "[0m"
 sign_behind Green = escape ∷ codes "[0m"
-
--- the colour of a row of a chart: cyan where a datagram goes, green where one comes
-abbrev pub row_colour : Ink → Form → Colour
-row_colour Plain form = Usual
-row_colour Coloured Note = Usual
-row_colour Coloured Sent = Cyan
-row_colour Coloured Lost = Cyan
-row_colour Coloured ToElsewhere = Cyan
-row_colour Coloured Arrives = Green
-row_colour Coloured FromElsewhere = Green
 
 -- how a run or a capture is printed, as a chart where one is asked for
 abbrev pub printing_of : Bool → Ink → Printing

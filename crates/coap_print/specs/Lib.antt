@@ -1,14 +1,9 @@
-pub mod Charts
-pub mod Colours
 pub mod CodeNames
+pub mod Colours
 pub mod Datagrams
-pub mod Happenings
-pub mod Lines
 pub mod OptionNames
 pub mod Places
 pub mod Printable
-pub mod ReportWords
 pub mod Segments
-pub mod Traffic
-pub mod TrafficWords
+pub mod Spelled
 pub mod Values

@@ -99,7 +99,8 @@ fn write_head<W: fmt::Write>(f: &mut fmt::Formatter<W>, message: &View<'_>) -> f
 }
 
 /// What a code is called, a space in front; nothing where it has no name.
-pub(crate) fn write_name<W: fmt::Write>(f: &mut fmt::Formatter<W>, code: Code) -> fmt::Result
+pub fn write_name<W: fmt::Write>(f: &mut fmt::Formatter<W>, code: Code) -> fmt::Result
+    // What is written of a code is a blank and its name, and nothing of a code that has none.
     ensures { WritesOnOk W.write_str_gives f.old result (name_text code.0) f.new }
 {
     match code_name(code) {
@@ -121,7 +122,8 @@ fn write_asked<W: fmt::Write>(f: &mut fmt::Formatter<W>, message: &View<'_>) -> 
 }
 
 /// How many bytes there are, a comma in front; nothing where there are none.
-pub(crate) fn write_len<W: fmt::Write>(f: &mut fmt::Formatter<W>, len: usize) -> fmt::Result
+pub fn write_len<W: fmt::Write>(f: &mut fmt::Formatter<W>, len: usize) -> fmt::Result
+    // What is written of a number of bytes is that number behind a comma, and nothing of none.
     ensures { WritesOnOk W.write_str_gives f.old result (length_text len) f.new }
 {
     if len > 0 {

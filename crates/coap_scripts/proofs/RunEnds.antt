@@ -15,9 +15,9 @@ use Rattle.coap_scripts.specs.Script.{EachSays, IsFirstBad, SaysEvent, lines_of}
 use Rattle.coap_scripts.specs.Sims.{AreTooMany, IsSim, IsSimOf, IsUnset, bad_line_text, each_once, sim_config}
 use Rattle.coap_scripts.specs.declared.script.refusal.ScriptRefusal.{ScriptRefusal}
 use Rattle.coap_scripts.specs.declared.script.refusal.ScriptRefusal.TheVariants.{Line}
-use Rattle.coap_scripts.specs.declared.status.Status.{Status}
-use Rattle.coap_scripts.specs.declared.status.Status.TheVariants.{Done, Refused, Words}
-use Rattle.coap_scripts.specs.declared.status.Stop.{Stop}
+use Rattle.coap_status.specs.declared.status.Status.{Status}
+use Rattle.coap_status.specs.declared.status.Status.TheVariants.{Done, Refused, Words}
+use Rattle.coap_status.specs.declared.status.Stop.{Stop}
 
 -- it came to its end
 pub of_run : (config : Config) (events : List Event) (answer : Result Log RunRefusal) (log : Log)

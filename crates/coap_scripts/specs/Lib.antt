@@ -1,6 +1,12 @@
+pub mod Charts
+pub mod Happenings
+pub mod Lines
+pub mod ReportWords
+pub mod Reports
 pub mod Script
 pub mod ScriptRefusals
 pub mod ScriptWords
 pub mod Settings
 pub mod Sims
-pub mod StatusNumbers
+pub mod Traffic
+pub mod TrafficWords

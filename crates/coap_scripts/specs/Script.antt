@@ -17,7 +17,7 @@ use Rattle.coap_run.specs.declared.running.event.Side.TheVariants.{Client, Serve
 use Rattle.coap_arguments.specs.PathText.{IsPathText}
 use Rattle.coap_scripts.specs.ScriptWords.{IsCut, IsWord, SaysNumber, kind_word, method_word, side_word}
 use Rattle.coap_scripts.specs.declared.script.words.Kind.TheVariants as kind
-use Rattle.coap_scripts.specs.declared.usual.TheConstants.{TEXT_PLAIN as text_plain}
+use Rattle.coap_common.specs.declared.usual.TheConstants.{TEXT_PLAIN as text_plain}
 
 -- the word is a path, which holds no more than a path may
 abbrev pub NamesPath : List ℕ → List (List ℕ) → Type 0

@@ -12,8 +12,8 @@ use Rattle.coap_record.specs.declared.addresses.Addresses.{Addresses}
 use Rattle.coap_run.specs.Run.Log.{Log}
 use Rattle.coap_run.specs.Run.Runs.{IsFirstWrong, IsRunOf}
 use Rattle.coap_scripts.specs.Script.{EachSays, IsFirstBad, SaysEvent, lines_of}
-use Rattle.coap_scripts.specs.declared.status.Status.{Status}
-use Rattle.coap_scripts.specs.declared.status.Status.TheVariants as status
+use Rattle.coap_status.specs.declared.status.Status.{Status}
+use Rattle.coap_status.specs.declared.status.Status.TheVariants as status
 
 -- an end: with word 0, and so many remembered messages
 abbrev pub sim_setup : ℕ → Setup

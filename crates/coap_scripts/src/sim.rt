@@ -8,19 +8,21 @@ ghost use Rattle.coap_run.specs.Run.Runs.{IsFirstWrong, IsRunOf};
 ghost use Rattle.coap_run.specs.declared.running.RunRefusal.TheVariants.{NotLegal};
 ghost use Rattle.coap_scripts.specs.Sims.{AreTooMany, IsSim, IsSimOf, IsUnset, bad_line_text, not_legal_text};
 ghost use Rattle.coap_scripts.specs.Sims.{sim_config};
-ghost use Rattle.coap_scripts.specs.declared.status.Status.TheVariants.{Done, Refused, Words};
+ghost use Rattle.coap_status.specs.declared.status.Status.TheVariants.{Done, Refused, Words};
 
 use crate::capture::capture_run;
+use crate::chart::draw_run;
+use crate::run_lines::tell_run;
 use crate::script::{ScriptRefusal, events_of};
-use crate::status::{Status, Stop, stop_of};
-use crate::usual::largest_szx;
 use coap_arguments::StoreKind;
+use coap_common::largest_szx;
 use coap_ends::{MAX_PLAINS, PlainRefusal};
-use coap_print::{Printing, draw_run, tell_run};
+use coap_print::Printing;
 use coap_resource::{ListStore, MAX_CHANGES_PER_WINDOW, MapStore};
 use coap_run::{
     Addresses, CLIENT_END, Event, Record, RunRefusal, SERVER_END, WorldConfig, run_with,
 };
+use coap_status::{Status, Stop, stop_of};
 use coap_types::{Path, Remembered};
 use std::alloc::Allocator;
 use std::fs;

@@ -9,11 +9,12 @@ ghost use Rattle.coap_scripts.specs.Script.{SaysEvent, SaysParts, SaysPath, Says
 ghost use Rattle.coap_scripts.specs.Script.{SaysStranger, SaysWhat};
 ghost use Rattle.coap_run.specs.declared.running.event.Side.{Side as SideSpec};
 
+use crate::requests::plain;
 use crate::script::fields::{cut, last_word, number, path, side};
 use crate::script::refusal::LineRefusal;
 use crate::script::words::{Kind, kind_named, method_named};
-use crate::usual::{TEXT_PLAIN, plain};
 use bytes::Bytes;
+use coap_common::TEXT_PLAIN;
 use coap_ends::CallId;
 use coap_run::{Event, Side, What};
 use coap_types::{Endpoint, Method, Moment, Path, Request};

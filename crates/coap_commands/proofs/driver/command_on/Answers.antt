@@ -1,6 +1,6 @@
 use Rattle.std.proofs.Common.{◌≡◌, ◌∙◌, ◌≤◌, ap, sym, subst}
 use Rattle.coap_commands.specs.Statuses.{IsAnswered, IsCarriedTo, status_of}
-use Rattle.coap_scripts.specs.StatusNumbers.{status_number}
+use Rattle.coap_status.specs.StatusNumbers.{status_number}
 use Rattle.coap_commands.proofs.Statuses.{answered, asked, wrong_words}
 use Rattle.coap_commands.proofs.driver.command_on.Goals as goal
 

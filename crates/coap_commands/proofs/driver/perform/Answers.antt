@@ -3,9 +3,9 @@ use Rattle.coap_arguments.specs.declared.orders.Order.{Order}
 use Rattle.coap_layer.specs.Machine.State.{usual}
 use Rattle.coap_record.specs.declared.addresses.TheConstants.{CLIENT_END as client_end}
 use Rattle.coap_types.specs.declared.body_limit.TheConstants.{DEFAULT_BODY_LIMIT as default_limit}
-use Rattle.coap_commands.specs.Answering.{PrintsAnswer}
-use Rattle.coap_commands.specs.Dumps.{IsShown}
-use Rattle.coap_commands.specs.Ends.{server_limits}
+use Rattle.coap_answers.specs.Answering.{PrintsAnswer}
+use Rattle.coap_answers.specs.Shown.{IsShown}
+use Rattle.coap_answers.specs.Ends.{server_limits}
 use Rattle.coap_commands.specs.Statuses.{CarriesOut}
 use Rattle.coap_commands.proofs.driver.perform.Goals as goal
 

@@ -1,4 +1,4 @@
-use Rattle.coap_commands.specs.Asked.{IsDrawnWord, IsWord}
+use Rattle.coap_wires.specs.Words.{IsDrawnWord, IsWord}
 use Rattle.coap_commands.proofs.PairCalls.{paired_by}
 use Rattle.coap_commands.proofs.pair.pair.Goals as goal
 

@@ -1,8 +1,8 @@
 use Rattle.std.proofs.Common.{refl}
-use Rattle.coap_commands.specs.Asks.{AsksNothing}
+use Rattle.coap_waits.specs.Asks.{AsksNothing}
 use Rattle.coap_commands.specs.PairTurns.{further, none}
-use Rattle.coap_commands.proofs.SettingUpCalls.{none_is}
-use Rattle.coap_commands.proofs.TurnCalls.{turned_here, turned_on}
+use Rattle.coap_common.proofs.Facts.{none_is}
+use Rattle.coap_waits.proofs.Facts.{turned_here, turned_on}
 use Rattle.coap_commands.proofs.pair.reported.Goals as goal
 
 pub loop-turn-init : goal.loop-turn-init

@@ -1,7 +1,7 @@
 use Rattle.coap_links.specs.Pumping.{SendsAll}
 use Rattle.coap_links.specs.Turning.{Turns}
-use Rattle.coap_commands.specs.Asks.{AsksNothing, Turned}
-use Rattle.coap_commands.specs.Linked.{HasSent, HasTurn}
+use Rattle.coap_waits.specs.Asks.{AsksNothing, Turned}
+use Rattle.coap_waits.specs.Linked.{HasSent, HasTurn}
 use Rattle.coap_commands.specs.PairTurns.{Alternate, SideTurns, TakesTurn}
 use Rattle.coap_commands.proofs.pair.reported.Given as goal
 

@@ -1,6 +1,6 @@
 use Rattle.std.proofs.Common.{◌≡◌, rules}
-use Rattle.coap_commands.specs.Asks.{got_status}
-use Rattle.coap_scripts.specs.declared.status.Status.TheVariants as status
+use Rattle.coap_waits.specs.Asks.{got_status}
+use Rattle.coap_status.specs.declared.status.Status.TheVariants as status
 use Rattle.coap_commands.proofs.PairTexts.{get_said}
 use Rattle.coap_commands.proofs.pair.tell_get.Goals as goal
 

@@ -1,6 +1,6 @@
 use Rattle.std.proofs.Common.{◌≡◌, rules}
-use Rattle.coap_commands.specs.Asks.{changed_status}
-use Rattle.coap_scripts.specs.declared.status.Status.TheVariants as status
+use Rattle.coap_waits.specs.Asks.{changed_status}
+use Rattle.coap_status.specs.declared.status.Status.TheVariants as status
 use Rattle.coap_commands.proofs.PairTexts.{put_said}
 use Rattle.coap_commands.proofs.pair.tell_put.Goals as goal
 

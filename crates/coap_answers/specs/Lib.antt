@@ -1,0 +1,5 @@
+pub mod Answering
+pub mod Ends
+pub mod Printed
+pub mod Shown
+pub mod Statuses

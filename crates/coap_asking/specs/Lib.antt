@@ -1,0 +1,11 @@
+pub mod Asked
+pub mod Discovers
+pub mod JsonValues
+pub mod ObservedTurns
+pub mod Observes
+pub mod PingLines
+pub mod Pinged
+pub mod Polls
+pub mod Printed
+pub mod Tasks
+pub mod Watches

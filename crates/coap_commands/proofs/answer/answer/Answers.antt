@@ -1,8 +1,0 @@
-use Rattle.coap_commands.specs.Ends.{server_limits}
-use Rattle.coap_commands.proofs.SentTexts.{carried, if_reply}
-use Rattle.coap_commands.proofs.answer.answer.Goals as goal
-
-pub returns-clause-status : goal.returns-clause-status
-returns-clause-status g c =
-    if_reply c.held_reply-ended.result (carried _ _ _ _ _ _ _ _ _ _)
-    (c.held_reply-ended.ensures (server_limits c.default.result) c.new.result c.fresh_server-server.ensures)

@@ -1,4 +1,0 @@
-use Rattle.coap_commands.proofs.captured.spells.Goals as goal
-
-pub returns-in-Err-clause-no : goal.returns-in-Err-clause-no
-returns-in-Err-clause-no c = λ is said. c.in-Err.ensures.none said.0 said.1

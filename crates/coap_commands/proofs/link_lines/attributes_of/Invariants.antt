@@ -1,5 +1,0 @@
-use Rattle.std.proofs.Common.{length}
-use Rattle.coap_commands.proofs.link_lines.attributes_of.Given as goal
-
-abbrev pub decreases-attributes : goal.decreases-attributes
-decreases-attributes l = length l.left

@@ -1,5 +1,0 @@
-use Rattle.coap_commands.proofs.KeptCalls.{no_answer}
-use Rattle.coap_commands.proofs.serve.serve_on_journal.Goals as goal
-
-pub returns-in-Six : goal.returns-in-Six
-returns-in-Six g c = no_answer _ c.refuse_six.result c.refuse_six.ensures

@@ -1,0 +1,4 @@
+pub mod KeptCalls
+pub mod ScriptCalls
+pub mod ServedCalls
+pub mod SettingUpCalls

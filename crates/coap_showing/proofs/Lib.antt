@@ -1,0 +1,3 @@
+pub mod CapturedPackets
+pub mod DumpedLines
+pub mod ReadFiles

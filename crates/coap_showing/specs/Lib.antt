@@ -1,0 +1,4 @@
+pub mod Captured
+pub mod Colours
+pub mod Drawn
+pub mod Dumps

@@ -1,0 +1,5 @@
+pub mod Facts
+pub mod LinkedTurns
+pub mod TurnCalls
+pub mod WaitedTurns
+pub mod WhatBecomes

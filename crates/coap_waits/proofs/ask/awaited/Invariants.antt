@@ -1,0 +1,14 @@
+use Rattle.coap_waits.specs.Asks.{Turned, TurnsInTime}
+use Rattle.coap_waits.specs.Linked.{GoesOver}
+use Rattle.coap_wires.specs.Serves.{nothing_fed}
+use Rattle.coap_waits.proofs.ask.awaited.Given as goal
+
+-- so far the client was asked for nothing, in time, and goes on over its link
+abbrev pub invariant-loop-turn : goal.invariant-loop-turn
+invariant-loop-turn g l =
+    let link = g.L.Link in
+    record {
+      asked : Turned (TurnsInTime l.fn.terms.give_up l.fn.begin.0) l.fn.client l.client;
+      over : GoesOver link.sends link.receives link.fault_count l.fn.client l.fn.connection.link.now
+          (nothing_fed l.fn.terms.word) l.client l.connection.link.now l.tally;
+    }

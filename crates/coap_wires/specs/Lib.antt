@@ -1,0 +1,9 @@
+pub mod Bearing
+pub mod Capturing
+pub mod Colours
+pub mod Hosts
+pub mod Losses
+pub mod Serves
+pub mod Tracings
+pub mod Waiting
+pub mod Words
