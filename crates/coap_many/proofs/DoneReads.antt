@@ -5,7 +5,7 @@ use Rattle.coap_resource.specs.Content.{Held}
 use Rattle.coap_client.specs.Trace.{Request, Done}
 use Rattle.coap_client_laws.specs.Follows.Numbers.{NumbersOnce}
 use Rattle.coap_server.proofs.Facts.Holds.{held_is}
-use Rattle.coap_promise.specs.Agrees.{Agrees}
+use Rattle.coap_many.proofs.Promises.{Promises}
 use Rattle.coap_promise.specs.Applied.{Does}
 use Rattle.coap_many.specs.Clients.{Client, Config, IsClient, world_of}
 use Rattle.coap_many.specs.DoneReads.{IsDoneAt, IsNoOlder, LeavesNoNewer, ReadsWhatWasDone, ObservesWhatWasDone}
@@ -25,7 +25,7 @@ use Rattle.coap_many.proofs.ServerTrace.{Rows, Stamped, rows_back, stamped_back,
 use Rattle.coap_many.proofs.Wholes.{Law, wholes}
 
 module _ (config : Config) (all : List Entry)
-    (agrees : (k : Client) → IsClient config k → Agrees (world_of config k) (view_entries k.at all)) where
+    (agrees : (k : Client) → IsClient config k → Promises (world_of config k) (view_entries k.at all)) where
   module _ (k : Client) (m : ℕ) where
     -- a request of the call is applied here, and does this
     record Did (r : Request) (past : List Entry) (e : Entry) : Type 0 where

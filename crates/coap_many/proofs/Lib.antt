@@ -1,3 +1,4 @@
+pub mod Promises
 pub mod Entries
 pub mod Numbers
 pub mod Seen

@@ -14,7 +14,7 @@ use Rattle.coap_client.specs.Requests.{flag_option}
 use Rattle.coap_client.specs.Trace.{Request}
 use Rattle.coap_client_laws.specs.Follows.Numbers.{NumbersOnce}
 use Rattle.coap_server.specs.Follows.Serves.{Serving}
-use Rattle.coap_promise.specs.Agrees.{Agrees}
+use Rattle.coap_many.proofs.Promises.{Promises}
 use Rattle.coap_promise.specs.Applied.{Does, conditions_of}
 use Rattle.coap_many.specs.Agrees.{IsOf}
 use Rattle.coap_many.specs.Clients.{Client, Config, IsClient, world_of}
@@ -123,7 +123,7 @@ module _ (config : Config) where
         go past (rows_back config e past rows) (stamped_back config e past stamps) of_first.1 of_second.1 a b
 
   pub one_call_wins : (all : List Entry) → Rows config all → Stamped config all
-      → ((k : Client) → IsClient config k → Agrees (world_of config k) (view_entries k.at all))
+      → ((k : Client) → IsClient config k → Promises (world_of config k) (view_entries k.at all))
       → ((k l : Client) (m n : ℕ) (x : Serving) → IsOf config x all k m → IsOf config x all l n → (k ≡ l) × (m ≡ n))
       → OneCallWins config all
   one_call_wins all rows stamps agrees one k l of_k of_l m n path tag some a b =

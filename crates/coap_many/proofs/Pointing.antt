@@ -11,7 +11,7 @@ use Rattle.coap_client.specs.Trace.{Request, Report, Body, Valid, Value}
 use Rattle.coap_client_laws.specs.Follows.Numbers.{NumbersOnce, number_given}
 use Rattle.coap_client_laws.specs.Follows.OfObservations as O
 use Rattle.coap_server_laws.proofs.Facts.EachCall.{held_small}
-use Rattle.coap_promise.specs.Agrees.{Agrees}
+use Rattle.coap_many.proofs.Promises.{Promises}
 use Rattle.coap_promise.specs.Held.{ValueSince}
 use Rattle.coap_promise.specs.Rising.{Names}
 use Rattle.coap_many.specs.Clients.{Client, Config, IsClient, world_of}
@@ -29,7 +29,7 @@ use Rattle.coap_many.proofs.ServerTrace.{Stamped, stamped_back}
 use Rattle.coap_many.proofs.Told.{last_is}
 
 module _ (config : Config) (all : List Entry)
-    (agrees : (k : Client) → IsClient config k → Agrees (world_of config k) (view_entries k.at all)) where
+    (agrees : (k : Client) → IsClient config k → Promises (world_of config k) (view_entries k.at all)) where
   -- what an observation shows was held
   pub record ShowsValue (k : Client) (number : ℕ) (tag : Option (List ℕ)) (past : List Entry) (e : Entry) : Type 0 where
     path : List (List ℕ)

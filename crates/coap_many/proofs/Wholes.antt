@@ -4,7 +4,7 @@ use Rattle.coap_types.specs.Past.{Always}
 use Rattle.coap_resource.specs.RequestOptions.{precondition_fails}
 use Rattle.coap_client.specs.Trace.{Request}
 use Rattle.coap_server.specs.Follows.Holds.{changes}
-use Rattle.coap_promise.specs.Agrees.{Agrees}
+use Rattle.coap_many.proofs.Promises.{Promises}
 use Rattle.coap_promise.specs.Applied.{IsWhole, Does, conditions_of}
 use Rattle.coap_promise.specs.Words as W
 use Rattle.coap_many.specs.Clients.{Client, Config, world_of}
@@ -25,7 +25,7 @@ module _ (config : Config) (k : Client) (m : ℕ) (all : List Entry) where
   abbrev pub Law : List Entry → Entry → Type 0
   Law past e = AppliesFor config k m all past e → WholeAt past e
 
-  pub wholes : Agrees (world_of config k) (view_entries k.at all) → Always Law all
+  pub wholes : Promises (world_of config k) (view_entries k.at all) → Always Law all
   wholes agrees = always_up k.at
       (λ past e. (a : W.AppliesFor (world_of config k) m (view_entries k.at all) past e)
       → IsWhole (world_of config k) m past e a.request) Law

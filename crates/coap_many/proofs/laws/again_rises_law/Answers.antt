@@ -1,12 +1,14 @@
 use Rattle.coap_server_laws.proofs.Facts.Laws.{stamped}
 use Rattle.coap_many.specs.Entries.{entries_of, server_trace}
 use Rattle.coap_many.proofs.NeverBack.{again_rises}
+use Rattle.coap_many.proofs.Promises.{promises}
 use Rattle.coap_many.proofs.laws.again_rises_law.Goals as goal
 
 pub returns : goal.returns
 returns c = record {
   again_rises = λ clocks config events turns run legal.
-      again_rises config (entries_of turns) (c.agreement_of_many.ensures.each clocks config events turns run legal)
+      again_rises config (entries_of turns) (λ k client. promises
+      (c.agreement_of_many.ensures.each clocks config events turns run legal k client))
       run.server.rows
       (stamped config.limits config.szx config.setup (server_trace config (entries_of turns)) run.server);
 }

@@ -11,6 +11,7 @@ use Rattle.coap_many.proofs.Fresh.{are_fresh}
 use Rattle.coap_many.proofs.Lost.{refused_are_lost}
 use Rattle.coap_many.proofs.OneClock.{by_one_clock}
 use Rattle.coap_many.proofs.Owned.{all_owned}
+use Rattle.coap_many.proofs.Promises.{promises}
 use Rattle.coap_many.proofs.Seen.{is_member}
 use Rattle.coap_many.proofs.Clocked.{all_can_come, views_are_runs}
 use Rattle.coap_many.proofs.Views.{views_are_records}
@@ -31,14 +32,14 @@ returns-clause-bounded c = λ clocks config events turns run legal k client.
 pub returns-clause-points : goal.returns-clause-points
 returns-clause-points c = λ clocks config events turns run legal k client number report definite.
     let v = views_are_runs clocks config events turns run legal k client in
-    has_point config k (entries_of turns) (subst (Agrees (world_of config k)) v.seen.entries
-    (c.agreement.ensures.agrees _ (world_of config k) _ _ v.seen.made v.legal)) number report definite
+    has_point config k (entries_of turns) (promises (subst (Agrees (world_of config k)) v.seen.entries
+    (c.agreement.ensures.agrees _ (world_of config k) _ _ v.seen.made v.legal))) number report definite
 
 pub returns-clause-once : goal.returns-clause-once
 returns-clause-once c = λ clocks config events turns run legal k client number.
     let v = views_are_runs clocks config events turns run legal k client in
-    at_most_one config k (entries_of turns) (subst (Agrees (world_of config k)) v.seen.entries
-    (c.agreement.ensures.agrees _ (world_of config k) _ _ v.seen.made v.legal)) number
+    at_most_one config k (entries_of turns) (promises (subst (Agrees (world_of config k)) v.seen.entries
+    (c.agreement.ensures.agrees _ (world_of config k) _ _ v.seen.made v.legal))) number
 
 pub returns-clause-owned : goal.returns-clause-owned
 returns-clause-owned c = λ clocks config events turns run legal.
@@ -58,14 +59,14 @@ returns-clause-no_fault c = λ config events turns run range can.
 pub returns-clause-failed : goal.returns-clause-failed
 returns-clause-failed c = λ clocks config events turns run legal k client number code.
     let v = views_are_runs clocks config events turns run legal k client in
-    failed config k (entries_of turns) (subst (Agrees (world_of config k)) v.seen.entries
-    (c.agreement.ensures.agrees _ (world_of config k) _ _ v.seen.made v.legal)) number code
+    failed config k (entries_of turns) (promises (subst (Agrees (world_of config k)) v.seen.entries
+    (c.agreement.ensures.agrees _ (world_of config k) _ _ v.seen.made v.legal))) number code
 
 pub returns-clause-never_failed : goal.returns-clause-never_failed
 returns-clause-never_failed c = λ clocks config events turns run legal k client number code.
     let v = views_are_runs clocks config events turns run legal k client in
-    never config k (entries_of turns) (subst (Agrees (world_of config k)) v.seen.entries
-    (c.agreement.ensures.agrees _ (world_of config k) _ _ v.seen.made v.legal)) number code
+    never config k (entries_of turns) (promises (subst (Agrees (world_of config k)) v.seen.entries
+    (c.agreement.ensures.agrees _ (world_of config k) _ _ v.seen.made v.legal))) number code
 
 pub returns-clause-fresh : goal.returns-clause-fresh
 returns-clause-fresh c = λ clocks config events turns run legal k client.

@@ -1,0 +1,11 @@
+pub mod Agrees
+pub mod Applied
+pub mod Calls
+pub mod Example
+pub mod Fresh
+pub mod Held
+pub mod Inputs
+pub mod OfRecords
+pub mod Queue
+pub mod Reads
+pub mod Run
