@@ -1,0 +1,3 @@
+pub mod NoReset
+pub mod ByAnswers
+pub mod AllSent

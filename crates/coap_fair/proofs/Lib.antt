@@ -1,0 +1,6 @@
+pub mod Retransmitted
+pub mod Runs
+pub mod Requests
+pub mod Answers
+pub mod Young
+pub mod Witness

@@ -1,0 +1,4 @@
+pub mod Five
+pub mod Over
+pub mod Replayed
+pub mod TakenSoon

@@ -1,0 +1,5 @@
+pub mod Stands
+pub mod CopiesInTime
+pub mod FewArrive
+pub mod FewHeard
+pub mod YoungCalls

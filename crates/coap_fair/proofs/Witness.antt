@@ -1,0 +1,3 @@
+pub mod FairTests
+pub mod ThroughTests
+pub mod FifthComes

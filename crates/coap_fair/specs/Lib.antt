@@ -1,0 +1,4 @@
+pub mod FairLoss
+pub mod FairRuns
+pub mod FiveCopies
+pub mod LaterCopies

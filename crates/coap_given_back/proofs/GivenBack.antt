@@ -1,0 +1,9 @@
+pub mod Copied
+pub mod Counted
+pub mod LastSent
+pub mod Reported
+pub mod EachGivenBack
+pub mod InLine
+pub mod InRuns
+pub mod InTime
+pub mod Alone

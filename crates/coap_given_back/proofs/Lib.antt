@@ -1,0 +1,4 @@
+pub mod Young
+pub mod GivenBack
+pub mod AtAnyTime
+pub mod Witness
