@@ -1,0 +1,2 @@
+pub mod NoncesOnce
+pub mod TwoLives
