@@ -35,19 +35,26 @@ need() {
     done
 }
 
-# crates_of CRATE..: copies these crates of the repository into the scratch workspace, with the libraries that are built
-# of them. (What else earlier checks kept is gigabytes, and rt finds it where it is.)
-crates_of() {
+# sources_of CRATE..: copies these crates of the repository into the scratch workspace.
+sources_of() {
     for crate; do
         mkdir -p "$scratch/crates/$crate"
         for part in src specs proofs; do
             [ ! -d "$top/crates/$crate/$part" ] || cp -Rp "$top/crates/$crate/$part" "$scratch/crates/$crate"
         done
+        grep -E "^${crate}[ :]" "$top/crates.txt" >>"$scratch/crates.txt"
+    done
+}
+
+# crates_of CRATE..: the same with the libraries that are built of them. (What else earlier checks kept is gigabytes,
+# and rt finds it where it is.)
+crates_of() {
+    sources_of "$@"
+    for crate; do
         if [ -d "$top/crates/$crate/out/rlib" ]; then
             mkdir "$scratch/crates/$crate/out"
             cp -Rp "$top/crates/$crate/out/rlib" "$scratch/crates/$crate/out"
         fi
-        grep -E "^${crate}[ :]" "$top/crates.txt" >>"$scratch/crates.txt"
     done
 }
 

@@ -6,11 +6,12 @@ import select
 import signal
 import socket
 import subprocess
+import sys
 import tempfile
 import threading
 import time
 
-BOUND_WITHIN_S = 20
+BOUND_WITHIN_S = 60
 SEEN_WITHIN_S = 60
 ENDED_WITHIN_S = 30
 # Longer than MAX_TRANSMIT_WAIT, 93 s (RFC 7252, section 4.8.2): by then a client says itself that nobody answers.
@@ -20,8 +21,21 @@ LEAST_TRIES = 100
 SAID_AT_MOST = 1 << 24
 
 
+# The status of what is not tried, as automake's tests have it.
+STATUS_NOT_TRIED = 77
+
+
 class Failed(Exception):
     """Something is not as it should be."""
+
+
+class NotTried(Exception):
+    """What is needed is not there."""
+
+
+def tell_untried(why):
+    """Says what is left out, in the words that the gate looks for."""
+    print(f"  not tried: {why}", file=sys.stderr)
 
 
 def want(holds, what):

@@ -5,7 +5,7 @@
 #include "ks_udp6.h"
 #include <poll.h>
 
-#define WAIT_MS 2000
+#define WAIT_MS 60000
 #define ROOM 64
 
 static int udp;

@@ -71,13 +71,13 @@ int main(int argc, char **argv) {
     if (argc < 2) return fprintf(stderr, "sensor6 PORT [ADDRESS [PERIOD_MS]]\n"), 2;
     if (ks_version() != KS_VERSION) return fprintf(stderr, "the library is not the header's\n"), 2;
     uint64_t period = argc > 3 ? strtoull(argv[3], NULL, 10) : 5000, next = 0, due;
+    end_by_signal();
     if ((udp = ks_udp6_open(argc > 2 ? argv[2] : "::", (uint16_t)atoi(argv[1]))) < 0) return perror("sensor6"), 1;
     ks_config config = {.size = sizeof config, .base = ks_base(random_word())};
     ks_seed seed = random_seed();
     if (ks_server_new(&server, &config, &seed) != KS_OK || !tell_links(&server)) return 1;
     ks_places_init(&names, places, PEERS, DAY_MS, random_word(), random_word());
     begin_capture();
-    end_by_signal();
     while (!is_over) {
         if (now_ms() >= next) {
             measure(&server);

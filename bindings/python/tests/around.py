@@ -15,7 +15,7 @@ from knifesilver import Applied, Client, Config, Report, Server
 
 CLIENT_AT, SERVER_AT = ("127.0.0.1", 40001), ("127.0.0.1", 5683)
 PACKAGE = pathlib.Path(__file__).resolve().parent.parent
-LONGEST_WAIT_S = 20
+LONGEST_WAIT_S = 60
 
 
 class Pair:
@@ -127,4 +127,4 @@ class Program:
 
 def finished(*words: object, **more: Any) -> "subprocess.CompletedProcess[bytes]":
     """A program that ran to its end."""
-    return subprocess.run([str(it) for it in words], capture_output=True, timeout=LONGEST_WAIT_S * 3, **more)
+    return subprocess.run([str(it) for it in words], capture_output=True, timeout=LONGEST_WAIT_S, **more)

@@ -12,7 +12,7 @@ from knifesilver._header import header
 
 from .around import JumpingLoop, free_port
 
-PATIENCE_S = 20
+PATIENCE_S = 60
 
 
 class Loopback(unittest.IsolatedAsyncioTestCase):

@@ -116,10 +116,10 @@ int main(int argc, char **argv) {
     if (argc < 5 || !take_users(argc - 4, argv + 4))
         return fprintf(stderr, "secure_sensor PORT ADDRESS PERIOD_MS IDENTITY:KEY:RIGHTS..\n"), 2;
     if (ks_version() != KS_VERSION) return fprintf(stderr, "the library is not the header's\n"), 2;
+    end_by_signal();
     if (!begin_all(argv + 1)) return perror("secure_sensor"), 1;
     uint64_t period = strtoull(argv[3], NULL, 10), next = 0, due;
     begin_capture();
-    end_by_signal();
     while (!is_over) {
         if (now_ms() >= next) {
             measure(&server);

@@ -6,7 +6,7 @@ use std::net::{Ipv4Addr, SocketAddr, SocketAddrV4};
 use std::time::Duration;
 use tokio::time::timeout;
 
-const PATIENCE: Duration = Duration::from_secs(20);
+const PATIENCE: Duration = Duration::from_secs(60);
 
 async fn both() -> (Server, Client) {
     let server = Server::open(SocketAddrV4::new(Ipv4Addr::LOCALHOST, 0), &Config::default()).await.expect("a server");
