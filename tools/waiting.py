@@ -5,7 +5,7 @@ import socket
 import time
 
 TABLES = (pathlib.Path("/proc/net/udp"), pathlib.Path("/proc/net/udp6"))
-LONGEST = 20.0
+LONGEST = 60.0
 STEP = 0.05
 
 
@@ -23,7 +23,7 @@ def is_open(port):
 
 
 def await_socket(port):
-    """Waits until a socket has that UDP port, 20 s at most."""
+    """Waits until a socket has that UDP port, a minute at most."""
     end = time.monotonic() + LONGEST
     while not is_open(port) and time.monotonic() < end:
         time.sleep(STEP)

@@ -1,9 +1,9 @@
 #!/bin/sh
 # Waiting, for scripts that begin programs: . tools/waiting.sh
 
-# await COMMAND..: waits until the command succeeds, 20 s at most.
+# await COMMAND..: waits until the command succeeds, a minute at most.
 await() {
-    left=400
+    left=1200
     until "$@"; do
         left=$((left - 1))
         [ "$left" -gt 0 ] || return

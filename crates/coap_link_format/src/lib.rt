@@ -5,7 +5,5 @@
 
 mod links;
 mod places;
-#[cfg(test)]
-mod tests;
 
 pub use links::{Link, LinksRefusal, links_of};

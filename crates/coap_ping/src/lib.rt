@@ -5,7 +5,5 @@
 #![tactic(auto)]
 
 mod ping;
-#[cfg(test)]
-mod ping_tests;
 
 pub use ping::{PING_PAUSE_MS, Ping, ping_law};

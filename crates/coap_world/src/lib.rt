@@ -3,8 +3,6 @@
 
 mod laws;
 mod running;
-#[cfg(test)]
-mod tests;
 
 pub use coap_promise::{
     answers_law, any_time_law, applied_law, changes_law, clocks_law, clocks_witness_law,
